@@ -1,0 +1,5 @@
+-- The definitions that every layer shares.
+pub mod Range
+pub mod Refusals
+pub mod Sequence
+pub mod Settings

@@ -1,0 +1,19 @@
+-- 01, "Numbers of each operation": the number of each refusal.
+use Prim.Native.Nat.{ℕ}
+use Rattle.config.specs.declared.refusal.Refusal.{Refusal}
+use Rattle.config.specs.declared.refusal.Refusal.the-variants.{BadSignature, Overflow, TooLarge, InvalidValue, InvalidUmpData, Full, IdleInterval, IdleGrowth, CommandWords, Malformed, ReasonNotAllowed, SizeNotAllowed, InvalidState}
+
+abbrev pub numberOf : Refusal → ℕ
+numberOf BadSignature = 1
+numberOf Overflow = 2
+numberOf TooLarge = 3
+numberOf InvalidValue = 4
+numberOf InvalidUmpData = 5
+numberOf Full = 6
+numberOf IdleInterval = 7
+numberOf IdleGrowth = 8
+numberOf CommandWords = 9
+numberOf Malformed = 10
+numberOf ReasonNotAllowed = 11
+numberOf SizeNotAllowed = 12
+numberOf InvalidState = 13

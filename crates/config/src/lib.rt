@@ -1,0 +1,12 @@
+// What every layer of the data stream shares: sequence numbers, the reasons of a refusal, and the
+// settings.
+//
+//   sequence   16-bit numbers that go round: 65,535 is followed by 0
+//   refusal    one case for each reason, and the number that the papers give it
+//   settings   `StreamConfig`, its `DEFAULT` and its `check`
+//
+// Nothing here has a state. A call that is given settings tests them first, by `check`.
+pub mod range;
+pub mod refusal;
+pub mod sequence;
+pub mod settings;
