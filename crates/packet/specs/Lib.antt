@@ -1,0 +1,5 @@
+-- The definitions that the contracts of `packet` cite.
+pub mod Bytes
+pub mod Layout
+pub mod Write
+pub mod Read
