@@ -3,3 +3,5 @@ pub mod Splice
 pub mod Words
 pub mod Written
 pub mod Reading
+pub mod RoundTrip
+pub mod Outcomes

@@ -1,5 +1,5 @@
 -- 01, "From the packet up", 1: a payload is the signature and then commands.
-use Prim.Native.Nat.{ℕ, _+_, _*_}
+use Prim.Native.Nat.{ℕ, _+_, _*_, _≤_, _<_}
 use mathlib.Core.List.{List, [], _∷_, _++_}
 use lib.ListN.{length}
 use Rattle.packet.specs.Bytes.{bytesOf}
@@ -24,3 +24,27 @@ encoded c = c .code ∷ length (c .words) ∷ c .csd1 ∷ c .csd2 ∷ bytesOf (c
 -- how many bytes that is
 abbrev pub sizeOf : Packet → ℕ
 sizeOf c = 4 + 4 * length (c .words)
+
+-- commands one after the other
+unfoldable pub encodedAll : List Packet → List ℕ
+encodedAll [] = []
+encodedAll (c ∷ cs) = encoded c ++ encodedAll cs
+
+-- the whole payload of a list of commands: nothing, or the signature and then the commands
+unfoldable pub payloadOf : List Packet → List ℕ
+payloadOf [] = []
+payloadOf (c ∷ cs) = signature ++ encodedAll (c ∷ cs)
+
+-- the words are 32-bit ones
+unfoldable pub Words32 : List ℕ → Type 0
+Words32 [] = Unit {0}
+Words32 (w ∷ ws) = (w < 4294967296) × Words32 ws
+
+-- a command that a payload can hold: at most 255 words
+pub record Encodable (c : Packet) : Type 0 where
+  pub few : length (c .words) ≤ 255
+  pub words32 : Words32 (c .words)
+
+unfoldable pub AllEncodable : List Packet → Type 0
+AllEncodable [] = Unit {0}
+AllEncodable (c ∷ cs) = Encodable c × AllEncodable cs

@@ -73,3 +73,18 @@ itemsFrom (suc f) at (code ∷ n ∷ a ∷ b ∷ rest) =
 -- what reading a payload finds: nothing without the signature, else its items in order
 unfoldable pub itemsOf : List ℕ → List Item
 itemsOf b = cond (signed b) (itemsFrom (length b) 4 (drop 4 b)) []
+
+-- what a caller of the cursor collects, one step after the other
+abbrev pub follow : PacketItem → List ℕ → (ℕ → List Item) → List Item
+follow (Command h at next) b go = whole at (packet (h .code) (h .csd1) (h .csd2) (wordsOf (bodyOf b at h))) ∷ go (next .at)
+follow (Truncated h) b go = cut h ∷ []
+follow End b go = []
+
+unfoldable pub walked : ℕ → List ℕ → ℕ → List Item
+walked zero b at = []
+walked (suc f) b at = follow (nextOf b at) b (λ next. walked f b next)
+
+-- a list of commands as the items that stand from place `at` on
+unfoldable pub placed : ℕ → List Packet → List Item
+placed at [] = []
+placed at (c ∷ cs) = whole at c ∷ placed (at + sizeOf c) cs

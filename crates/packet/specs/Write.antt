@@ -1,8 +1,8 @@
 -- 01, "Numbers of each operation": Open a payload, Write one command; "State test", its part on payloads.
-use Prim.Native.Nat.{ℕ, _+_, _-_, _*_, _/_, _%_, min}
+use Prim.Native.Nat.{ℕ, _+_, _-_, _*_, _/_, _%_, _≤_, min}
 use mathlib.Core.Bool.{Bool, true, cond, not, _&&_, _||_}
 use mathlib.Core.List.{List, _++_}
-use lib.ListN.{length}
+use lib.ListN.{length, take}
 use lib.Dec.{leb, ltb, eqb}
 use Rattle.config.specs.Range.{within, outside}
 use Rattle.config.specs.declared.refusal.Refusal.{Refusal}
@@ -63,3 +63,12 @@ writtenOf p b c =
     (cond (ltb (limitOf p (length b)) (startOf p + sizeOf c)) (refusedOf p (noFit p), b)
     (cond (ltb 255 (length (c .words))) (refusedOf p InvalidValue, b)
     (doneOf p c, placedOf p b c)))
+
+-- the bytes that a payload holds
+abbrev pub bytesIn : PayloadWriter → List ℕ → List ℕ
+bytesIn p b = take (p .len) b
+
+-- what a write can come to: a refusal, which changes nothing, or the command written
+pub data Outcome (p : PayloadWriter) (b : List ℕ) (c : Packet) : Wrote × List ℕ → Type 0 where
+  refused : (r : Refusal) → Outcome p b c (refusedOf p r, b)
+  done : startOf p + sizeOf c ≤ limitOf p (length b) → length (c .words) ≤ 255 → Outcome p b c (doneOf p c, placedOf p b c)
