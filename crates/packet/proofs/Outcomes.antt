@@ -154,3 +154,14 @@ written-grows p b c cs h f e = elim (split (eqb (p .len) 0)) [
   | inl z ↦ grows-empty p b c cs z f e
   | inr z ↦ grows-after p b c cs z h f e
 ]
+
+-- a payload lies in its buffer
+pub valid-length : (p : PayloadWriter) (room : ℕ) → validOf p room ≡ true → p .len ≤ room
+unfolding validOf
+valid-length p room v = elim (split (eqb (p .len) 0)) [
+  | inl z ↦ omega (arith, tests)
+  | inr z ↦
+      let r : (within 8 (limitOf p room) (p .len) && eqb (p .len % 4) 0) ≡ true = rw z at (and-right (within 8 1400 (p .max)) _ v) in
+      let l = and-right (leb 8 (p .len)) _ (and-left (within 8 (limitOf p room) (p .len)) _ r) in
+      omega (arith, leb-true (p .len) (limitOf p room) l)
+]

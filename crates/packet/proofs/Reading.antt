@@ -1,15 +1,17 @@
 -- What stands at a place of a payload, from the bytes there.
 use mathlib.Core.Path.{_≡_, refl, sym, ap, _∙_}
 use mathlib.Core.Bool.{true, false, _&&_}
+use mathlib.Core.Logic.{_⊎_, inl, inr}
 use mathlib.Core.List.{List, [], _∷_, _++_}
 use Prim.Native.Nat.{ℕ, zero, suc, _+_, _-_, _*_, _/_, _≤_, _<_}
 use native.Mathlib.Numerals.{add-one, add-two, add-three, add-four}
 use native.Mathlib.Omega.{arith}
-use lib.Dec.{leb, eqb}
+use lib.Dec.{leb, ltb, eqb}
 use lib.ListN.{length, take, drop, getD, length-drop, drop-of-length-le}
 use lib.Seq.{drop-cons, drop-length, take-nil, take-all}
-use borrow.Author.Tests.{le-leb, lt-leb, lt-ltb, le-ltb, eq-eqb, ne-eqb}
+use borrow.Author.Tests.{le-leb, lt-leb, lt-ltb, le-ltb, eq-eqb, ne-eqb, ltb-true, ltb-false}
 use Rattle.config.specs.declared.refusal.Refusal.the-variants.{BadSignature}
+use Rattle.config.proofs.Tests.{split}
 use Rattle.packet.specs.Bytes.{wordOf, wordsOf}
 use Rattle.packet.specs.Read.{header, signed, openOf, itemOf, nextOf, bodyOf, wordAt}
 use Rattle.packet.specs.declared.reader.Header.{Header}
@@ -132,6 +134,21 @@ module _ (b : List ℕ) (i : ℕ) where
   pub word-absent : length b / 4 ≤ i → Absent ≡ wordAt b i
   unfolding wordAt
   word-absent h = rw (le-ltb i (length (wordsOf b)) (omega (arith, length-wordsOf b)))
+
+  -- and from what was found
+  pub word-found : (w : ℕ) → wordAt b i ≡ Word w → (i < length (wordsOf b)) × (w ≡ getD (wordsOf b) i 0)
+  unfolding wordAt
+  word-found w e = elim (split (ltb i (length (wordsOf b)))) [
+    | inl k ↦ (ltb-true _ _ k, let f : Word (getD (wordsOf b) i 0) ≡ Word w = rw k at e in cc)
+    | inr k ↦ absurd (let f : Absent ≡ Word w = rw k at e in let z : _≡_ {A = ℕ} 0 1 = cc in let y : ⊥ = omega arith in y)
+  ]
+
+  pub word-missed : wordAt b i ≡ Absent → length (wordsOf b) ≤ i
+  unfolding wordAt
+  word-missed e = elim (split (ltb i (length (wordsOf b)))) [
+    | inr k ↦ ltb-false _ _ k
+    | inl k ↦ absurd (let f : Word (getD (wordsOf b) i 0) ≡ Absent = rw k at e in let z : _≡_ {A = ℕ} 0 1 = cc in let y : ⊥ = omega arith in y)
+  ]
 
 -- ---- opening
 pub open-signed : (b : List ℕ) → signed b ≡ true → At record { at = 4 } ≡ openOf b

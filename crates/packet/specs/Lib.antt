@@ -3,3 +3,4 @@ pub mod Bytes
 pub mod Layout
 pub mod Write
 pub mod Read
+pub mod Theorems

@@ -103,7 +103,7 @@ fn refuse_fit(p: PayloadWriter) -> Wrote
 }
 
 // Writes one command, whose words are those of `first` and then those of `second`.
-pub fn command(
+pub fn command_runs(
     p: PayloadWriter,
     buf: &mut [u8],
     code: u8,
@@ -140,4 +140,19 @@ pub fn command(
         },
         answer: Write::Done,
     }
+}
+
+// Writes one command.
+pub fn command(
+    p: PayloadWriter,
+    buf: &mut [u8],
+    code: u8,
+    csd1: u8,
+    csd2: u8,
+    words: &[u32],
+) -> Wrote
+    requires { ⌜ validOf p (length (now buf)) ≡ true ⌝ }
+    ensures { λ r. ⌜ (r, now (buf .exit)) ≡ writtenOf p (now (buf .entry)) (packet code csd1 csd2 (now (words .entry))) ⌝ }
+{
+    command_runs(p, buf, code, csd1, csd2, words, &words[..0])
 }

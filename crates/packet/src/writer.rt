@@ -57,7 +57,7 @@ impl PayloadWriter {
         ensures { λ r. ⌜ (r, now (buf .exit)) ≡ writtenOf self (now (buf .entry)) (packet code csd1 csd2 (now (words .entry))) ⌝ }
     {
         if valid::is_valid(self, buf.len()) {
-            return valid::command(self, buf, code, csd1, csd2, words, &words[..0]);
+            return valid::command(self, buf, code, csd1, csd2, words);
         }
         Wrote {
             payload: self,

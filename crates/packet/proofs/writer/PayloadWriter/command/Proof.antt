@@ -1,9 +1,5 @@
--- The state test, and then the write over a tested state, with an empty second run.
-use mathlib.Core.Path.{ap, sym, _∙_}
-use mathlib.Core.List.{List, append-nil}
-use Prim.Native.Nat.{ℕ}
-use Rattle.packet.specs.Write.{writtenOf}
-use Rattle.packet.specs.Layout.{packet}
+-- The state test, and then the write over a tested state.
+use mathlib.Core.Path.{sym, _∙_}
 use Rattle.packet.proofs.Written.{written-invalid}
 use borrow.Author.Needs.{needs}
 use Rattle.packet.proofs.writer.PayloadWriter.command.Statement.{statement}
@@ -12,29 +8,18 @@ use Rattle.packet.proofs.writer.PayloadWriter.command.Tie as tie
 is-valid-requires : tie.Need-is-valid-requires
 is-valid-requires c κs = search needs
 
-slice-aggregate-command : tie.Need-slice-aggregate-command
-slice-aggregate-command c = search needs
-
 command-requires : tie.Need-command-requires
-command-requires c κs = sym (c .before .before .before .is-valid .ensures) ∙ c .before .before .if1 .taken
+command-requires c κs = sym (c .before .before .is-valid .ensures) ∙ c .before .if1 .taken
 
 same-length : tie.Need-same-length
 same-length c = search needs
 
 returns : tie.Need-returns
-returns c =
-    c .before .before .command .ensures ∙ rw (append-nil (c .before .before .before .before .before .before .before .before .before .args .words .now))
+returns c = search needs
 
 returns-2 : tie.Need-returns-2
 returns-2 c = written-invalid _ _ _ (sym (c .before .is-valid .ensures) ∙ c .if1 .left)
 
 pub command-spec : {M : Type 1} → statement M
 command-spec =
-    tie.close
-    (tie.spec
-    is-valid-requires
-    slice-aggregate-command
-    command-requires
-    same-length
-    returns
-    returns-2)
+    tie.close (tie.spec is-valid-requires command-requires same-length returns returns-2)

@@ -1,0 +1,67 @@
+-- From every message on, the words end inside a message if all of them do.
+use mathlib.Core.Path.{_≡_, refl, sym, _∙_}
+use Prim.Native.Nat.{_-_, _≤_}
+use native.Mathlib.Omega.{arith}
+use borrow.Author.Needs.{needs}
+use lib.ListN.{length, drop}
+use Rattle.command.specs.Messages.{messagesOf}
+use Rattle.command.proofs.Messages.{cut-turn, cut-here, whole-not, whole-end}
+use Rattle.command.proofs.message.whole_messages.Statement.{statement}
+use Rattle.command.proofs.message.whole_messages.Tie as tie
+
+abbrev Inv-loop : tie.InvT-loop
+Inv-loop words i₀ i = (i ≤ length words) × (messagesOf (drop i words) .cut ≡ messagesOf words .cut)
+
+abbrev μ-loop : tie.MeasureT-loop
+μ-loop words i₀ i = length words - i
+
+loop-holds : tie.Need-loop-holds Inv-loop μ-loop
+loop-holds c = (omega arith, refl)
+
+mul-message-words : tie.Need-mul-message-words Inv-loop μ-loop
+mul-message-words c = search needs
+
+shared-slice-read-message-words : tie.Need-shared-slice-read-message-words Inv-loop μ-loop
+shared-slice-read-message-words c = search needs
+
+message-words-requires : tie.Need-message-words-requires Inv-loop μ-loop
+message-words-requires c κs = search needs
+
+sub-if1 : tie.Need-sub-if1 Inv-loop μ-loop
+sub-if1 c = search needs
+
+returns : tie.Need-returns Inv-loop μ-loop
+returns c =
+    let turn = c .before .before .before in
+    whole-not _ (sym (turn .before .loop .inv .1) ∙ cut-here _ _ (turn .loop-test .taken) _ (c .before .message-words .ensures .0) (c .if1 .taken))
+
+add-i : tie.Need-add-i Inv-loop μ-loop
+add-i c = search needs
+
+loop-less : tie.Need-loop-less Inv-loop μ-loop
+loop-less c = search needs
+
+loop-again : tie.Need-loop-again Inv-loop μ-loop
+loop-again c =
+    let turn = c .before .before .before in
+    (omega arith, sym (cut-turn _ _ (turn .loop-test .taken) _ (c .before .message-words .ensures .0) (c .if1 .left)) ∙ turn .before .loop .inv .1)
+
+returns-2 : tie.Need-returns-2 Inv-loop μ-loop
+returns-2 c = whole-end _ _ (c .loop-test .left) (c .before .loop .inv .1)
+
+pub whole-messages-spec : {M : Type 1} → statement M
+whole-messages-spec =
+    tie.close
+    (tie.spec
+    Inv-loop
+    μ-loop
+    loop-holds
+    mul-message-words
+    shared-slice-read-message-words
+    message-words-requires
+    sub-if1
+    returns
+    add-i
+    loop-less
+    loop-again
+    returns-2)

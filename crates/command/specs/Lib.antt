@@ -1,0 +1,5 @@
+-- The definitions that the contracts of `command` cite.
+pub mod Messages
+pub mod Write
+pub mod Parse
+pub mod Calls
