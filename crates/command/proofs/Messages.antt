@@ -12,6 +12,7 @@ use lib.Seq.{drop-cons, drop-drop}
 use borrow.Author.Tests.{leb-true, eqb-true, le-leb, lt-leb}
 use Rattle.config.proofs.Tests.{split, tests, lifts, and-left, and-right, below, below-at}
 use Rattle.command.specs.Messages.{among, typeWords, messageWords, Messages, none, also, divided, messagesOf, wholeOf, messageItem, messageAt, follow, walked, MessagesWalk}
+use Rattle.command.specs.declared.message.UmpMessages.{UmpMessages}
 use Rattle.command.specs.declared.message.MessageItem.the-variants.{Message, Truncated, End}
 
 -- ---- message lengths
@@ -130,6 +131,28 @@ module _ (ws : List ℕ) (at : ℕ) where
         let long : messageWords (getD ws at 0) ≡ n = sym (q ∙ ap messageWords e) in
         let t : leb (messageWords (getD ws at 0)) (length (getD ws at 0 ∷ drop (suc at) ws)) ≡ true = omega (arith, lifts) in
         rw (head, t, long)
+
+item-advances : (at : ℕ) (ws : List ℕ) (first n : ℕ) (next : UmpMessages) → messageItem at ws ≡ Message first n next
+    → (at < next .at) × (next .at ≤ at + length ws)
+item-advances at [] first n next e = absurd (let z : _≡_ {A = ℕ} 0 1 = cc in let y : ⊥ = omega arith in y)
+item-advances at (w ∷ ws) first n next e = elim (split (leb (messageWords w) (length (w ∷ ws)))) [
+  | inl k ↦
+      let f : Message at (messageWords w) record { at = at + messageWords w } ≡ Message first n next = rw k at e in
+      let g : next ≡ record { at = at + messageWords w } = cc in
+      let fits = leb-true (messageWords w) (length (w ∷ ws)) k in
+      let some = typeWords-range (w / 0x10000000) in
+      rw g (omega arith, omega arith)
+  | inr k ↦ absurd (let f : Truncated ≡ Message first n next = rw k at e in let z : _≡_ {A = ℕ} 0 1 = cc in let y : ⊥ = omega arith in y)
+]
+
+-- a step of the walk goes on, and stays in the words
+pub message-advances : (ws : List ℕ) (at first n : ℕ) (next : UmpMessages) → at ≤ length ws → messageAt ws at ≡ Message first n next
+    → (at < next .at) × (next .at ≤ length ws)
+unfolding messageAt
+message-advances ws at first n next h e =
+    let a = item-advances at (drop at ws) first n next e in
+    let l = length-drop at ws in
+    (omega arith, omega arith)
 
 step : (f at : ℕ) (ws xs : List ℕ) → drop at ws ≡ xs → ((next : ℕ) → walked f ws next ≡ divided f (drop next ws))
     → follow (messageItem at xs) ws (λ next. walked f ws next) ≡ divided (suc f) xs

@@ -9,11 +9,12 @@ use native.Mathlib.Omega.{arith}
 use lib.Dec.{leb, ltb, eqb}
 use lib.ListN.{length, take, drop, getD, length-drop, drop-of-length-le}
 use lib.Seq.{drop-cons, drop-length, take-nil, take-all}
-use borrow.Author.Tests.{le-leb, lt-leb, lt-ltb, le-ltb, eq-eqb, ne-eqb, ltb-true, ltb-false}
+use borrow.Author.Tests.{le-leb, lt-leb, lt-ltb, le-ltb, eq-eqb, ne-eqb, ltb-true, ltb-false, leb-true}
 use Rattle.config.specs.declared.refusal.Refusal.the-variants.{BadSignature}
 use Rattle.config.proofs.Tests.{split}
 use Rattle.packet.specs.Bytes.{wordOf, wordsOf}
 use Rattle.packet.specs.Read.{header, signed, openOf, itemOf, nextOf, bodyOf, wordAt}
+use Rattle.packet.specs.declared.reader.Cursor.{Cursor}
 use Rattle.packet.specs.declared.reader.Header.{Header}
 use Rattle.packet.specs.declared.reader.Packets.the-variants.{At, Refused}
 use Rattle.packet.specs.declared.reader.Lookup.the-variants.{Word, Absent}
@@ -158,3 +159,27 @@ open-signed b e = rw e
 pub open-unsigned : (b : List ℕ) → signed b ≡ false → Refused BadSignature ≡ openOf b
 unfolding openOf
 open-unsigned b e = rw e
+
+-- ---- a step of the cursor goes on, and stays in the payload
+item-advances : (at : ℕ) (xs : List ℕ) (h : Header) (here : ℕ) (next : Cursor) → itemOf at xs ≡ Command h here next
+    → (at + 4 ≤ next .at) × (next .at ≤ at + length xs)
+item-advances at [] h here next e = absurd (let z : _≡_ {A = ℕ} 0 1 = cc in let y : ⊥ = omega arith in y)
+item-advances at (a ∷ []) h here next e = absurd (let z : _≡_ {A = ℕ} 0 1 = cc in let y : ⊥ = omega arith in y)
+item-advances at (a ∷ b ∷ []) h here next e = absurd (let z : _≡_ {A = ℕ} 0 1 = cc in let y : ⊥ = omega arith in y)
+item-advances at (a ∷ b ∷ c ∷ []) h here next e = absurd (let z : _≡_ {A = ℕ} 0 1 = cc in let y : ⊥ = omega arith in y)
+item-advances at (code ∷ n ∷ a ∷ b ∷ rest) h here next e = elim (split (leb (4 * n) (length rest))) [
+  | inl k ↦
+      let f : Command (header code n a b) at record { at = at + 4 + 4 * n } ≡ Command h here next = rw k at e in
+      let g : next ≡ record { at = at + 4 + 4 * n } = cc in
+      let fits = leb-true (4 * n) (length rest) k in
+      rw g (omega arith, omega arith)
+  | inr k ↦ absurd (let f : Truncated (header code n a b) ≡ Command h here next = rw k at e in let z : _≡_ {A = ℕ} 0 1 = cc in let y : ⊥ = omega arith in y)
+]
+
+pub next-advances : (b : List ℕ) (at : ℕ) (h : Header) (here : ℕ) (next : Cursor) → at ≤ length b → nextOf b at ≡ Command h here next
+    → (at < next .at) × (next .at ≤ length b)
+unfolding nextOf
+next-advances b at h here next k e =
+    let a = item-advances at (drop at b) h here next e in
+    let l = length-drop at b in
+    (omega arith, omega arith)

@@ -69,11 +69,12 @@ fn begin(p: PayloadWriter, buf: &mut [u8]) -> usize
     requires { ⌜ startOf p ≤ length (now buf) ⌝ }
     ensures { λ r. ⌜ (r ≡ startOf p) × (now (buf .exit) ≡ begunOf p (now (buf .entry))) ⌝ }
 {
-    if p.len == 0 {
+    let so_far = p.len;
+    if so_far == 0 {
         put_word(buf, 0, SIGNATURE);
         return 4;
     }
-    p.len
+    so_far
 }
 
 fn put_header(buf: &mut [u8], at: usize, code: u8, len: u8, csd1: u8, csd2: u8)

@@ -1,0 +1,2 @@
+-- 01, "Session cases", those marked P.
+pub mod Cases
