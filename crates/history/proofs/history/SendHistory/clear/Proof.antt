@@ -1,0 +1,19 @@
+-- The slice is zeroed and the state made anew.
+use borrow.Author.Needs.{needs}
+use Rattle.history.proofs.history.SendHistory.clear.Statement.{statement}
+use Rattle.history.proofs.history.SendHistory.clear.Tie as tie
+
+zero-requires : tie.Need-zero-requires
+zero-requires c κs = search needs
+
+new-requires : tie.Need-new-requires
+new-requires c κs = search needs
+
+same-length : tie.Need-same-length
+same-length c = search needs
+
+returns : tie.Need-returns
+returns c = rw (c .new .ensures, c .before .before .before .zero .ensures)
+
+pub clear-spec : {M : Type 1} → statement M
+clear-spec = tie.close (tie.spec zero-requires new-requires same-length returns)

@@ -1,0 +1,8 @@
+-- What the send history and the request ring hold, and what their operations do.
+pub mod Ring
+pub mod Headers
+pub mod State
+pub mod Push
+pub mod Entries
+pub mod Written
+pub mod Queue

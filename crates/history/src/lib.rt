@@ -1,0 +1,24 @@
+// What a sender keeps: the commands that it has queued, and the requests that wait for it.
+//
+//   SendHistory, over a lent slice of `size` words:
+//
+//        head                          last
+//         |<---------------- used ---------------->|
+//     ..  | h words | h words words | .. | h words |  free  ..      and round the end
+//           oldest    oldest + 1           newest
+//
+//     h is a header: the command's number in the upper half, its count of words in the lower.
+//
+//   RetransmitQueue, a record with 16 places of which `size` are used: requests, oldest first.
+//
+//   history   the state, its numbers, `clear`, and `state_ok`, the state test
+//   queue     the requests; `push`, and `state_ok`
+//   valid     what a sender calls once it has made those tests: `push`, `append_to_last`, `index_of`,
+//             `write_entry` and their like; `push_request`, `front`, `set_front`, `pop`
+//
+// A state that fails its test is refused as `InvalidState`. Nothing is shifted: the oldest leave by
+// moving the head, and words go in and out as at most two straight runs.
+pub mod history;
+pub mod queue;
+mod ring;
+pub mod valid;

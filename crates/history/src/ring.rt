@@ -1,0 +1,61 @@
+// Places and straight runs of a ring of words in a slice.
+ghost use mathlib.Core.Path.{_≡_};
+ghost use Prim.Native.Nat.{_+_, _-_, _≤_, _<_};
+ghost use lib.ListN.{length, drop, replicate};
+ghost use Rattle.history.specs.Ring.{slotOf, runOf, ringStored};
+
+// The place `n` after `i` in a ring of `c`.
+pub fn slot(c: usize, i: usize, n: usize) -> usize
+    requires { ⌜ (i < c) × (n ≤ c) × (c ≤ 32768) ⌝ }
+    ensures { λ r. ⌜ (r ≡ slotOf c i n) × (r < c) ⌝ }
+{
+    let j = i + n;
+    if j < c { j } else { j - c }
+}
+
+// How many of `n` words from place `at` on lie before the end.
+pub fn run_end(c: usize, at: usize, n: usize) -> usize
+    requires { ⌜ at ≤ c ⌝ }
+    ensures { λ r. ⌜ r ≡ runOf c at n ⌝ }
+{
+    let room = c - at;
+    if n <= room { n } else { room }
+}
+
+// Stores `n` words, from the word `from` on, at place `at` and after it, up to the end at most.
+fn put_run(buf: &mut [u32], at: usize, words: &[u32], from: usize, n: usize)
+    requires { ⌜ (from + n ≤ length (now words)) × (at + n ≤ length (now buf)) × (at < length (now buf)) ⌝ }
+    ensures { λ _. ⌜ (length (now (buf .exit)) ≡ length (now (buf .entry)))
+        × (ringStored (now (buf .exit)) (slotOf (length (now (buf .entry))) at n) (drop (from + n) (now (words .entry))) ≡ ringStored (now (buf .entry)) at (drop from (now (words .entry)))) ⌝ }
+{
+    let mut k = 0;
+    while k < n {
+        buf[at + k] = words[from + k];
+        k += 1;
+    }
+}
+
+// Stores the words from place `at` on, round the end.
+pub fn put(buf: &mut [u32], at: usize, words: &[u32])
+    requires { ⌜ (at < length (now buf)) × (length (now words) ≤ length (now buf)) ⌝ }
+    ensures { λ _. ⌜ now (buf .exit) ≡ ringStored (now (buf .entry)) at (now (words .entry)) ⌝ }
+{
+    let n = words.len();
+    let room = run_end(buf.len(), at, n);
+    put_run(buf, at, words, 0, room);
+    if room < n {
+        put_run(buf, 0, words, room, n - room);
+        return;
+    }
+}
+
+// Zeroes every word.
+pub fn zero(buf: &mut [u32])
+    ensures { λ _. ⌜ now (buf .exit) ≡ replicate (length (now (buf .entry))) 0 ⌝ }
+{
+    let mut k = 0;
+    while k < buf.len() {
+        buf[k] = 0;
+        k += 1;
+    }
+}

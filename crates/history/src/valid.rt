@@ -1,0 +1,249 @@
+// What a sender calls once its state has passed the state test.
+ghost use mathlib.Core.Path.{_≡_};
+ghost use Prim.Native.Nat.{_+_, _-_, _≤_, _<_};
+ghost use lib.ListN.{length};
+ghost use Rattle.history.specs.State.{Good};
+ghost use Rattle.history.specs.Headers.{numberAt, lengthAt, nextAt, headerAt, wordsFrom};
+ghost use Rattle.history.specs.Push.{popOne, Freed, pushed, appended};
+ghost use Rattle.history.specs.Queue.{Fit, waiting, asks, oldestOf, pushAnswer, setFrontOf, popOf};
+ghost use mathlib.Core.Bool.{true};
+ghost use Rattle.packet.specs.Write.{validOf, writtenOf};
+ghost use Rattle.history.specs.Written.{entryPacket};
+use super::history::SendHistory;
+use super::queue::Ignored;
+use super::queue::Oldest;
+use super::queue::Popped;
+use super::queue::Push;
+use super::queue::Pushed;
+use super::queue::RetransmitQueue;
+use super::ring;
+use command::retransmit::RetransmitRequest;
+use config::sequence;
+use config::sequence::SeqNum;
+use packet::writer::PayloadWriter;
+use packet::writer::Wrote;
+
+// The count of words of the entry whose header stands at `at`.
+pub fn pl(buf: &[u32], at: usize) -> usize
+    requires { ⌜ at < length (now buf) ⌝ }
+    ensures { λ r. ⌜ r ≡ lengthAt (now (buf .entry)) at ⌝ }
+{
+    (buf[at] % 256) as usize
+}
+
+// The number of the entry whose header stands at `at`.
+pub fn seq(buf: &[u32], at: usize) -> SeqNum
+    requires { ⌜ at < length (now buf) ⌝ }
+    ensures { λ r. ⌜ r ≡ numberAt (now (buf .entry)) at ⌝ }
+{
+    (buf[at] / 0x1_0000) as u16
+}
+
+// The place of the header after the one at `at`.
+pub fn next_index(buf: &[u32], at: usize) -> usize
+    requires { ⌜ (at < length (now buf)) × (65 ≤ length (now buf)) × (length (now buf) ≤ 32768) × (lengthAt (now buf) at ≤ 64) ⌝ }
+    ensures { λ r. ⌜ (r ≡ nextAt (now (buf .entry)) at) × (r < length (now (buf .entry))) ⌝ }
+{
+    ring::slot(buf.len(), at, 1 + pl(buf, at))
+}
+
+// The place of the header of entry `k`, 0 the oldest; of the end of all entries where `k` is their count.
+pub fn index_of(h: SendHistory, buf: &[u32], k: usize) -> usize
+    requires { ⌜ Good h (now buf) × (k ≤ h .count) ⌝ }
+    ensures { λ r. ⌜ (r ≡ headerAt k (now (buf .entry)) (h .head)) × (r < length (now (buf .entry))) ⌝ }
+{
+    let mut at = h.head;
+    let mut left = k;
+    while 0 < left {
+        at = next_index(buf, at);
+        left -= 1;
+    }
+    at
+}
+
+// The oldest entry leaves.
+fn pop_oldest(h: SendHistory, buf: &[u32]) -> SendHistory
+    requires { ⌜ Good h (now buf) × (0 < h .count) ⌝ }
+    ensures { λ r. ⌜ r ≡ popOne (now (buf .entry)) h ⌝ }
+{
+    let n = 1 + pl(buf, h.head);
+    SendHistory {
+        size: h.size,
+        head: ring::slot(h.size, h.head, n),
+        used: h.used - n,
+        count: h.count - 1,
+        oldest: sequence::add(h.oldest, 1),
+        last: h.last,
+    }
+}
+
+// Oldest entries leave while fewer than `need` words are free and more than `stay` entries are held.
+fn make_room(h: SendHistory, buf: &[u32], need: usize, stay: usize) -> SendHistory
+    requires { ⌜ Good h (now buf) × (stay ≤ h .count) × (need + wordsFrom stay (now buf) (headerAt (h .count - stay) (now buf) (h .head)) ≤ h .size) ⌝ }
+    ensures { λ r. ⌜ Freed (h .count - stay) need h (now (buf .entry)) r ⌝ }
+{
+    let mut g = h;
+    while stay < g.count {
+        if need <= g.size - g.used {
+            return g;
+        }
+        g = pop_oldest(g, buf);
+    }
+    g
+}
+
+// Adds one entry behind the newest, after as many of the oldest have left as its header and words
+// need.
+pub fn push(h: SendHistory, buf: &mut [u32], words: &[u32]) -> SendHistory
+    requires { ⌜ Good h (now buf) × (length (now words) ≤ 64) ⌝ }
+    ensures { λ r. ⌜ (r, now (buf .exit)) ≡ pushed h (now (buf .entry)) (now (words .entry)) ⌝ }
+{
+    let need = 1 + words.len();
+    let g = make_room(h, &buf[..], need, 0);
+    let at = ring::slot(g.size, g.head, g.used);
+    let number = g.next_seq();
+    buf[at] = (number as u32) * 0x1_0000 + (words.len() as u32);
+    let next = ring::slot(g.size, at, 1);
+    ring::put(buf, next, words);
+    SendHistory {
+        size: g.size,
+        head: g.head,
+        used: g.used + need,
+        count: g.count + 1,
+        oldest: g.oldest,
+        last: at,
+    }
+}
+
+// Words join the newest entry, after as many of the oldest have left as they need.
+pub fn append_to_last(h: SendHistory, buf: &mut [u32], words: &[u32]) -> SendHistory
+    requires { ⌜ Good h (now buf) × (0 < h .count) × (lengthAt (now buf) (h .last) + length (now words) ≤ 64) ⌝ }
+    ensures { λ r. ⌜ (r, now (buf .exit)) ≡ appended h (now (buf .entry)) (now (words .entry)) ⌝ }
+{
+    let n = words.len();
+    let last = h.last;
+    let header = buf[last];
+    let g = make_room(h, &buf[..], n, 1);
+    let end = ring::slot(g.size, g.head, g.used);
+    ring::put(buf, end, words);
+    buf[last] = header + (n as u32);
+    SendHistory {
+        size: g.size,
+        head: g.head,
+        used: g.used + n,
+        count: g.count,
+        oldest: g.oldest,
+        last: g.last,
+    }
+}
+
+// Writes the entry whose header stands at `at` as a data command with its own number. Its words go
+// from the lent history into the payload, in two runs where they pass the end.
+pub fn write_entry(p: PayloadWriter, buf: &mut [u8], history: &[u32], at: usize) -> Wrote
+    requires { ⌜ (validOf p (length (now buf)) ≡ true) × (at < length (now history)) × (65 ≤ length (now history)) × (length (now history) ≤ 32768) × (lengthAt (now history) at ≤ 64) ⌝ }
+    ensures { λ r. ⌜ (r, now (buf .exit)) ≡ writtenOf p (now (buf .entry)) (entryPacket (now (history .entry)) at) ⌝ }
+{
+    let n = pl(history, at);
+    let number = seq(history, at);
+    let start = ring::slot(history.len(), at, 1);
+    let run = ring::run_end(history.len(), start, n);
+    let end = start + run;
+    let rest = n - run;
+    packet::valid::command_runs(
+        p,
+        buf,
+        0xFF,
+        (number / 256) as u8,
+        (number % 256) as u8,
+        &history[start..end],
+        &history[..rest],
+    )
+}
+
+// Whether a request for `seq` waits.
+fn pending(q: RetransmitQueue, seq: SeqNum) -> bool
+    requires { ⌜ Fit q ⌝ }
+    ensures { λ r. ⌜ r ≡ asks (waiting q) seq ⌝ }
+{
+    let mut i = 0;
+    while i < q.len {
+        let at = ring::slot(q.size, q.head, i);
+        let r = q.items[at];
+        if r.seq == seq {
+            return true;
+        }
+        i += 1;
+    }
+    false
+}
+
+// Adds a request behind the newest, unless one with its number waits or no place is free.
+pub fn push_request(q: RetransmitQueue, req: RetransmitRequest) -> Pushed
+    requires { ⌜ Fit q ⌝ }
+    ensures { λ r. ⌜ r ≡ pushAnswer q req ⌝ }
+{
+    if pending(q, req.seq) {
+        return Pushed {
+            queue: q,
+            answer: Push::Ignored(Ignored::Pending),
+        };
+    }
+    if q.size <= q.len {
+        return Pushed {
+            queue: q,
+            answer: Push::Ignored(Ignored::Full),
+        };
+    }
+    let at = ring::slot(q.size, q.head, q.len);
+    let mut next = q;
+    next.items[at] = req;
+    next.len = q.len + 1;
+    Pushed {
+        queue: next,
+        answer: Push::Queued,
+    }
+}
+
+// The oldest request.
+pub fn front(q: RetransmitQueue) -> Oldest
+    requires { ⌜ Fit q ⌝ }
+    ensures { λ r. ⌜ r ≡ oldestOf (waiting q) ⌝ }
+{
+    if q.len == 0 {
+        return Oldest::Nothing;
+    }
+    let head = q.head;
+    Oldest::Request(q.items[head])
+}
+
+// Puts a request in the oldest one's place; changes nothing where none waits.
+pub fn set_front(q: RetransmitQueue, req: RetransmitRequest) -> RetransmitQueue
+    requires { ⌜ Fit q ⌝ }
+    ensures { λ r. ⌜ r ≡ setFrontOf q req ⌝ }
+{
+    if q.len == 0 {
+        return q;
+    }
+    let oldest = q.head;
+    let mut next = q;
+    next.items[oldest] = req;
+    next
+}
+
+// Removes the oldest request.
+pub fn pop(q: RetransmitQueue) -> Popped
+    requires { ⌜ Fit q ⌝ }
+    ensures { λ r. ⌜ r ≡ popOf q ⌝ }
+{
+    let oldest = front(q);
+    if q.len == 0 {
+        return Popped { queue: q, oldest };
+    }
+    let mut next = q;
+    next.head = ring::slot(q.size, q.head, 1);
+    next.len = q.len - 1;
+    Popped {
+        queue: next,
+        oldest,
+    }
+}

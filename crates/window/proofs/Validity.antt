@@ -1,0 +1,33 @@
+-- The state test.
+use mathlib.Core.Path.{_≡_, refl}
+use mathlib.Core.Bool.{Bool, true, false, not, _&&_}
+use Prim.Native.Nat.{_*_, _/_, _^_}
+use lib.Dec.{eqb, ltb}
+use borrow.Author.Tests.{ltb-true}
+use Rattle.config.specs.Range.{within, outside}
+use Rattle.config.proofs.Tests.{and-left, and-right}
+use Rattle.window.specs.Set.{maxWindow, val}
+use Rattle.window.specs.Window.{Valid, validOf}
+use Rattle.window.specs.declared.window.ReceiveWindow.{ReceiveWindow}
+use Rattle.window.proofs.Ranges.{outside-not, within-range}
+use Rattle.window.proofs.Operations.{none-from}
+
+pub valid-size : (w : ReceiveWindow) → outside 1 maxWindow (w .size) ≡ true → false ≡ validOf w
+unfolding validOf
+valid-size w e = go (within 1 maxWindow (w .size)) e
+  where
+    go : (t : Bool) → not t ≡ true → false ≡ (t && ltb (val (w .bits)) (2 ^ w .size))
+    go true e = cc
+    go false e = refl
+
+pub valid-bits : (w : ReceiveWindow) → outside 1 maxWindow (w .size) ≡ false → eqb (val (w .bits) / 2 ^ w .size * 2 ^ w .size) 0 ≡ validOf w
+unfolding validOf
+valid-bits w e = rw (outside-not 1 maxWindow (w .size) e) (none-from (val (w .bits)) (w .size))
+
+pub valid-of : (w : ReceiveWindow) → validOf w ≡ true → Valid w
+unfolding validOf
+valid-of w e =
+    let s : Bool = within 1 maxWindow (w .size) in
+    let b : Bool = ltb (val (w .bits)) (2 ^ w .size) in
+    let r = within-range 1 maxWindow (w .size) (and-left s b e) in
+    record { some = r .0; most = r .1; inside = ltb-true _ _ (and-right s b e) }

@@ -1,0 +1,19 @@
+// The receive window of a data stream: which sequence numbers were processed, and which are lost.
+//
+//        oldest                       newest   highest
+//     .. | size | .. |  3  |  2  |  1  |          0          positions, as how far behind
+//     all before     each processed or missing    processed
+//     processed
+//
+//   window   the state `ReceiveWindow`, and every operation on it: `new`, `starting_at`, `reset`, `classify`,
+//            `accept`, `is_processed`, `missing`, `request`, `mark_all`, `mark_range`
+//   valid    the same over a state that was tested, for the layers above
+//   span     from positions to numbers
+//   set      the processed positions, as two 64-bit words
+//
+// Starting refuses 12, a size that is not 1 to 128. Each other operation refuses 13, a state that no call has left:
+// its size is not one that starting takes, or a position outside the size is set. A refused call changes nothing.
+pub mod set;
+pub mod span;
+pub mod valid;
+pub mod window;

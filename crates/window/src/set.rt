@@ -1,0 +1,178 @@
+// A set of positions, as two words. Contracts speak of its number, `val`: digit k of it is position k.
+// The functions down to `bottom` know the words; the others go through these.
+//
+//     high                       low
+//     | 127 | .. | 65 | 64 |     | 63 | .. | 1 | 0 |
+ghost use mathlib.Core.Path.{_≡_};
+ghost use Prim.Native.Nat.{_-_, _*_, _/_, _%_, _^_, _≤_, _<_};
+ghost use lib.Bits.{bitAnd, bitOr};
+ghost use lib.Dec.{eqb};
+ghost use Rattle.window.specs.Set.{maxWindow, val, setOf, has, topOf, bottomOf};
+
+// How many positions a set has room for: the largest window.
+pub const MAX_WINDOW: u32 = 128;
+// The positions of one word.
+const WORD: u32 = 64;
+
+pub struct Bits {
+    // Positions 0 to 63.
+    pub low: u64,
+    // Positions 64 to 127.
+    pub high: u64,
+}
+
+// Position 0 alone.
+fn one() -> Bits
+    ensures { λ r. ⌜ r ≡ setOf 1 ⌝ }
+{
+    Bits { low: 1, high: 0 }
+}
+
+// All positions.
+fn full() -> Bits
+    ensures { λ r. ⌜ r ≡ setOf (2 ^ maxWindow - 1) ⌝ }
+{
+    Bits {
+        low: u64::MAX,
+        high: u64::MAX,
+    }
+}
+
+// No position.
+pub fn none() -> Bits
+    ensures { λ r. ⌜ r ≡ setOf 0 ⌝ }
+{
+    Bits { low: 0, high: 0 }
+}
+
+// The positions of both.
+pub fn both(a: Bits, b: Bits) -> Bits
+    ensures { λ r. ⌜ r ≡ setOf (bitAnd (val a) (val b)) ⌝ }
+{
+    Bits {
+        low: a.low & b.low,
+        high: a.high & b.high,
+    }
+}
+
+// The positions of either.
+pub fn either(a: Bits, b: Bits) -> Bits
+    ensures { λ r. ⌜ r ≡ setOf (bitOr (val a) (val b)) ⌝ }
+{
+    Bits {
+        low: a.low | b.low,
+        high: a.high | b.high,
+    }
+}
+
+// The other positions.
+pub fn flipped(a: Bits) -> Bits
+    ensures { λ r. ⌜ r ≡ setOf ((2 ^ maxWindow - 1) - val a) ⌝ }
+{
+    Bits {
+        low: !a.low,
+        high: !a.high,
+    }
+}
+
+pub fn empty(s: Bits) -> bool
+    ensures { λ r. ⌜ r ≡ eqb (val s) 0 ⌝ }
+{
+    if s.low != 0 {
+        return false;
+    }
+    s.high == 0
+}
+
+// Each position up by a word; those above the last leave.
+fn word_up(s: Bits) -> Bits
+    ensures { λ r. ⌜ r ≡ setOf ((val s * 2 ^ 64) % 2 ^ maxWindow) ⌝ }
+{
+    Bits {
+        low: 0,
+        high: s.low,
+    }
+}
+
+// Each position up by n, less than a word; those above the last leave.
+fn bits_up(s: Bits, n: u32) -> Bits
+    requires { ⌜ (1 ≤ n) × (n < 64) ⌝ }
+    ensures { λ r. ⌜ r ≡ setOf ((val s * 2 ^ n) % 2 ^ maxWindow) ⌝ }
+{
+    Bits {
+        low: s.low << n,
+        high: (s.high << n) | (s.low >> (WORD - n)),
+    }
+}
+
+// The highest position of a set that has one.
+pub fn top(s: Bits) -> u32
+    requires { ⌜ 0 < val s ⌝ }
+    ensures { λ r. ⌜ (r ≡ topOf (val s)) × (r < maxWindow) ⌝ }
+{
+    if s.high != 0 {
+        return 2 * WORD - 1 - u64::leading_zeros(s.high);
+    }
+    WORD - 1 - u64::leading_zeros(s.low)
+}
+
+// The lowest position of a set that has one.
+pub fn bottom(s: Bits) -> u32
+    requires { ⌜ 0 < val s ⌝ }
+    ensures { λ r. ⌜ r ≡ bottomOf (val s) ⌝ }
+{
+    if s.low != 0 {
+        return u64::trailing_zeros(s.low);
+    }
+    WORD + u64::trailing_zeros(s.high)
+}
+
+// Each position up by n, whatever n is; those above the last leave.
+pub fn shifted(s: Bits, n: u32) -> Bits
+    ensures { λ r. ⌜ r ≡ setOf ((val s * 2 ^ n) % 2 ^ maxWindow) ⌝ }
+{
+    if MAX_WINDOW <= n {
+        return none();
+    }
+    let mut r = s;
+    let mut left = n;
+    while WORD <= left {
+        r = word_up(r);
+        left -= WORD;
+    }
+    if left == 0 {
+        return r;
+    }
+    bits_up(r, left)
+}
+
+// The n lowest positions.
+pub fn low_ones(n: u32) -> Bits
+    requires { ⌜ n ≤ maxWindow ⌝ }
+    ensures { λ r. ⌜ r ≡ setOf (2 ^ n - 1) ⌝ }
+{
+    flipped(shifted(full(), n))
+}
+
+// The positions of the set at n and above.
+pub fn from(s: Bits, n: u32) -> Bits
+    requires { ⌜ n ≤ maxWindow ⌝ }
+    ensures { λ r. ⌜ r ≡ setOf (val s / 2 ^ n * 2 ^ n) ⌝ }
+{
+    both(s, flipped(low_ones(n)))
+}
+
+pub fn holds(s: Bits, k: u32) -> bool
+    requires { ⌜ k < maxWindow ⌝ }
+    ensures { λ r. ⌜ r ≡ has (val s) k ⌝ }
+{
+    !empty(both(s, shifted(one(), k)))
+}
+
+// The set with position k.
+pub fn with(s: Bits, k: u32) -> Bits
+    requires { ⌜ k < maxWindow ⌝ }
+    ensures { λ r. ⌜ r ≡ setOf (bitOr (val s) (2 ^ k)) ⌝ }
+{
+    either(s, shifted(one(), k))
+}

@@ -1,0 +1,290 @@
+// The operations over a state that was tested: `is_valid` is the test, and the others require what it says.
+// A layer above tests once for each of its calls.
+ghost use mathlib.Core.Path.{_≡_};
+ghost use mathlib.Core.Bool.{cond};
+ghost use Prim.Native.Nat.{_+_, _-_, _^_, _≤_, _<_};
+ghost use Rattle.config.specs.Range.{within};
+ghost use Rattle.window.specs.Set.{maxWindow, val, setOf};
+ghost use Rattle.window.specs.Window.{Valid, validOf, freshOf, processed, isProcessed, missingOf, spanOf, missingSpan, requestOf};
+ghost use Rattle.window.specs.Arrival.{reach, lostOf, movedOf, classOf, newOf, unchanged, lateAt, acceptOf};
+ghost use Rattle.window.specs.Marking.{hitAt, hitsOf, markOf};
+use super::set;
+use super::set::Bits;
+use super::span::number_at;
+use super::span::range_to;
+use super::span::span_of;
+use super::window::Class;
+use super::window::Marked;
+use super::window::ReceiveWindow;
+use super::window::SeqRange;
+use super::window::Span;
+use super::window::Taken;
+use config::range;
+use config::sequence;
+use config::sequence::SeqNum;
+
+// The farthest ahead of the highest that a number is read as New.
+const REACH: u16 = 0x7FFF;
+
+// The state test: the size is one that starting takes, and no position outside it is set.
+pub fn is_valid(w: ReceiveWindow) -> bool
+    ensures { λ r. ⌜ r ≡ validOf w ⌝ }
+{
+    let size = w.size;
+    let bits = w.bits;
+    if range::outside(1, set::MAX_WINDOW as usize, size as usize) {
+        return false;
+    }
+    set::empty(set::from(bits, size))
+}
+
+// All before the highest processed.
+pub fn starting_at(size: u32, highest: SeqNum) -> ReceiveWindow
+    requires { ⌜ (1 ≤ size) × (size ≤ maxWindow) ⌝ }
+    ensures { λ r. ⌜ r ≡ freshOf size highest ⌝ }
+{
+    let bits = set::low_ones(size);
+    ReceiveWindow {
+        size,
+        highest,
+        bits,
+    }
+}
+
+// The positions that were not processed.
+fn missing_set(w: ReceiveWindow) -> Bits
+    requires { ⌜ Valid w ⌝ }
+    ensures { λ r. ⌜ r ≡ setOf (missingOf w) ⌝ }
+{
+    let bits = w.bits;
+    let size = w.size;
+    set::both(set::flipped(bits), set::low_ones(size))
+}
+
+// From the oldest to the newest missing number.
+pub fn missing(w: ReceiveWindow) -> Span
+    requires { ⌜ Valid w ⌝ }
+    ensures { λ r. ⌜ r ≡ missingSpan w ⌝ }
+{
+    let h = w.highest;
+    span_of(h, missing_set(w))
+}
+
+// From the oldest missing number to just before the highest.
+pub fn request(w: ReceiveWindow) -> Span
+    requires { ⌜ Valid w ⌝ }
+    ensures { λ r. ⌜ r ≡ requestOf w ⌝ }
+{
+    let h = w.highest;
+    let m = missing_set(w);
+    if set::empty(m) {
+        return Span::Nothing;
+    }
+    Span::Of(range_to(h, set::top(m), 0))
+}
+
+// Whether a number this far ahead of the highest is read as New.
+fn is_new(d: u16) -> bool
+    ensures { λ r. ⌜ r ≡ within 1 reach d ⌝ }
+{
+    if d == 0 {
+        return false;
+    }
+    d <= REACH
+}
+
+// Whether the position `back` behind the highest is processed: the highest is, and so is all beyond the window.
+fn processed_at(w: ReceiveWindow, back: u32) -> bool
+    requires { ⌜ Valid w ⌝ }
+    ensures { λ r. ⌜ r ≡ processed w back ⌝ }
+{
+    let size = w.size;
+    let bits = w.bits;
+    if back == 0 {
+        return true;
+    }
+    let k = back - 1;
+    if size <= k {
+        return true;
+    }
+    set::holds(bits, k)
+}
+
+// Whether the number is the highest, or one of the window's numbers that was processed.
+pub fn is_processed(w: ReceiveWindow, seq: SeqNum) -> bool
+    requires { ⌜ Valid w ⌝ }
+    ensures { λ r. ⌜ r ≡ isProcessed w seq ⌝ }
+{
+    let h = w.highest;
+    let size = w.size;
+    let back = sequence::distance(seq, h) as u32;
+    if size < back {
+        return false;
+    }
+    processed_at(w, back)
+}
+
+// What a number is to the window, which stays as it is.
+pub fn classify(w: ReceiveWindow, seq: SeqNum) -> Class
+    requires { ⌜ Valid w ⌝ }
+    ensures { λ r. ⌜ r ≡ classOf w seq ⌝ }
+{
+    let h = w.highest;
+    let d = sequence::distance(h, seq);
+    if is_new(d) {
+        return Class::New(d - 1);
+    }
+    if processed_at(w, sequence::distance(seq, h) as u32) {
+        return Class::Duplicate;
+    }
+    Class::Late
+}
+
+// What leaves a window with the missing positions m when the number h, d ahead, arrives: skipped numbers leave
+// from distance size + 2 on.
+fn lost(h: SeqNum, size: u32, m: Bits, d: u32) -> Span
+    requires { ⌜ (1 ≤ size) × (size ≤ maxWindow) × (1 ≤ d) × (d ≤ reach) × (val m < 2 ^ size) ⌝ }
+    ensures { λ r. ⌜ r ≡ spanOf h size (lostOf size (val m) d) ⌝ }
+{
+    if size + 2 <= d {
+        if set::empty(m) {
+            return Span::Of(range_to(h, d - 2, size));
+        }
+        return Span::Of(range_to(h, set::top(m) + d, size));
+    }
+    let stay = if d < size { size - d } else { 0 };
+    let old = set::from(m, stay);
+    if set::empty(old) {
+        return Span::Nothing;
+    }
+    Span::Of(range_to(h, set::top(old) + d, set::bottom(old) + d))
+}
+
+// The processed positions after a number d ahead arrived.
+fn moved(s: Bits, size: u32, d: u32) -> Bits
+    requires { ⌜ (1 ≤ size) × (size ≤ maxWindow) × (1 ≤ d) × (d ≤ reach) ⌝ }
+    ensures { λ r. ⌜ r ≡ setOf (movedOf size (val s) d) ⌝ }
+{
+    set::both(
+        set::shifted(set::with(set::shifted(s, 1), 0), d - 1),
+        set::low_ones(size),
+    )
+}
+
+// A number d ahead arrives.
+fn accept_new(w: ReceiveWindow, seq: SeqNum, d: u16) -> Taken
+    requires { ⌜ Valid w × (1 ≤ d) × (d ≤ reach) ⌝ }
+    ensures { λ r. ⌜ r ≡ newOf w seq d ⌝ }
+{
+    let size = w.size;
+    let bits = w.bits;
+    let gone = lost(seq, size, missing_set(w), d as u32);
+    let next = moved(bits, size, d as u32);
+    Taken {
+        window: ReceiveWindow {
+            size,
+            highest: seq,
+            bits: next,
+        },
+        class: Class::New(d - 1),
+        lost: gone,
+    }
+}
+
+// A number `back` behind the highest arrives.
+fn accept_behind(w: ReceiveWindow, back: u32) -> Taken
+    requires { ⌜ Valid w ⌝ }
+    ensures { λ r. ⌜ r ≡ cond (processed w back) (unchanged w) (lateAt w (back - 1)) ⌝ }
+{
+    if processed_at(w, back) {
+        return Taken {
+            window: w,
+            class: Class::Duplicate,
+            lost: Span::Nothing,
+        };
+    }
+    let size = w.size;
+    let highest = w.highest;
+    let bits = w.bits;
+    let late = set::with(bits, back - 1);
+    Taken {
+        window: ReceiveWindow {
+            size,
+            highest,
+            bits: late,
+        },
+        class: Class::Late,
+        lost: Span::Nothing,
+    }
+}
+
+// A number arrives: what it is, and what leaves the window unprocessed.
+pub fn accept(w: ReceiveWindow, seq: SeqNum) -> Taken
+    requires { ⌜ Valid w ⌝ }
+    ensures { λ r. ⌜ r ≡ acceptOf w seq ⌝ }
+{
+    let h = w.highest;
+    let d = sequence::distance(h, seq);
+    if is_new(d) {
+        return accept_new(w, seq, d);
+    }
+    accept_behind(w, sequence::distance(seq, h) as u32)
+}
+
+// All numbers of the window are processed now.
+pub fn mark_all(w: ReceiveWindow) -> ReceiveWindow
+    requires { ⌜ Valid w ⌝ }
+    ensures { λ r. ⌜ r ≡ freshOf (w .size) (w .highest) ⌝ }
+{
+    let h = w.highest;
+    let size = w.size;
+    starting_at(size, h)
+}
+
+// `found`, all below k, with position k where m has it and its number is in the range.
+fn hit(found: Bits, m: Bits, h: SeqNum, range: SeqRange, k: u32) -> Bits
+    requires { ⌜ (k < maxWindow) × (val found < 2 ^ k) ⌝ }
+    ensures { λ r. ⌜ r ≡ setOf (val found + hitAt range h (val m) k) ⌝ }
+{
+    if set::holds(m, k) {
+        if range.contains(number_at(h, k)) {
+            return set::with(found, k);
+        }
+    }
+    found
+}
+
+// The positions of m below `size` whose numbers are in the range.
+fn hits(m: Bits, size: u32, h: SeqNum, range: SeqRange) -> Bits
+    requires { ⌜ size ≤ maxWindow ⌝ }
+    ensures { λ r. ⌜ r ≡ setOf (hitsOf range h (val m) size) ⌝ }
+{
+    let mut found = set::none();
+    let mut k = 0;
+    while k < size {
+        found = hit(found, m, h, range, k);
+        k += 1;
+    }
+    found
+}
+
+// The missing numbers that are in the range are processed now; the answer spans them.
+pub fn mark_range(w: ReceiveWindow, range: SeqRange) -> Marked
+    requires { ⌜ Valid w ⌝ }
+    ensures { λ r. ⌜ r ≡ markOf w range ⌝ }
+{
+    let h = w.highest;
+    let size = w.size;
+    let bits = w.bits;
+    let m = missing_set(w);
+    let found = hits(m, size, h, range);
+    let marked = set::either(bits, found);
+    Marked {
+        window: ReceiveWindow {
+            size,
+            highest: h,
+            bits: marked,
+        },
+        span: span_of(h, found),
+    }
+}

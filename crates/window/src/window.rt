@@ -1,0 +1,292 @@
+// The window and its operations. Each takes the window by value and hands it back with its answer.
+ghost use mathlib.Core.Path.{_≡_};
+ghost use Rattle.window.specs.Marking.{inRange};
+ghost use Rattle.window.specs.Answers.{startAnswer, newAnswer, resetAnswer, classAnswer, acceptAnswer, processedAnswer, missingAnswer, requestAnswer, markAllAnswer, markAnswer};
+use super::set;
+use super::set::Bits;
+use super::valid;
+use config::range;
+use config::refusal::Refusal;
+use config::sequence;
+use config::sequence::SeqNum;
+
+// The highest number of a fresh window, position -1: 0 is the next.
+const FRESH: SeqNum = 0xFFFF;
+
+//     size behind                  1 behind   highest
+//     | bit size - 1 | .. | bit 1 | bit 0 |      processed
+//
+// A bit is set where the number was processed. Whatever is further behind counts as processed.
+pub struct ReceiveWindow {
+    // How many numbers behind the highest are kept, 1 to 128.
+    pub size: u32,
+    // The highest number that was processed.
+    pub highest: SeqNum,
+    // Bit k: the number k + 1 behind the highest was processed. No bit at `size` or above is set.
+    pub bits: Bits,
+}
+
+// `count` numbers from `first` on, going up and round.
+pub struct SeqRange {
+    // The oldest number.
+    pub first: SeqNum,
+    // How many numbers there are.
+    pub count: u16,
+}
+
+// From the oldest to the newest of some numbers, if there is one.
+pub enum Span {
+    Nothing,
+    Of(SeqRange),
+}
+
+pub enum Class {
+    // Ahead of the highest, with this many numbers skipped in between.
+    New(u16),
+    // In the window, and not processed before.
+    Late,
+    // Processed before, or too far behind to tell.
+    Duplicate,
+}
+
+// What `valid::accept` leaves and answers.
+pub struct Taken {
+    pub window: ReceiveWindow,
+    pub class: Class,
+    // From the oldest to the newest number that left the window unprocessed.
+    pub lost: Span,
+}
+
+// What `valid::mark_range` leaves and answers.
+pub struct Marked {
+    pub window: ReceiveWindow,
+    // From the oldest to the newest number that it marked.
+    pub span: Span,
+}
+
+pub enum Started {
+    Window(ReceiveWindow),
+    Refused(Refusal),
+}
+
+// The answer of `reset` and `mark_all`.
+pub enum Change {
+    Done,
+    Refused(Refusal),
+}
+
+pub struct Changed {
+    pub window: ReceiveWindow,
+    pub answer: Change,
+}
+
+// The answer of `classify`.
+pub enum Classification {
+    Found(Class),
+    Refused(Refusal),
+}
+
+pub struct Classified {
+    pub window: ReceiveWindow,
+    pub answer: Classification,
+}
+
+// The answer of `accept`.
+pub enum Acceptance {
+    Heard { class: Class, lost: Span },
+    Refused(Refusal),
+}
+
+pub struct Accepted {
+    pub window: ReceiveWindow,
+    pub answer: Acceptance,
+}
+
+// The answer of `is_processed`.
+pub enum Knowledge {
+    Processed(bool),
+    Refused(Refusal),
+}
+
+pub struct Known {
+    pub window: ReceiveWindow,
+    pub answer: Knowledge,
+}
+
+// The answer of `missing`, `request` and `mark_range`.
+pub enum Extent {
+    Numbers(Span),
+    Refused(Refusal),
+}
+
+pub struct Extended {
+    pub window: ReceiveWindow,
+    pub answer: Extent,
+}
+
+impl SeqRange {
+    // Whether `seq` is one of the numbers.
+    pub fn contains(self, seq: SeqNum) -> bool
+        ensures { λ r. ⌜ r ≡ inRange self seq ⌝ }
+    {
+        let first = self.first;
+        let count = self.count;
+        sequence::distance(first, seq) < count
+    }
+}
+
+impl ReceiveWindow {
+    // The highest position is -1, and all before it are processed.
+    pub fn new(size: u32) -> Started
+        ensures { λ r. ⌜ r ≡ newAnswer size ⌝ }
+    {
+        ReceiveWindow::starting_at(size, FRESH)
+    }
+
+    // The highest and all before it processed.
+    pub fn starting_at(size: u32, highest: SeqNum) -> Started
+        ensures { λ r. ⌜ r ≡ startAnswer size highest ⌝ }
+    {
+        if range::outside(1, set::MAX_WINDOW as usize, size as usize) {
+            return Started::Refused(Refusal::SizeNotAllowed);
+        }
+        Started::Window(valid::starting_at(size, highest))
+    }
+
+    // Back to the fresh window of the same size.
+    pub fn reset(self) -> Changed
+        ensures { λ r. ⌜ r ≡ resetAnswer self ⌝ }
+    {
+        if valid::is_valid(self) {
+            let size = self.size;
+            let fresh = valid::starting_at(size, FRESH);
+            return Changed {
+                window: fresh,
+                answer: Change::Done,
+            };
+        }
+        Changed {
+            window: self,
+            answer: Change::Refused(Refusal::InvalidState),
+        }
+    }
+
+    // What a number is to the window, which stays as it is.
+    pub fn classify(self, seq: SeqNum) -> Classified
+        ensures { λ r. ⌜ r ≡ classAnswer self seq ⌝ }
+    {
+        if valid::is_valid(self) {
+            return Classified {
+                window: self,
+                answer: Classification::Found(valid::classify(self, seq)),
+            };
+        }
+        Classified {
+            window: self,
+            answer: Classification::Refused(Refusal::InvalidState),
+        }
+    }
+
+    // A number arrives: it is processed now, unless it is a Duplicate.
+    pub fn accept(self, seq: SeqNum) -> Accepted
+        ensures { λ r. ⌜ r ≡ acceptAnswer self seq ⌝ }
+    {
+        if valid::is_valid(self) {
+            let taken = valid::accept(self, seq);
+            let window = taken.window;
+            let class = taken.class;
+            let lost = taken.lost;
+            return Accepted {
+                window,
+                answer: Acceptance::Heard { class, lost },
+            };
+        }
+        Accepted {
+            window: self,
+            answer: Acceptance::Refused(Refusal::InvalidState),
+        }
+    }
+
+    // Whether the number is the highest, or one of the window's numbers that was processed.
+    pub fn is_processed(self, seq: SeqNum) -> Known
+        ensures { λ r. ⌜ r ≡ processedAnswer self seq ⌝ }
+    {
+        if valid::is_valid(self) {
+            return Known {
+                window: self,
+                answer: Knowledge::Processed(valid::is_processed(self, seq)),
+            };
+        }
+        Known {
+            window: self,
+            answer: Knowledge::Refused(Refusal::InvalidState),
+        }
+    }
+
+    // From the oldest to the newest missing number.
+    pub fn missing(self) -> Extended
+        ensures { λ r. ⌜ r ≡ missingAnswer self ⌝ }
+    {
+        if valid::is_valid(self) {
+            return Extended {
+                window: self,
+                answer: Extent::Numbers(valid::missing(self)),
+            };
+        }
+        Extended {
+            window: self,
+            answer: Extent::Refused(Refusal::InvalidState),
+        }
+    }
+
+    // What a Retransmit Request asks for: from the oldest missing number to just before the highest.
+    pub fn request(self) -> Extended
+        ensures { λ r. ⌜ r ≡ requestAnswer self ⌝ }
+    {
+        if valid::is_valid(self) {
+            return Extended {
+                window: self,
+                answer: Extent::Numbers(valid::request(self)),
+            };
+        }
+        Extended {
+            window: self,
+            answer: Extent::Refused(Refusal::InvalidState),
+        }
+    }
+
+    // All numbers of the window are processed now.
+    pub fn mark_all(self) -> Changed
+        ensures { λ r. ⌜ r ≡ markAllAnswer self ⌝ }
+    {
+        if valid::is_valid(self) {
+            return Changed {
+                window: valid::mark_all(self),
+                answer: Change::Done,
+            };
+        }
+        Changed {
+            window: self,
+            answer: Change::Refused(Refusal::InvalidState),
+        }
+    }
+
+    // The missing numbers that are in the range are processed now; the answer spans them.
+    pub fn mark_range(self, range: SeqRange) -> Extended
+        ensures { λ r. ⌜ r ≡ markAnswer self range ⌝ }
+    {
+        if valid::is_valid(self) {
+            let marked = valid::mark_range(self, range);
+            let window = marked.window;
+            let span = marked.span;
+            return Extended {
+                window,
+                answer: Extent::Numbers(span),
+            };
+        }
+        Extended {
+            window: self,
+            answer: Extent::Refused(Refusal::InvalidState),
+        }
+    }
+}
