@@ -1,16 +1,96 @@
 -- 01, "Session cases": those marked P, as one table of theorems about the definitions.
-use mathlib.Core.Path.{_≡_, refl}
-use mathlib.Core.List.{List, [], _∷_}
-use Prim.Native.Nat.{ℕ}
-use lib.ListN.{replicate}
+use Prim.Native.Nat.{ℕ, _+_}
+use Rattle.command.specs.Write.{requestPacket}
 use Rattle.config.specs.declared.refusal.Refusal.the-variants.{TooLarge}
 use Rattle.packet.specs.Bytes.{bytesOf, spliced}
-use Rattle.packet.specs.Write.{validOf, refusedOf, writtenOf}
+use Rattle.packet.specs.Write.{validOf as payloadValid, refusedOf, writtenOf}
 use Rattle.packet.specs.declared.writer.PayloadWriter.{PayloadWriter}
-use Rattle.packet.specs.declared.writer.Wrote.{Wrote}
 use Rattle.packet.specs.declared.writer.Write.the-variants.{Done}
-use Rattle.command.specs.Write.{requestPacket}
+use Rattle.packet.specs.declared.writer.Wrote.{Wrote}
+use Rattle.window.proofs.Losses.{far-pos, far-bottom, far-skipped}
+use Rattle.window.proofs.Spans.{span-some}
+use Rattle.window.specs.Answers.{newAnswer, startAnswer, acceptAnswer, missingAnswer, requestAnswer, extended}
+use Rattle.window.specs.Arrival.{classOf, movedOf, lostOf, newOf, acceptOf}
+use Rattle.window.specs.Set.{val, setOf, topIn, topOf, bottomOf}
+use Rattle.window.specs.Window.{validOf, fresh, processed, missingOf, spanOf, requestOf}
+use Rattle.window.specs.declared.window.Acceptance.the-variants.{Heard}
+use Rattle.window.specs.declared.window.Class.the-variants.{New, Late, Duplicate}
+use Rattle.window.specs.declared.window.Extent.the-variants.{Numbers}
+use Rattle.window.specs.declared.window.ReceiveWindow.{ReceiveWindow}
+use Rattle.window.specs.declared.window.SeqRange.{SeqRange}
+use Rattle.window.specs.declared.window.Span.{Span}
+use Rattle.window.specs.declared.window.Span.the-variants.{Nothing, Of}
+use Rattle.window.specs.declared.window.Started.the-variants.{Window}
+use lib.Count.{trailingZeros}
+use lib.ListN.{replicate}
+use mathlib.Core.List.{List, [], _∷_}
+use mathlib.Core.Path.{_≡_, refl, sym, ap}
 
+-- ---- the receive window: P1 to P8
+-- the window after a number has arrived
+abbrev next : ReceiveWindow → ℕ → ReceiveWindow
+next w seq = acceptAnswer w seq .window
+
+-- first and count
+abbrev range : ℕ → ℕ → Span
+range first count = Of record { first = first; count = count }
+
+-- fresh is what starting answers
+start : newAnswer 64 ≡ Window (fresh 64)
+unfolding startAnswer
+start = refl
+
+-- P1. W 64, fresh, 0: New, gap 0, no loss.
+pub P1 : acceptAnswer (fresh 64) 0 .answer ≡ Heard (New 0) Nothing
+unfolding acceptAnswer validOf acceptOf classOf newOf spanOf lostOf missingOf movedOf val setOf topOf topIn bottomOf trailingZeros
+P1 = refl
+
+-- P2. 0 again: Duplicate.
+pub P2 : acceptAnswer (next (fresh 64) 0) 0 .answer ≡ Heard Duplicate Nothing
+unfolding acceptAnswer validOf acceptOf classOf processed newOf spanOf lostOf missingOf movedOf val setOf topOf topIn bottomOf trailingZeros
+P2 = refl
+
+-- P3. W 4, fresh, 5: gap 5, loss first 0 count 1.
+pub P3 : acceptAnswer (fresh 4) 5 .answer ≡ Heard (New 5) (range 0 1)
+unfolding acceptAnswer validOf acceptOf classOf newOf spanOf lostOf missingOf movedOf val setOf topOf topIn bottomOf trailingZeros
+P3 = refl
+
+-- P4. W 4, fresh, 4: gap 4, no loss; request 0 count 4.
+pub P4 : (acceptAnswer (fresh 4) 4 .answer ≡ Heard (New 4) Nothing) × (requestAnswer (next (fresh 4) 4) .answer ≡ Numbers (range 0 4))
+unfolding acceptAnswer validOf acceptOf classOf newOf spanOf lostOf missingOf movedOf val setOf topOf topIn bottomOf trailingZeros extended requestOf
+P4 = (refl, refl)
+
+-- P5. After P4, 2: Late; missing first 0 count 4.
+pub P5 : (acceptAnswer (next (fresh 4) 4) 2 .answer ≡ Heard Late Nothing) × (missingAnswer (next (next (fresh 4) 4) 2) .answer ≡ Numbers (range 0 4))
+unfolding acceptAnswer validOf acceptOf classOf processed newOf spanOf lostOf missingOf movedOf val setOf topOf topIn bottomOf trailingZeros extended
+P5 = (refl, refl)
+
+-- P6. Then 6: gap 1, loss first 0 count 2.
+pub P6 : acceptAnswer (next (next (fresh 4) 4) 2) 6 .answer ≡ Heard (New 1) (range 0 2)
+unfolding acceptAnswer validOf acceptOf classOf processed newOf spanOf lostOf missingOf movedOf val setOf topOf topIn bottomOf trailingZeros
+P6 = refl
+
+-- the lost set has 32,702 positions: its ends come from laws and are not computed
+lost-far : spanOf 32766 64 (lostOf 64 0 32767) ≡ range 0 32702
+lost-far =
+    sym (span-some 32766 64 (lostOf 64 0 32767) 32765 64 all (far-pos 64 0 32767 32701 refl)
+    (ap (λ (x : ℕ). 64 + x) (sym (far-skipped 64 0 32767 32701 refl refl)))
+    (ap (λ (x : ℕ). 64 + x) (sym (far-bottom 64 0 32767 32701 refl))) (refl, refl))
+  where
+    all : SeqRange
+    all = record { first = 0; count = 32702 }
+
+-- P7. W 64, fresh, 0x7FFE: gap 32,766, loss first 0 count 32,702.
+pub P7 : acceptAnswer (fresh 64) 32766 .answer ≡ Heard (New 32766) (range 0 32702)
+unfolding acceptAnswer validOf acceptOf classOf newOf missingOf val setOf
+P7 = ap (Heard (New 32766)) lost-far
+
+-- P8. Fresh, 0x7FFF: Duplicate.
+pub P8 : acceptAnswer (fresh 64) 32767 .answer ≡ Heard Duplicate Nothing
+unfolding acceptAnswer validOf acceptOf classOf processed val setOf
+P8 = refl
+
+-- ---- payloads: P9
 abbrev empty : ℕ → PayloadWriter
 empty max = record { len = 0; max = max }
 
@@ -20,10 +100,10 @@ pub P9 : writtenOf (empty 12) (replicate 16 0xAA) (requestPacket record { seq = 
       record { payload = record { len = 12; max = 12 }; answer = Done },
       0x4D ∷ 0x49 ∷ 0x44 ∷ 0x49 ∷ 0x80 ∷ 0x01 ∷ 0x01 ∷ 0x02 ∷ 0x00 ∷ 0x03 ∷ 0x00 ∷ 0x00 ∷ 0xAA ∷ 0xAA ∷ 0xAA ∷ 0xAA ∷ [],
     )
-unfolding writtenOf validOf spliced bytesOf
+unfolding writtenOf payloadValid spliced bytesOf
 P9 = refl
 
 pub P9-short : writtenOf (empty 11) (replicate 16 0xAA) (requestPacket record { seq = 0x0102; count = 3 })
     ≡ (refusedOf (empty 11) TooLarge, replicate 16 0xAA)
-unfolding writtenOf validOf spliced bytesOf
+unfolding writtenOf payloadValid spliced bytesOf
 P9-short = refl

@@ -3,8 +3,8 @@ mod Words
 mod Ends
 mod Operations
 -- What the code has at hand, and what it comes to.
-mod Spans
-mod Losses
+pub mod Spans
+pub mod Losses
 mod Moves
 mod Hits
 mod Arrivals
@@ -20,5 +20,5 @@ pub mod Classes
 pub mod AfterNew
 pub mod AfterMark
 pub mod Accepts
+
 -- Session case P7.
-pub mod Far

@@ -4,4 +4,3 @@ pub mod Window
 pub mod Arrival
 pub mod Marking
 pub mod Answers
-pub mod Cases
