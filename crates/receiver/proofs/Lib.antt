@@ -1,0 +1,10 @@
+-- Laws that this crate's proofs and those of the crates above cite.
+mod Times
+mod Missing
+mod Settled
+mod Polled
+mod Losses
+mod Taken
+mod Answers
+pub mod Validity
+pub mod Handed

@@ -1,0 +1,23 @@
+-- The state is tested, and the rest is `valid::on_retransmit_nak`.
+use mathlib.Core.Path.{sym, _∙_}
+use Rattle.receiver.proofs.Answers.{nak-refused, nak-told}
+use borrow.Author.Needs.{needs}
+use Rattle.receiver.proofs.receiver.Receiver.on_retransmit_nak.Statement.{statement}
+use Rattle.receiver.proofs.receiver.Receiver.on_retransmit_nak.Tie as tie
+
+is-valid-requires : tie.Need-is-valid-requires
+is-valid-requires c κs = search needs
+
+on-retransmit-nak-requires : tie.Need-on-retransmit-nak-requires
+on-retransmit-nak-requires c κs = sym (c .before .is-valid .ensures) ∙ c .if1 .taken
+
+returns : tie.Need-returns
+returns c =
+    c .on-retransmit-nak .ensures ∙ nak-told _ (sym (c .before .before .is-valid .ensures) ∙ c .before .if1 .taken)
+
+returns-2 : tie.Need-returns-2
+returns-2 c = nak-refused _ (sym (c .before .is-valid .ensures) ∙ c .if1 .left)
+
+pub on-retransmit-nak-spec : {M : Type 1} → statement M
+on-retransmit-nak-spec =
+    tie.close (tie.spec is-valid-requires on-retransmit-nak-requires returns returns-2)
