@@ -22,10 +22,10 @@ use Rattle.packet.specs.declared.writer.Write.the-variants.{Done, Refused}
 use Rattle.packet.specs.declared.writer.Wrote.{Wrote}
 use Rattle.packet.proofs.RoundTrip.{items-payload, allEncodable-append}
 use Rattle.packet.proofs.Written.{valid-empty}
-use Rattle.packet.proofs.Outcomes.{outcome, written-valid, written-length, written-grows, valid-length}
+use Rattle.packet.proofs.Outcomes.{outcome, written-valid, written-length, written-after, written-before, written-grows, valid-length}
 use Rattle.command.specs.Messages.{wholeOf}
 use Rattle.command.specs.Write.{dataPacket, requestPacket, errorPacket, isDefined, errorWritten, dataWritten}
-use Rattle.command.specs.Calls.{Call, raw, umpData, request, error, callOf, commandOf, Typed, AllTyped, Run, accepts, run, RoundTrip, RoundTrips}
+use Rattle.command.specs.Calls.{Call, raw, umpData, request, error, callOf, commandOf, Typed, AllTyped, Run, accepts, run, RoundTrip, RoundTrips, Untouched}
 use Rattle.command.specs.declared.retransmit.RetransmitError.{RetransmitError}
 
 -- ---- each call comes to a refusal or to its command written
@@ -111,3 +111,12 @@ round-trips max p b calls e t =
     let g = run-good calls p b [] t (opened-good max p b e) in
     let back = ap itemsOf (g .holds) ∙ items-payload (run calls p b [] .accepted) (g .encodable) in
     record { read-back = back; counted = ap length back ∙ length-placed (run calls p b [] .accepted) 4 }
+
+-- ---- the rest of the buffer
+pub untouched : Untouched
+untouched =
+    record {
+      after = λ c p b. written-after p b (commandOf c) _ (call-outcome c p b);
+      before = λ c p b. written-before p b (commandOf c) _ (call-outcome c p b);
+      same-length = λ c p b. written-length p b (commandOf c) _ (call-outcome c p b);
+    }

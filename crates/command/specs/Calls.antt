@@ -3,7 +3,7 @@ use mathlib.Core.Path.{_≡_}
 use mathlib.Core.Bool.{Bool, true, false, cond}
 use mathlib.Core.List.{List, [], _∷_, _++_}
 use Prim.Native.Nat.{ℕ, _≤_, _<_}
-use lib.ListN.{length}
+use lib.ListN.{length, drop}
 use Rattle.packet.specs.Layout.{Packet, packet, Words32}
 use Rattle.packet.specs.Read.{itemsOf, placed}
 use Rattle.packet.specs.Write.{openedOf, writtenOf, bytesIn}
@@ -73,3 +73,11 @@ abbrev pub RoundTrips : Type 0
 RoundTrips =
     (max : ℕ) (p : PayloadWriter) (b : List ℕ) (calls : List Call)
     → openedOf max ≡ Payload p → AllTyped calls → RoundTrip (run calls p b [])
+
+-- No call, refused or not, touches a byte at or past the new length, nor one below the old length.
+-- (An empty payload's old length is 0: its signature is written with the first command.)
+pub record Untouched : Type 0 where
+  pub after : (c : Call) (p : PayloadWriter) (b : List ℕ)
+      → drop (callOf c p b .0 .payload .len) (callOf c p b .1) ≡ drop (callOf c p b .0 .payload .len) b
+  pub before : (c : Call) (p : PayloadWriter) (b : List ℕ) → bytesIn p (callOf c p b .1) ≡ bytesIn p b
+  pub same-length : (c : Call) (p : PayloadWriter) (b : List ℕ) → length (callOf c p b .1) ≡ length b
