@@ -30,10 +30,8 @@ same-length c = search needs
 
 returns : tie.Need-returns
 returns c =
-    let tested = c .before .before .before .before in
-    let passed = tested .before .before .before .before in
     c .before .before .write-request .ensures
-    ∙ take-taken _ _ _ _ (sym (passed .before .before .check .ensures) ∙ passed .enum-told .given .1) (sym (tested .before .before .before .is-valid .ensures) ∙ tested .before .before .if1 .taken) (sym (tested .before .is-valid2 .ensures) ∙ tested .if2 .taken)
+    ∙ take-taken _ _ _ _ (sym (c .before .before .before .before .before .before .before .before .before .before .check .ensures) ∙ c .before .before .before .before .before .before .before .before .enum-told .given .1) (sym (c .before .before .before .before .before .before .before .is-valid .ensures) ∙ c .before .before .before .before .before .before .if1 .taken) (sym (c .before .before .before .before .before .is-valid2 .ensures) ∙ c .before .before .before .before .if2 .taken)
 
 returns-2 : tie.Need-returns-2
 returns-2 c = take-settings _ _ _ _ _ (sym (c .before .before .before .check .ensures) ∙ c .before .why .given .1)
