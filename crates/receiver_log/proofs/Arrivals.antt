@@ -110,14 +110,14 @@ module _ (w : ReceiveWindow) (t : List Report) (d : ℕ) (i : Held w t) (some : 
       let s : shifted w d b ≡ settled t (high t + d - b) = shifted-same b l ∙ rw u in
       unprocessed-is t (high t + d - b) ∙ ap not (sym s)
 
-  pub lost-near : (b : ℕ) → 1 ≤ b → unprocessed t (high t + d - b) ≡ true → (b ≤ w .size + d) × (b ≤ high t) × (b < turn)
-  lost-near b p e = elim (split (ltb (high t + d) b)) [
+  pub lost-near : (b : ℕ) → 1 ≤ b → unprocessed t (high t + d - b) ≡ true → (origin + b ≤ high t + d) × (b ≤ w .size + d) × (b < turn)
+  lost-near b p e = elim (split (ltb (high t + d) (origin + b))) [
     | inl k ↦ let z : high t + d - b < origin = omega (arith, tests) in absurd (never e (before-0 t (high t + d - b) z))
     | inr k ↦ elim (split (ltb (w .size + d) b)) [
       | inl m ↦
           let f : unprocessed t (high t + d - b) ≡ false = open-shifted b p (omega (arith, tests)) ∙ ap not (shifted-far b (omega (arith, tests))) in
           absurd (never e f)
-      | inr m ↦ (omega (arith, tests), omega (arith, tests, i .low, i .valid .most), omega (arith, tests, i .valid .most))
+      | inr m ↦ (omega (arith, tests), omega (arith, tests), omega (arith, tests, i .valid .most))
     ]
   ]
 
@@ -134,27 +134,28 @@ module _ (w : ReceiveWindow) (t : List Report) (d : ℕ) (i : Held w t) (some : 
       all true = refl
       all false = refl
 
-  lost-inside : (b : ℕ) → w .size + 1 ≤ b → unprocessed t (high t + d - b) ≡ true → (b < w .size + 1 + (high t + d)) × (b ≤ high t + d) × (b < turn)
-  lost-inside b p e = let j = lost-near b (omega arith) e in (omega (arith, j .1), omega (arith, j .1), j .2)
+  lost-inside : (b : ℕ) → w .size + 1 ≤ b → unprocessed t (high t + d - b) ≡ true
+      → (b < w .size + 1 + (high t + d - origin - w .size)) × (b ≤ high t + d) × (b < turn)
+  lost-inside b p e = let j = lost-near b (omega arith) e in (omega (arith, j .0), omega (arith, j .0), j .2)
 
   lost-between : (a x b : ℕ) → w .size + 1 ≤ a → a ≤ x → x ≤ b → unprocessed t (high t + d - a) ≡ true → unprocessed t (high t + d - b) ≡ true → shifted w d x ≡ false
       → unprocessed t (high t + d - x) ≡ true
-  lost-between a x b p q r ea eb ex = let j = lost-near b (omega arith) eb in open-shifted x (omega arith) (omega (arith, j .1)) ∙ ap not ex
+  lost-between a x b p q r ea eb ex = let j = lost-near b (omega arith) eb in open-shifted x (omega arith) (omega (arith, j .0)) ∙ ap not ex
 
   module _ (seq gap : ℕ) (ws : List ℕ) (hi : max (high t) (place (high t) seq) ≡ high t + d) (pl : place (high t) seq ≡ high t + d) (nm : (high t + d) % turn ≡ seq) where
     abbrev left : Span
-    left = spanFrom (high t + d) (endsOf (λ b. unprocessed t (high t + d - b)) (w .size + 1) (high t + d))
+    left = spanFrom (high t + d) (endsOf (λ b. unprocessed t (high t + d - b)) (w .size + 1) (high t + d - origin - w .size))
 
     left-marks : (b : ℕ) → b ≤ high t + d
         → (shifted w d b || (leb (w .size + 1) b && unprocessed t (high t + d - b)))
         ≡ (inLoss (high t + d) left (high t + d - b) || (eqb (high t + d - b) (high t + d) || settled t (high t + d - b)))
     left-marks =
-        loss-marks (high t + d) (w .size + 1) (high t + d) (λ b. unprocessed t (high t + d - b)) (shifted w d) (λ x. eqb x (high t + d) || settled t x)
+        loss-marks (high t + d) (w .size + 1) (high t + d - origin - w .size) (λ b. unprocessed t (high t + d - b)) (shifted w d) (λ x. eqb x (high t + d) || settled t x)
         shifted-same lost-inside lost-between
 
     left-below : (z : ℕ) → high t + d < z → inLoss (high t + d) left z ≡ false
     left-below =
-        loss-below (high t + d) (w .size + 1) (high t + d) (λ b. unprocessed t (high t + d - b)) (shifted w d) (λ x. eqb x (high t + d) || settled t x)
+        loss-below (high t + d) (w .size + 1) (high t + d - origin - w .size) (λ b. unprocessed t (high t + d - b)) (shifted w d) (λ x. eqb x (high t + d) || settled t x)
         shifted-same lost-inside lost-between
 
     pub held-new : Held (newOf w seq d .window) (heard seq ws (New gap) (lostAt (w .size) t (high t + d)) ∷ t)

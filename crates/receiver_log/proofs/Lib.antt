@@ -17,3 +17,4 @@ mod Refusing
 mod Taking
 pub mod Missing
 pub mod Runs
+mod Cases

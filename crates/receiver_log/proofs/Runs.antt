@@ -5,12 +5,14 @@ use mathlib.Core.Bool.{Bool, true, false, not}
 use mathlib.Core.List.{List, [], _∷_}
 use Rattle.window.specs.Set.{maxWindow}
 use Rattle.window.specs.Window.{missingSpan}
-use Rattle.receiver.specs.Receiver.{freshOf}
+use Rattle.receiver.specs.Receiver.{validOf, freshOf}
+use Rattle.receiver.specs.Answers.{dataAnswer, pollAnswer, errorAnswer, nakAnswer, takeAnswer}
 use Rattle.receiver.specs.declared.receiver.Receiver.{Receiver}
 use Rattle.receiver_log.specs.Calls.{Call, data-command, poll, retransmit-error, nak, take-request, Entry, stepOf, runFrom, run, Typed, AllTyped}
 use Rattle.receiver_log.specs.Log.{reports, high}
 use Rattle.receiver_log.specs.Spans.{missingIn, requestIn}
-use Rattle.receiver_log.specs.Promise.{Promise, FromTo, Kept, ReceiverPromise, MissingSpan, Reached, Answered}
+use Rattle.receiver_log.specs.Answers.{saidOf}
+use Rattle.receiver_log.specs.Promise.{Promise, FromTo, Kept, StateTaken, ReceiverPromise, MissingSpan, Reached, NeverInvalid, Answered}
 use Rattle.receiver_log.proofs.Settled.{settled, unprocessed-is}
 use Rattle.receiver_log.proofs.Held.{held-fresh}
 use Rattle.receiver_log.proofs.SpanIs.{missing-span, request-is}
@@ -48,6 +50,19 @@ pub run-ok : (W : ℕ) → 1 ≤ W → W ≤ maxWindow → (calls : List Call) �
 unfolding run
 run-ok W p q calls l = from-ok W calls (freshOf W) [] (fresh-ok W p q) l
 
+-- ---- the log, from the calls alone
+
+from-said : (W : ℕ) (calls : List Call) (r : Receiver) (t : List Entry) → Follows W r t → AllTyped calls → runFrom r t calls .log ≡ saidOf W t calls
+unfolding runFrom saidOf
+from-said W [] r t i l = refl
+from-said W (c ∷ calls) r t i l =
+    let k = step-ok W r t c i (l .0) in
+    from-said W calls (stepOf r c .receiver) (stepOf r c .entry ∷ t) (k .follows) (l .1) ∙ ap (λ (e : Entry). saidOf W (e ∷ t) calls) (k .says)
+
+pub run-said : (W : ℕ) → 1 ≤ W → W ≤ maxWindow → (calls : List Call) → AllTyped calls → run W calls .log ≡ saidOf W [] calls
+unfolding run
+run-said W p q calls l = from-said W calls (freshOf W) [] (fresh-ok W p q) l
+
 -- ---- the theorems
 
 kept : (W : ℕ) (r : Receiver) (t : List Entry) → Follows W r t → Kept W r t
@@ -68,6 +83,16 @@ kept W r t i = record {
     twice true = refl
     twice false = refl
 
+state-taken : (r : Receiver) → validOf r ≡ true → StateTaken r
+unfolding dataAnswer pollAnswer errorAnswer nakAnswer takeAnswer
+state-taken r v = record {
+  data-command = λ s now seq. rw v;
+  poll = λ s now. rw v;
+  retransmit-error = λ e. rw v;
+  nak = rw v;
+  take-request = λ s p b. rw v;
+}
+
 pub receiver-promise : ReceiverPromise
 receiver-promise W p q calls l =
     let i = run-ok W p q calls l in
@@ -81,5 +106,9 @@ missing-from-to W p q calls l =
 pub reached : Reached
 reached W p q calls l = kept W (run W calls .receiver) (run W calls .log) (run-ok W p q calls l)
 
+pub never-invalid : NeverInvalid
+never-invalid W p q calls l = state-taken (run W calls .receiver) (reached W p q calls l .valid)
+
 pub answered : Answered
-answered W p q calls l c k = step-ok W (run W calls .receiver) (run W calls .log) c (run-ok W p q calls l) k .says
+answered W p q calls l =
+    record { next = λ c k. step-ok W (run W calls .receiver) (run W calls .log) c (run-ok W p q calls l) k .says; whole = run-said W p q calls l }

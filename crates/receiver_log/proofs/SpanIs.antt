@@ -176,30 +176,30 @@ module _ {w : ReceiveWindow} {t : List Report} (i : Held w t) where
     abbrev left-at : ℕ → Bool
     left-at b = unprocessed t (high t + d - b)
 
-    left-agree : (k : ℕ) → k < high t + d → has (lostOf (w .size) (missingOf w) d) k ≡ left-at (w .size + 1 + k)
-    left-agree k l = has-lost w (i .valid) d k p ∙ (elim (split (ltb (high t + d) (w .size + 1 + k))) [
-      | inl o ↦
-          let n = near i in
-          let z : high t + d - (w .size + 1 + k) < origin = omega (arith, tests) in
-          let far = shifted-far w t d i p r (w .size + 1 + k) (omega (arith, tests, i .low)) in
-          ap not far ∙ sym (before-0 t _ z)
-      | inr o ↦ sym (open-shifted w t d i p r (w .size + 1 + k) (omega arith) (omega (arith, tests)))
-    ])
+    abbrev older : ℕ
+    older = high t + d - origin - w .size
 
-    left-only : (k : ℕ) → has (lostOf (w .size) (missingOf w) d) k ≡ true → (k < high t + d) × (w .size + 1 + k ≤ high t + d) × (w .size + 1 + k < turn)
-    left-only k e = elim (split (ltb k (high t + d))) [
+    left-agree : (k : ℕ) → k < older → has (lostOf (w .size) (missingOf w) d) k ≡ left-at (w .size + 1 + k)
+    left-agree k l = has-lost w (i .valid) d k p ∙ sym (open-shifted w t d i p r (w .size + 1 + k) (omega arith) (omega arith))
+
+    left-only : (k : ℕ) → has (lostOf (w .size) (missingOf w) d) k ≡ true → (k < older) × (w .size + 1 + k ≤ high t + d) × (w .size + 1 + k < turn)
+    left-only k e = elim (split (ltb (high t + d) (w .size + 1 + k))) [
       | inl l ↦
-          let j = lost-near w t d i p r (w .size + 1 + k) (omega arith) (sym (left-agree k (omega (arith, tests))) ∙ e) in
-          (omega (arith, tests), omega (arith, j .1), j .2)
-      | inr l ↦
           let far : has (lostOf (w .size) (missingOf w) d) k ≡ false =
-          has-lost w (i .valid) d k p ∙ ap not (shifted-far w t d i p r (w .size + 1 + k) (omega (arith, tests, i .low))) in
+          has-lost w (i .valid) d k p ∙ ap not (shifted-far w t d i p r (w .size + 1 + k) (beyond (near i) (omega (arith, tests)))) in
           absurd (never e far)
+      | inr l ↦
+          let o = open-shifted w t d i p r (w .size + 1 + k) (omega arith) (omega (arith, tests)) in
+          let j = lost-near w t d i p r (w .size + 1 + k) (omega arith) (o ∙ sym (has-lost w (i .valid) d k p) ∙ e) in
+          (omega (arith, j .0), omega (arith, j .0), j .2)
     ]
+      where
+        beyond : (w .size ≤ 128) × (128 < high t) → high t + d < w .size + 1 + k → w .size + d < w .size + 1 + k
+        beyond n l = omega (arith, n .0, n .1)
 
     pub lost-span : (seq : ℕ) → (high t + d) % turn ≡ seq → newOf w seq d .lost ≡ lostAt (w .size) t (high t + d)
     unfolding newOf lostAt
     lost-span seq e =
         ap (λ (h : ℕ). spanOf h (w .size) (lostOf (w .size) (missingOf w) d)) (sym e)
-        ∙ span-is (high t + d) (w .size) (lostOf (w .size) (missingOf w) d) (high t + d) left-at left-agree left-only
-        (endsOf left-at (w .size + 1) (high t + d)) (ends-ok left-at (w .size + 1) (high t + d))
+        ∙ span-is (high t + d) (w .size) (lostOf (w .size) (missingOf w) d) older left-at left-agree left-only (endsOf left-at (w .size + 1) older)
+        (ends-ok left-at (w .size + 1) older)

@@ -1,7 +1,7 @@
 -- What the next call answers, from the past calls and answers alone. The receiver's state is never refused: 13 is left for a payload's.
 use Prim.Native.Nat.{ℕ, _%_}
 use mathlib.Core.Bool.{Bool, cond, not, _&&_}
-use mathlib.Core.List.{List}
+use mathlib.Core.List.{List, [], _∷_}
 use lib.ListN.{length}
 use Rattle.config.specs.Sequence.{turn}
 use Rattle.config.specs.Settings.{checkOf}
@@ -75,3 +75,9 @@ answerOf W t (poll s now) =
 answerOf W t (retransmit-error e) = error-entry e (errorIn W (reports t) e (askedIn W t))
 answerOf W t nak = nak-entry (nakEvent (missingIn W (reports t)) (askedIn W t))
 answerOf W t (take-request s p b) = takeIn s p b (dueIn W t && enabledIn t s) (requestIn W (reports t))
+
+-- the log of a list of calls, from the calls alone
+unfoldable pub saidOf : ℕ → List Entry → List Call → List Entry
+unfolding answerOf
+saidOf W t [] = t
+saidOf W t (c ∷ calls) = saidOf W (answerOf W t c ∷ t) calls

@@ -2,20 +2,28 @@
 use Prim.Native.Nat.{ℕ, _+_, _-_, _%_, _≤_, _<_}
 use mathlib.Core.Path.{_≡_}
 use mathlib.Core.Logic.{_⊎_}
-use mathlib.Core.Bool.{true, not}
-use mathlib.Core.List.{List}
+use mathlib.Core.Bool.{true, cond, not}
+use mathlib.Core.List.{List, []}
+use lib.ListN.{length}
 use Rattle.config.specs.Sequence.{turn}
+use Rattle.config.specs.Settings.{checkOf}
+use Rattle.config.specs.declared.refusal.Refusal.the-variants.{InvalidState}
+use Rattle.config.specs.declared.settings.StreamConfig.{StreamConfig}
+use Rattle.packet.specs.Write.{validOf as payloadValid}
+use Rattle.packet.specs.declared.writer.PayloadWriter.{PayloadWriter}
+use Rattle.command.specs.declared.retransmit.RetransmitError.{RetransmitError}
 use Rattle.window.specs.Set.{maxWindow}
 use Rattle.window.specs.Window.{processed, missingSpan, requestOf}
 use Rattle.window.specs.declared.window.Span.{Span}
 use Rattle.window.specs.declared.window.Span.the-variants.{Nothing, Of}
-use Rattle.receiver.specs.Receiver.{validOf}
+use Rattle.receiver.specs.Receiver.{validOf, heardOf, polledOf, erroredOf, nakedOf, takenOf}
+use Rattle.receiver.specs.Answers.{tested, dataAnswer, hearingRefused, pollAnswer, eventRefused, errorAnswer, nakAnswer, takeAnswer, requestRefused}
 use Rattle.receiver.specs.declared.receiver.Receiver.{Receiver}
 use Rattle.receiver_log.specs.Calls.{Call, Entry, stepOf, run, AllTyped, Typed}
 use Rattle.receiver_log.specs.Log.{Report, reports, origin, high, times, lost, unprocessed, Missing}
 use Rattle.receiver_log.specs.Spans.{missingIn, requestIn}
 use Rattle.receiver_log.specs.Timing.{timerIn, dueIn, nakIn, askedIn}
-use Rattle.receiver_log.specs.Answers.{answerOf}
+use Rattle.receiver_log.specs.Answers.{answerOf, saidOf}
 
 -- ---- demand 3, second sentence
 
@@ -50,6 +58,16 @@ pub record Kept (W : ℕ) (r : Receiver) (t : List Entry) : Type 0 where
   pub refused : r .refused ≡ nakIn t
   pub asked : r .asked ≡ askedIn W t
 
+-- no call is refused for the receiver's state: what is left are its settings (9, 7, 8) and, for taking a request, the payload
+pub record StateTaken (r : Receiver) : Type 0 where
+  pub data-command : (s : StreamConfig) (now seq : ℕ) → dataAnswer r s now seq ≡ tested (checkOf s) (hearingRefused r) (heardOf r s now seq)
+  pub poll : (s : StreamConfig) (now : ℕ) → pollAnswer r s now ≡ tested (checkOf s) (eventRefused r) (polledOf r s now)
+  pub retransmit-error : (e : RetransmitError) → errorAnswer r e ≡ erroredOf r e
+  pub nak : nakAnswer r ≡ nakedOf r
+  pub take-request : (s : StreamConfig) (p : PayloadWriter) (b : List ℕ)
+      → takeAnswer r s p b
+      ≡ tested (checkOf s) (requestRefused r p b) (cond (not (payloadValid p (length b))) (requestRefused r p b InvalidState) (takenOf r s p b))
+
 -- ---- the theorems
 
 abbrev pub logOf : ℕ → List Call → List Entry
@@ -66,7 +84,13 @@ MissingSpan =
 abbrev pub Reached : Type 0
 Reached = (W : ℕ) → 1 ≤ W → W ≤ maxWindow → (calls : List Call) → AllTyped calls → Kept W (run W calls .receiver) (logOf W calls)
 
+abbrev pub NeverInvalid : Type 0
+NeverInvalid = (W : ℕ) → 1 ≤ W → W ≤ maxWindow → (calls : List Call) → AllTyped calls → StateTaken (run W calls .receiver)
+
+-- each answer, and with it the whole log, is settled by the past calls
+pub record AnsweredIn (W : ℕ) (calls : List Call) : Type 0 where
+  pub next : (c : Call) → Typed c → stepOf (run W calls .receiver) c .entry ≡ answerOf W (logOf W calls) c
+  pub whole : logOf W calls ≡ saidOf W [] calls
+
 abbrev pub Answered : Type 0
-Answered =
-    (W : ℕ) → 1 ≤ W → W ≤ maxWindow → (calls : List Call) → AllTyped calls → (c : Call) → Typed c
-    → stepOf (run W calls .receiver) c .entry ≡ answerOf W (logOf W calls) c
+Answered = (W : ℕ) → 1 ≤ W → W ≤ maxWindow → (calls : List Call) → AllTyped calls → AnsweredIn W calls

@@ -10,7 +10,7 @@ use Rattle.window.specs.declared.window.Class.{Class}
 use Rattle.window.specs.declared.window.Class.the-variants.{New, Late, Duplicate}
 use Rattle.window.specs.declared.window.Span.{Span}
 use Rattle.window.specs.declared.window.Span.the-variants.{Nothing, Of}
-use Rattle.receiver_log.specs.Log.{Report, isAhead, place, high, unprocessed}
+use Rattle.receiver_log.specs.Log.{Report, origin, isAhead, place, high, unprocessed}
 
 -- ---- ends
 
@@ -52,10 +52,10 @@ classIn W t seq =
     (cond (within 1 W (ahead seq (high t % turn)) && unprocessed t (place (high t) seq)) Late
     Duplicate)
 
--- the oldest to the newest unprocessed position, skipped ones included, more than W behind the place `to`
+-- the oldest to the newest unprocessed position, skipped ones included, of those from position 0 that are more than W behind the place `to`
 unfoldable pub lostAt : ℕ → List Report → ℕ → Span
 unfolding endsOf
-lostAt W t to = spanFrom to (endsOf (λ b. unprocessed t (to - b)) (W + 1) to)
+lostAt W t to = spanFrom to (endsOf (λ b. unprocessed t (to - b)) (W + 1) (to - origin - W))
 
 -- a New number's loss
 unfoldable pub lostIn : ℕ → List Report → ℕ → Span

@@ -15,5 +15,6 @@
 //   receiver_promise   each position is handed on at most once, and if not, is lost or missing
 //   missing_span       the window's missing span reaches from the oldest missing to the newest
 //   receiver_reached   the state left passes the state test, and is what the log says
+//   never_invalid      no call is refused with 13 for the receiver's state
 //   receiver_answers   what the next call answers is what the log says
 pub mod theorems;

@@ -1,5 +1,5 @@
 // Theorems as contracts: each of these functions does nothing, and its contract is the theorem.
-ghost use Rattle.receiver_log.specs.Promise.{ReceiverPromise, MissingSpan, Reached, Answered};
+ghost use Rattle.receiver_log.specs.Promise.{ReceiverPromise, MissingSpan, NeverInvalid, Reached, Answered};
 
 // Demand 3, second sentence: whatever arrives, each position from 0 to the highest has been handed
 // on at most once, and if not handed on lies in a reported loss or is still missing.
@@ -16,6 +16,11 @@ pub fn missing_span()
 // definition over the log.
 pub fn receiver_reached()
     ensures { λ _. ⌜ Reached ⌝ }
+{}
+
+// So no call is refused with 13 for the receiver's state.
+pub fn never_invalid()
+    ensures { λ _. ⌜ NeverInvalid ⌝ }
 {}
 
 // What the next call answers equals a definition over the log.
