@@ -1,0 +1,9 @@
+-- Laws of this crate that its proofs, and those of the crates above, cite.
+pub mod Fronts
+pub mod Validity
+pub mod Queued
+mod Questions
+mod Answers
+pub mod Parts
+pub mod Kept
+pub mod Appends

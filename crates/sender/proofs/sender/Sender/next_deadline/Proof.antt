@@ -1,0 +1,23 @@
+-- The state is tested, and the rest is `valid::next_deadline`.
+use mathlib.Core.Path.{sym, _∙_}
+use Rattle.sender.proofs.Answers.{deadline-refused, deadline-told}
+use borrow.Author.Needs.{needs}
+use Rattle.sender.proofs.sender.Sender.next_deadline.Statement.{statement}
+use Rattle.sender.proofs.sender.Sender.next_deadline.Tie as tie
+
+is-valid-requires : tie.Need-is-valid-requires
+is-valid-requires c κs = search needs
+
+next-deadline-requires : tie.Need-next-deadline-requires
+next-deadline-requires c κs = search needs
+
+returns : tie.Need-returns
+returns c =
+    c .next-deadline .ensures ∙ deadline-told _ _ (sym (c .before .before .is-valid .ensures) ∙ c .before .if1 .taken)
+
+returns-2 : tie.Need-returns-2
+returns-2 c = deadline-refused _ _ (sym (c .before .is-valid .ensures) ∙ c .if1 .left)
+
+pub next-deadline-spec : {M : Type 1} → statement M
+next-deadline-spec =
+    tie.close (tie.spec is-valid-requires next-deadline-requires returns returns-2)

@@ -1,0 +1,23 @@
+-- The state is tested, and the rest is `valid::next_seq`.
+use mathlib.Core.Path.{sym, _∙_}
+use Rattle.sender.proofs.Answers.{next-refused, next-told}
+use Rattle.sender.proofs.Validity.{valid-unsent}
+use borrow.Author.Needs.{needs}
+use Rattle.sender.proofs.sender.Sender.next_seq.Statement.{statement}
+use Rattle.sender.proofs.sender.Sender.next_seq.Tie as tie
+
+is-valid-requires : tie.Need-is-valid-requires
+is-valid-requires c κs = search needs
+
+next-seq-requires : tie.Need-next-seq-requires
+next-seq-requires c κs = valid-unsent _ _ (sym (c .before .is-valid .ensures) ∙ c .if1 .taken)
+
+returns : tie.Need-returns
+returns c =
+    next-told _ _ (sym (c .before .before .is-valid .ensures) ∙ c .before .if1 .taken) _ (c .next-seq .ensures)
+
+returns-2 : tie.Need-returns-2
+returns-2 c = next-refused _ _ (sym (c .before .is-valid .ensures) ∙ c .if1 .left)
+
+pub next-seq-spec : {M : Type 1} → statement M
+next-seq-spec = tie.close (tie.spec is-valid-requires next-seq-requires returns returns-2)

@@ -1,0 +1,29 @@
+-- The state is tested, and the rest is `valid::reset`.
+use mathlib.Core.Path.{sym, _∙_}
+use Rattle.sender.proofs.Answers.{reset-refused, reset-done}
+use borrow.Author.Needs.{needs}
+use Rattle.sender.proofs.sender.Sender.reset.Statement.{statement}
+use Rattle.sender.proofs.sender.Sender.reset.Tie as tie
+
+is-valid-requires : tie.Need-is-valid-requires
+is-valid-requires c κs = search needs
+
+reset-requires : tie.Need-reset-requires
+reset-requires c κs = search needs
+
+same-length : tie.Need-same-length
+same-length c = search needs
+
+returns : tie.Need-returns
+returns c = reset-done _ _ (cc) _ _ (search needs)
+
+same-length-2 : tie.Need-same-length-2
+same-length-2 c = search needs
+
+returns-2 : tie.Need-returns-2
+returns-2 c = reset-refused _ _ (cc)
+
+pub reset-spec : {M : Type 1} → statement M
+reset-spec =
+    tie.close
+    (tie.spec is-valid-requires reset-requires same-length returns same-length-2 returns-2)

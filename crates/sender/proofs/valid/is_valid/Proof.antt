@@ -1,0 +1,28 @@
+-- Each test is one of the definition's, in its order.
+use Rattle.sender.proofs.Validity.{test-history, test-queue, test-idle}
+use borrow.Author.Needs.{needs}
+use Rattle.sender.proofs.valid.is_valid.Statement.{statement}
+use Rattle.sender.proofs.valid.is_valid.Tie as tie
+
+state-ok-requires : tie.Need-state-ok-requires
+state-ok-requires c κs = search needs
+
+state-ok-requires-2 : tie.Need-state-ok-requires-2
+state-ok-requires-2 c κs = search needs
+
+idle-ok-requires : tie.Need-idle-ok-requires
+idle-ok-requires c κs = search needs
+
+returns : tie.Need-returns
+returns c = test-idle _ _ (cc) (cc) _ (c .idle-ok .ensures)
+
+returns-2 : tie.Need-returns-2
+returns-2 c = test-queue _ _ (cc) (cc)
+
+returns-3 : tie.Need-returns-3
+returns-3 c = test-history _ _ (cc)
+
+pub is-valid-spec : {M : Type 1} → statement M
+is-valid-spec =
+    tie.close
+    (tie.spec state-ok-requires state-ok-requires-2 idle-ok-requires returns returns-2 returns-3)

@@ -1,0 +1,9 @@
+-- The definitions that the contracts of `sender` cite.
+pub mod Commands
+pub mod State
+pub mod Queueing
+pub mod Requests
+pub mod Writing
+pub mod Answers
+pub mod Unwritten
+pub mod Cases

@@ -1,0 +1,33 @@
+-- 01, "State test": the sender's part of number 13; "Start": a start and a reset.
+use Prim.Native.Nat.{ℕ}
+use mathlib.Core.Bool.{Bool, true, _&&_}
+use mathlib.Core.List.{List}
+use lib.ListN.{length, replicate}
+use lib.Dec.{leb}
+use Rattle.history.specs.State.{fresh as noneHeld, stateOk}
+use Rattle.history.specs.Queue.{noneWait, queueOk}
+use Rattle.sender.specs.declared.sender.IdleTimer.{IdleTimer}
+use Rattle.sender.specs.declared.sender.IdleTimer.the-variants.{Off, Waiting}
+use Rattle.sender.specs.declared.sender.Sender.{Sender}
+
+-- the idle step doesn't exceed 510
+abbrev pub idleOk : IdleTimer → Bool
+idleOk Off = true
+idleOk (Waiting i) = leb (i .step) 510
+
+-- the state test: the history's, the request ring's and the idle schedule's part
+unfoldable pub validOf : Sender → List ℕ → Bool
+validOf s ring = stateOk (s .history) ring (s .unsent) (s .«unsent_words») && (queueOk (s .queue) && idleOk (s .idle))
+
+-- a start: nothing held, nothing waits, and the next number is 0
+abbrev pub fresh : ℕ → ℕ → Sender
+fresh words places =
+    record { history = noneHeld words; queue = noneWait places; unsent = 0; «unsent_words» = 0; idle = Off }
+
+-- a start zeroes the lent history
+abbrev pub startOf : ℕ → ℕ → List ℕ → Sender × List ℕ
+startOf words places ring = (fresh words places, replicate (length ring) 0)
+
+-- and so does a reset: a start with the same sizes
+abbrev pub resetOf : Sender → List ℕ → Sender × List ℕ
+resetOf s ring = startOf (s .history .size) (s .queue .size) ring

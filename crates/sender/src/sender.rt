@@ -1,0 +1,239 @@
+// The sender and its calls. Each takes the sender by value and hands it back with its answer; the
+// history's words lie in the lent slice `ring`.
+ghost use mathlib.Core.Path.{_≡_};
+ghost use Rattle.sender.specs.Answers.{newAnswer, resetAnswer, sendAnswer, requestAnswer, deadlineAnswer, wantsAnswer, nextAnswer};
+use super::valid;
+use command::retransmit::RetransmitError;
+use command::retransmit::RetransmitRequest;
+use config::range::outside;
+use config::refusal::Refusal;
+use config::sequence::SeqNum;
+use config::settings::Check;
+use config::settings::StreamConfig;
+use history::history::MAX_WORDS;
+use history::history::MIN_WORDS;
+use history::history::SendHistory;
+use history::queue::Ignored;
+use history::queue::PLACES;
+use history::queue::RetransmitQueue;
+use packet::writer::PayloadWriter;
+
+pub struct Idle {
+    // When the next idle command is due, in ms.
+    pub due: u64,
+    // Idle commands queued since the last command with words, at most 510.
+    pub step: u16,
+    // The step's length, in ms.
+    pub interval: u64,
+}
+
+pub enum IdleTimer {
+    Off,
+    Waiting(Idle),
+}
+
+//   history:  | written .. | unsent .. |      newest
+pub struct Sender {
+    pub history: SendHistory,
+    pub queue: RetransmitQueue,
+    // How many of the newest commands are not written yet, at most all.
+    pub unsent: usize,
+    // The words that these take in the history, headers with them.
+    pub unsent_words: usize,
+    pub idle: IdleTimer,
+}
+
+pub enum Start {
+    Done,
+    Refused(Refusal),
+}
+
+// A fresh sender; where the start is refused, one that every call refuses.
+pub struct Started {
+    pub sender: Sender,
+    pub answer: Start,
+}
+
+pub enum Reset {
+    Done,
+    Refused(Refusal),
+}
+
+pub struct WasReset {
+    pub sender: Sender,
+    pub answer: Reset,
+}
+
+pub enum Send {
+    Accepted,
+    Refused(Refusal),
+}
+
+pub struct Sent {
+    pub sender: Sender,
+    pub answer: Send,
+}
+
+pub enum RequestOutcome {
+    Queued,
+    Ignored(Ignored),
+    // The number is not in the written history: the caller writes this error.
+    Error(RetransmitError),
+    // Retransmits are off.
+    NotSupported,
+    Refused(Refusal),
+}
+
+pub struct Requested {
+    pub sender: Sender,
+    pub outcome: RequestOutcome,
+}
+
+pub enum Deadline {
+    Nothing,
+    At(u64),
+    Refused(Refusal),
+}
+
+pub enum Wants {
+    Is(bool),
+    Refused(Refusal),
+}
+
+pub enum Next {
+    Number(SeqNum),
+    Refused(Refusal),
+}
+
+// What a write has written into the payload.
+pub struct Written {
+    pub commands: usize,
+    // The next command in order did not fit.
+    pub more: bool,
+}
+
+pub enum Writing {
+    Written(Written),
+    Refused(Refusal),
+}
+
+pub struct Wrote {
+    pub sender: Sender,
+    pub payload: PayloadWriter,
+    pub answer: Writing,
+}
+
+impl Sender {
+    // A fresh sender over a lent history of `words` words, which is zeroed, with a request ring of
+    // `places` places; 12 for sizes that are not taken.
+    pub fn new(words: usize, places: usize, ring: &mut [u32]) -> Started
+        ensures { λ r. ⌜ (r, now (ring .exit)) ≡ newAnswer words places (now (ring .entry)) ⌝ }
+    {
+        if outside(MIN_WORDS, MAX_WORDS, words) {
+            return valid::not_started();
+        }
+        if ring.len() != words {
+            return valid::not_started();
+        }
+        if outside(1, PLACES, places) {
+            return valid::not_started();
+        }
+        Started {
+            sender: valid::start(words, places, ring),
+            answer: Start::Done,
+        }
+    }
+
+    // Back to the fresh sender of the same sizes; the lent history is zeroed.
+    pub fn reset(self, ring: &mut [u32]) -> WasReset
+        ensures { λ r. ⌜ (r, now (ring .exit)) ≡ resetAnswer self (now (ring .entry)) ⌝ }
+    {
+        if valid::is_valid(self, &ring[..]) {
+            return WasReset {
+                sender: valid::reset(self, ring),
+                answer: Reset::Done,
+            };
+        }
+        WasReset {
+            sender: self,
+            answer: Reset::Refused(Refusal::InvalidState),
+        }
+    }
+
+    // Queues whole messages; 5, 3 and 6 for words that are not queued.
+    pub fn send_ump(self, cfg: StreamConfig, ring: &mut [u32], words: &[u32]) -> Sent
+        ensures { λ r. ⌜ (r, now (ring .exit)) ≡ sendAnswer self cfg (now (ring .entry)) (now (words .entry)) ⌝ }
+    {
+        match cfg.check() {
+            Check::Refused(why) => Sent {
+                sender: self,
+                answer: Send::Refused(why),
+            },
+            Check::Passed => {
+                if valid::is_valid(self, &ring[..]) {
+                    return valid::send_ump(self, cfg, ring, words);
+                }
+                Sent {
+                    sender: self,
+                    answer: Send::Refused(Refusal::InvalidState),
+                }
+            }
+        }
+    }
+
+    // A Retransmit Request arrives.
+    pub fn on_retransmit_request(
+        self,
+        cfg: StreamConfig,
+        ring: &[u32],
+        req: RetransmitRequest,
+    ) -> Requested
+        ensures { λ r. ⌜ r ≡ requestAnswer self cfg (now (ring .entry)) req ⌝ }
+    {
+        match cfg.check() {
+            Check::Refused(why) => Requested {
+                sender: self,
+                outcome: RequestOutcome::Refused(why),
+            },
+            Check::Passed => {
+                if valid::is_valid(self, ring) {
+                    return valid::on_retransmit_request(self, cfg, req);
+                }
+                Requested {
+                    sender: self,
+                    outcome: RequestOutcome::Refused(Refusal::InvalidState),
+                }
+            }
+        }
+    }
+
+    // When the next idle command is due.
+    pub fn next_deadline(self, ring: &[u32]) -> Deadline
+        ensures { λ r. ⌜ r ≡ deadlineAnswer self (now (ring .entry)) ⌝ }
+    {
+        if valid::is_valid(self, ring) {
+            return valid::next_deadline(self);
+        }
+        Deadline::Refused(Refusal::InvalidState)
+    }
+
+    // Whether a write at this time has something to write.
+    pub fn wants_write(self, ring: &[u32], time: u64) -> Wants
+        ensures { λ r. ⌜ r ≡ wantsAnswer self (now (ring .entry)) time ⌝ }
+    {
+        if valid::is_valid(self, ring) {
+            return Wants::Is(valid::wants_write(self, time));
+        }
+        Wants::Refused(Refusal::InvalidState)
+    }
+
+    // The number that the next written command gets.
+    pub fn next_seq(self, ring: &[u32]) -> Next
+        ensures { λ r. ⌜ r ≡ nextAnswer self (now (ring .entry)) ⌝ }
+    {
+        if valid::is_valid(self, ring) {
+            return Next::Number(valid::next_seq(self));
+        }
+        Next::Refused(Refusal::InvalidState)
+    }
+}

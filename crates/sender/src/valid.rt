@@ -1,0 +1,324 @@
+// The calls over settings and a state that were tested: `is_valid` is the test of the state, and the
+// others require what it says.
+ghost use mathlib.Core.Path.{_≡_};
+ghost use mathlib.Core.Bool.{true, false};
+ghost use Prim.Native.Nat.{_+_, _≤_, _<_};
+ghost use lib.ListN.{length};
+ghost use Rattle.config.specs.Settings.{checkOf};
+ghost use Rattle.config.specs.declared.settings.Check.the-variants.{Passed};
+ghost use Rattle.config.specs.Sequence.{turn};
+ghost use Rattle.command.specs.Messages.{wholeOf};
+ghost use Rattle.history.specs.State.{Good};
+ghost use Rattle.history.specs.Headers.{lengthAt};
+ghost use Rattle.history.specs.Queue.{Fit};
+ghost use Rattle.sender.specs.State.{idleOk, validOf, fresh, startOf, resetOf};
+ghost use Rattle.sender.specs.Commands.{commandsOf, above};
+ghost use Rattle.sender.specs.Queueing.{roomOf, joinedTo, pushedAll, wordsCheck, placedOf, sentOf};
+ghost use Rattle.sender.specs.Requests.{outcomeOf, requestedOf, dueAt, isDue, deadlineOf, wantsOf, nextOf};
+ghost use Rattle.sender.specs.Answers.{notStarted};
+use super::messages;
+use super::sender::Deadline;
+use super::sender::IdleTimer;
+use super::sender::RequestOutcome;
+use super::sender::Requested;
+use super::sender::Send;
+use super::sender::Sender;
+use super::sender::Sent;
+use super::sender::Start;
+use super::sender::Started;
+use command::message::whole_messages;
+use command::retransmit::NOT_IN_BUFFER;
+use command::retransmit::RetransmitError;
+use command::retransmit::RetransmitRequest;
+use config::refusal::Refusal;
+use config::sequence;
+use config::sequence::SeqNum;
+use config::settings::Check;
+use config::settings::StreamConfig;
+use history::history::SendHistory;
+use history::queue::Push;
+use history::queue::RetransmitQueue;
+
+// The most idle commands after one command with words: 1 + R + K.
+pub const MAX_STEP: u16 = 510;
+
+fn idle_ok(idle: IdleTimer) -> bool
+    ensures { λ r. ⌜ r ≡ idleOk idle ⌝ }
+{
+    match idle {
+        IdleTimer::Off => true,
+        IdleTimer::Waiting(i) => i.step <= MAX_STEP,
+    }
+}
+
+// The state test: the history's part, the request ring's, and the idle step.
+pub fn is_valid(s: Sender, ring: &[u32]) -> bool
+    ensures { λ r. ⌜ r ≡ validOf s (now (ring .entry)) ⌝ }
+{
+    let history = s.history;
+    let queue = s.queue;
+    if history.state_ok(ring, s.unsent, s.unsent_words) {
+        if queue.state_ok() {
+            let idle = s.idle;
+            return idle_ok(idle);
+        }
+        return false;
+    }
+    false
+}
+
+// Nothing held, nothing waits.
+fn fresh_sender(words: usize, places: usize) -> Sender
+    ensures { λ r. ⌜ r ≡ fresh words places ⌝ }
+{
+    Sender {
+        history: SendHistory::new(words),
+        queue: RetransmitQueue::new(places),
+        unsent: 0,
+        unsent_words: 0,
+        idle: IdleTimer::Off,
+    }
+}
+
+pub fn not_started() -> Started
+    ensures { λ r. ⌜ r ≡ notStarted ⌝ }
+{
+    Started {
+        sender: fresh_sender(0, 0),
+        answer: Start::Refused(Refusal::SizeNotAllowed),
+    }
+}
+
+// A fresh sender; the lent history is zeroed.
+pub fn start(words: usize, places: usize, ring: &mut [u32]) -> Sender
+    ensures { λ r. ⌜ (r, now (ring .exit)) ≡ startOf words places (now (ring .entry)) ⌝ }
+{
+    let history = SendHistory::new(words);
+    Sender {
+        history: history.clear(ring),
+        queue: RetransmitQueue::new(places),
+        unsent: 0,
+        unsent_words: 0,
+        idle: IdleTimer::Off,
+    }
+}
+
+pub fn reset(s: Sender, ring: &mut [u32]) -> Sender
+    ensures { λ r. ⌜ (r, now (ring .exit)) ≡ resetOf s (now (ring .entry)) ⌝ }
+{
+    let history = s.history;
+    let queue = s.queue;
+    start(history.size, queue.size, ring)
+}
+
+// 5 not whole messages; 3 a message above the set size.
+fn check(words: &[u32], max: usize) -> Check
+    ensures { λ r. ⌜ r ≡ wordsCheck max (now (words .entry)) ⌝ }
+{
+    if whole_messages(words) {
+        if messages::fit(words, max) {
+            return Check::Passed;
+        }
+        return Check::Refused(Refusal::TooLarge);
+    }
+    Check::Refused(Refusal::InvalidUmpData)
+}
+
+// The words that the newest unwritten command still takes; none when nothing is unwritten.
+fn room(s: Sender, ring: &[u32], max: usize) -> usize
+    requires { ⌜ validOf s (now ring) ≡ true ⌝ }
+    ensures { λ r. ⌜ r ≡ roomOf s (now (ring .entry)) max ⌝ }
+{
+    if s.unsent == 0 {
+        return 0;
+    }
+    let history = s.history;
+    let last = history.last;
+    let n = history::valid::pl(ring, last);
+    if max < n {
+        return 0;
+    }
+    max - n
+}
+
+// Words join the newest command.
+fn join(h: SendHistory, ring: &mut [u32], words: &[u32]) -> SendHistory
+    requires { ⌜ Good h (now ring) × (0 < length (now words) → (0 < h .count) × (lengthAt (now ring) (h .last) + length (now words) ≤ 64)) ⌝ }
+    ensures { λ r. ⌜ (r, now (ring .exit)) ≡ joinedTo h (now (ring .entry)) (now (words .entry)) ⌝ }
+{
+    if words.len() == 0 {
+        return h;
+    }
+    history::valid::append_to_last(h, ring, words)
+}
+
+// The words open further commands of at most `max` words.
+fn push_all(h: SendHistory, ring: &mut [u32], max: usize, words: &[u32]) -> SendHistory
+    requires { ⌜ Good h (now ring) × (h .oldest < turn) × (max ≤ 64) × (wholeOf (now words) ≡ true) × (above max (now words) ≡ false) ⌝ }
+    ensures { λ r. ⌜ (r, now (ring .exit)) ≡ pushedAll h (now (ring .entry)) (commandsOf max (now (words .entry))) ⌝ }
+{
+    let mut g = h;
+    let mut at = 0;
+    while at < words.len() {
+        let end = at + messages::front_words(&words[at..], max);
+        g = history::valid::push(g, ring, &words[at..end]);
+        at = end;
+    }
+    g
+}
+
+// Queues messages that passed `check`; 6 when words and new headers exceed the history less what is
+// unwritten.
+fn queue_words(s: Sender, ring: &mut [u32], max: usize, words: &[u32]) -> Sent
+    requires { ⌜ (validOf s (now ring) ≡ true) × (max ≤ 64) × (wordsCheck max (now words) ≡ Passed) ⌝ }
+    ensures { λ r. ⌜ (r, now (ring .exit)) ≡ placedOf s (now (ring .entry)) max (now (words .entry)) ⌝ }
+{
+    let history = s.history;
+    let queue = s.queue;
+    let idle = s.idle;
+    let split = messages::front_words(words, room(s, &ring[..], max));
+    let commands = messages::commands(&words[split..], max);
+    let need = words.len() + commands;
+    if history.size - s.unsent_words < need {
+        return Sent {
+            sender: s,
+            answer: Send::Refused(Refusal::Full),
+        };
+    }
+    let joined = join(history, ring, &words[..split]);
+    let all = push_all(joined, ring, max, &words[split..]);
+    Sent {
+        sender: Sender {
+            history: all,
+            queue,
+            unsent: s.unsent + commands,
+            unsent_words: s.unsent_words + need,
+            idle,
+        },
+        answer: Send::Accepted,
+    }
+}
+
+pub fn send_ump(s: Sender, cfg: StreamConfig, ring: &mut [u32], words: &[u32]) -> Sent
+    requires { ⌜ (validOf s (now ring) ≡ true) × (checkOf cfg ≡ Passed) ⌝ }
+    ensures { λ r. ⌜ (r, now (ring .exit)) ≡ sentOf s (now (ring .entry)) (cfg .«max_command_words») (now (words .entry)) ⌝ }
+{
+    if words.len() == 0 {
+        return Sent {
+            sender: s,
+            answer: Send::Accepted,
+        };
+    }
+    let max = cfg.max_command_words;
+    match check(words, max) {
+        Check::Refused(why) => Sent {
+            sender: s,
+            answer: Send::Refused(why),
+        },
+        Check::Passed => queue_words(s, ring, max, words),
+    }
+}
+
+fn outcome(answer: Push) -> RequestOutcome
+    ensures { λ r. ⌜ r ≡ outcomeOf answer ⌝ }
+{
+    match answer {
+        Push::Queued => RequestOutcome::Queued,
+        Push::Ignored(why) => RequestOutcome::Ignored(why),
+        Push::Refused(why) => RequestOutcome::Refused(why),
+    }
+}
+
+// A request for a written command waits behind the others; any other is answered at once.
+pub fn on_retransmit_request(s: Sender, cfg: StreamConfig, req: RetransmitRequest) -> Requested
+    requires { ⌜ (s .unsent ≤ s .history .count) × Fit (s .queue) ⌝ }
+    ensures { λ r. ⌜ r ≡ requestedOf s cfg req ⌝ }
+{
+    if cfg.retransmit {
+        let history = s.history;
+        let queue = s.queue;
+        let idle = s.idle;
+        let written = history.count - s.unsent;
+        let k = sequence::distance(history.oldest, req.seq);
+        if written <= (k as usize) {
+            return Requested {
+                sender: s,
+                outcome: RequestOutcome::Error(RetransmitError {
+                    reason: NOT_IN_BUFFER,
+                    seq: history.oldest,
+                }),
+            };
+        }
+        let pushed = history::valid::push_request(queue, req);
+        let next = pushed.queue;
+        let answer = pushed.answer;
+        return Requested {
+            sender: Sender {
+                history,
+                queue: next,
+                unsent: s.unsent,
+                unsent_words: s.unsent_words,
+                idle,
+            },
+            outcome: outcome(answer),
+        };
+    }
+    Requested {
+        sender: s,
+        outcome: RequestOutcome::NotSupported,
+    }
+}
+
+// No idle command is queued while a command is unwritten.
+pub fn next_deadline(s: Sender) -> Deadline
+    ensures { λ r. ⌜ r ≡ deadlineOf s ⌝ }
+{
+    if s.unsent == 0 {
+        let idle = s.idle;
+        return due_at(idle);
+    }
+    Deadline::Nothing
+}
+
+fn due_at(idle: IdleTimer) -> Deadline
+    ensures { λ r. ⌜ r ≡ dueAt idle ⌝ }
+{
+    match idle {
+        IdleTimer::Off => Deadline::Nothing,
+        IdleTimer::Waiting(i) => Deadline::At(i.due),
+    }
+}
+
+fn is_due(idle: IdleTimer, time: u64) -> bool
+    ensures { λ r. ⌜ r ≡ isDue idle time ⌝ }
+{
+    match idle {
+        IdleTimer::Off => false,
+        IdleTimer::Waiting(i) => i.due <= time,
+    }
+}
+
+// An unwritten command, a request that waits, or an idle command that is due.
+pub fn wants_write(s: Sender, time: u64) -> bool
+    ensures { λ r. ⌜ r ≡ wantsOf s time ⌝ }
+{
+    if 0 < s.unsent {
+        return true;
+    }
+    let queue = s.queue;
+    if 0 < queue.len {
+        return true;
+    }
+    let idle = s.idle;
+    is_due(idle, time)
+}
+
+// The number of the oldest unwritten command, or of the next one.
+pub fn next_seq(s: Sender) -> SeqNum
+    requires { ⌜ s .unsent ≤ s .history .count ⌝ }
+    ensures { λ r. ⌜ r ≡ nextOf s ⌝ }
+{
+    let history = s.history;
+    let written = history.count - s.unsent;
+    sequence::add(history.oldest, (written % 0x1_0000) as u16)
+}
