@@ -15,6 +15,6 @@
 //             and 6 for words that are not queued; 12 for sizes that a start does not take
 //   valid     the same over settings and a state that were tested
 //   messages  how words divide into messages and commands
-pub mod messages;
+mod messages;
 pub mod sender;
 pub mod valid;
