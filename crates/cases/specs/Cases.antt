@@ -1,12 +1,19 @@
 -- 01, "Session cases": those marked P, as one table of theorems about the definitions.
-use Prim.Native.Nat.{ℕ, _+_}
-use Rattle.command.specs.Write.{requestPacket}
+use Prim.Native.Nat.{ℕ, zero, suc, _+_}
+use mathlib.Core.Bool.{true, false}
+use mathlib.Core.List.{List, [], _∷_}
+use mathlib.Core.Path.{_≡_, refl, sym, ap}
+use lib.Count.{trailingZeros}
+use lib.ListN.{length, take, replicate}
+use Rattle.config.specs.Settings.{checkOf}
 use Rattle.config.specs.declared.refusal.Refusal.the-variants.{TooLarge}
+use Rattle.config.specs.declared.settings.StreamConfig.{StreamConfig}
 use Rattle.packet.specs.Bytes.{bytesOf, spliced}
 use Rattle.packet.specs.Write.{validOf as payloadValid, refusedOf, writtenOf}
 use Rattle.packet.specs.declared.writer.PayloadWriter.{PayloadWriter}
 use Rattle.packet.specs.declared.writer.Write.the-variants.{Done}
-use Rattle.packet.specs.declared.writer.Wrote.{Wrote}
+use Rattle.command.specs.Messages.{typeWords, divided, messagesOf, wholeOf}
+use Rattle.command.specs.Write.{requestPacket}
 use Rattle.window.proofs.Losses.{far-pos, far-bottom, far-skipped}
 use Rattle.window.proofs.Spans.{span-some}
 use Rattle.window.specs.Answers.{newAnswer, startAnswer, acceptAnswer, missingAnswer, requestAnswer, extended}
@@ -21,10 +28,23 @@ use Rattle.window.specs.declared.window.SeqRange.{SeqRange}
 use Rattle.window.specs.declared.window.Span.{Span}
 use Rattle.window.specs.declared.window.Span.the-variants.{Nothing, Of}
 use Rattle.window.specs.declared.window.Started.the-variants.{Window}
-use lib.Count.{trailingZeros}
-use lib.ListN.{replicate}
-use mathlib.Core.List.{List, [], _∷_}
-use mathlib.Core.Path.{_≡_, refl, sym, ap}
+use Rattle.history.specs.Ring.{slotOf, ringStored, ringRead}
+use Rattle.history.specs.Headers.{headerAt, wordsFrom, numbered}
+use Rattle.history.specs.State.{stateOk, walkOk}
+use Rattle.history.specs.Push.{popOne, popped, grown, pushed, longer, appended}
+use Rattle.history.specs.Written.{entryPacket}
+use Rattle.sender.specs.Commands.{fitting, front, behind, commandsIn, commandsOf, longer as longMessage, above}
+use Rattle.sender.specs.State.{validOf as senderValid, fresh as freshSender}
+use Rattle.sender.specs.Queueing.{roomOf, needOf, joinedTo, pushedAll, queuedTo, queuedOf, wordsCheck, placedOf, sentOf}
+use Rattle.sender.specs.Writing.{rowOf, packetsFrom, servedIn, servedOf, idleNext, idledOf, sizesOf, repeatsOf, anyWords, writtenOff, newOf as newSent, writtenBy}
+use Rattle.sender.specs.Answers.{sendAnswer, writeAnswer}
+use Rattle.sender.specs.declared.sender.IdleTimer.{IdleTimer}
+use Rattle.sender.specs.declared.sender.IdleTimer.the-variants.{Off, Waiting}
+use Rattle.sender.specs.declared.sender.Sender.{Sender}
+use Rattle.sender.specs.declared.sender.Sent.{Sent}
+use Rattle.sender.specs.declared.sender.Wrote.{Wrote}
+use Rattle.sender.specs.declared.sender.Writing.{Writing}
+use Rattle.sender.specs.declared.sender.Writing.the-variants.{Written}
 
 -- ---- the receive window: P1 to P8
 -- the window after a number has arrived
@@ -107,3 +127,59 @@ pub P9-short : writtenOf (empty 11) (replicate 16 0xAA) (requestPacket record { 
     ≡ (refusedOf (empty 11) TooLarge, replicate 16 0xAA)
 unfolding writtenOf payloadValid spliced bytesOf
 P9-short = refl
+
+-- ---- the sender: P10 to P12, and the idle times
+abbrev defaults : StreamConfig
+defaults =
+    record { «idle_interval_ms» = 100; «idle_growth» = 2; «idle_further» = 5; «fec_repeats» = 2; retransmit = true; «request_delay_ms» = 10; «max_requests» = 3; «max_command_words» = 64 }
+
+-- the first word, queued and written at 1000
+abbrev queued : Sent × List ℕ
+queued = sendAnswer (freshSender 65 4) defaults (replicate 65 0) (0x20903C40 ∷ [])
+
+abbrev first : Wrote × List ℕ × List ℕ
+first = writeAnswer (queued .0 .sender) defaults 1000 (empty 1400) (replicate 24 0) (queued .1)
+
+abbrev again : Sent × List ℕ
+again = sendAnswer (first .0 .sender) defaults (first .2) (0x20803C00 ∷ [])
+
+abbrev second : ℕ → Wrote × List ℕ × List ℕ
+second max = writeAnswer (again .0 .sender) defaults 1050 (empty max) (replicate 24 0) (again .1)
+
+abbrev bytes : Wrote × List ℕ × List ℕ → List ℕ
+bytes w = take (w .0 .payload .len) (w .1)
+
+abbrev answer : ℕ → Writing
+answer n = Written record { commands = n; more = false }
+
+-- P10. Default settings, fresh, word 20903C40, written at 1000, limit 1,400: 4D494449 FF010000 20903C40, idle due 1100.
+pub P10 : (first .0 .answer ≡ answer 1) × (bytes first ≡ bytesOf (0x4D494449 ∷ 0xFF010000 ∷ 0x20903C40 ∷ [])) × (first .0 .sender .idle ≡ Waiting record { due = 1100; step = 0; interval = 100 })
+unfolding typeWords divided messagesOf wholeOf slotOf ringStored ringRead headerAt wordsFrom numbered stateOk walkOk popOne popped grown pushed longer appended entryPacket fitting front behind commandsIn commandsOf longMessage above senderValid roomOf needOf joinedTo pushedAll queuedTo queuedOf wordsCheck placedOf sentOf rowOf packetsFrom servedIn servedOf idleNext idledOf sizesOf repeatsOf anyWords writtenOff newSent writtenBy sendAnswer writeAnswer checkOf payloadValid writtenOf bytesOf spliced
+P10 = (refl, refl, refl)
+
+-- P11. Then 20803C00 at 1050, limit 1,400: the same two words after the signature, then FF010001 20803C00; two commands.
+pub P11 : (second 1400 .0 .answer ≡ answer 2) × (bytes (second 1400) ≡ bytesOf (0x4D494449 ∷ 0xFF010000 ∷ 0x20903C40 ∷ 0xFF010001 ∷ 0x20803C00 ∷ []))
+unfolding typeWords divided messagesOf wholeOf slotOf ringStored ringRead headerAt wordsFrom numbered stateOk walkOk popOne popped grown pushed longer appended entryPacket fitting front behind commandsIn commandsOf longMessage above senderValid roomOf needOf joinedTo pushedAll queuedTo queuedOf wordsCheck placedOf sentOf rowOf packetsFrom servedIn servedOf idleNext idledOf sizesOf repeatsOf anyWords writtenOff newSent writtenBy sendAnswer writeAnswer checkOf payloadValid writtenOf bytesOf spliced
+P11 = (refl, refl)
+
+-- P12. With limit 16 instead: only the second, 12 bytes.
+pub P12 : (second 16 .0 .answer ≡ answer 1) × (bytes (second 16) ≡ bytesOf (0x4D494449 ∷ 0xFF010001 ∷ 0x20803C00 ∷ []))
+unfolding typeWords divided messagesOf wholeOf slotOf ringStored ringRead headerAt wordsFrom numbered stateOk walkOk popOne popped grown pushed longer appended entryPacket fitting front behind commandsIn commandsOf longMessage above senderValid roomOf needOf joinedTo pushedAll queuedTo queuedOf wordsCheck placedOf sentOf rowOf packetsFrom servedIn servedOf idleNext idledOf sizesOf repeatsOf anyWords writtenOff newSent writtenBy sendAnswer writeAnswer checkOf payloadValid writtenOf bytesOf spliced
+P12 = (refl, refl)
+
+-- data written at 0: an idle command is written at each due time
+abbrev wroteAt : Sender × List ℕ → ℕ → Sender × List ℕ
+wroteAt s time = let w = writeAnswer (s .0) defaults time (empty 1400) (replicate 40 0) (s .1) in (w .0 .sender, w .2)
+
+abbrev dueIn : IdleTimer → ℕ
+dueIn Off = 0
+dueIn (Waiting i) = i .due
+
+unfoldable pub duesFrom : ℕ → Sender × List ℕ → List ℕ
+duesFrom zero s = []
+duesFrom (suc n) s = dueIn (s .0 .idle) ∷ duesFrom n (wroteAt s (dueIn (s .0 .idle)))
+
+-- Idle commands at 100, 200, 300, 500, 900, 1700, 3300, 6500, then none.
+pub idle-times : duesFrom 9 (wroteAt (queued .0 .sender, queued .1) 0) ≡ (100 ∷ 200 ∷ 300 ∷ 500 ∷ 900 ∷ 1700 ∷ 3300 ∷ 6500 ∷ 0 ∷ [])
+unfolding duesFrom typeWords divided messagesOf wholeOf slotOf ringStored ringRead headerAt wordsFrom numbered stateOk walkOk popOne popped grown pushed longer appended entryPacket fitting front behind commandsIn commandsOf longMessage above senderValid roomOf needOf joinedTo pushedAll queuedTo queuedOf wordsCheck placedOf sentOf rowOf packetsFrom servedIn servedOf idleNext idledOf sizesOf repeatsOf anyWords writtenOff newSent writtenBy sendAnswer writeAnswer checkOf payloadValid writtenOf bytesOf spliced
+idle-times = refl

@@ -6,4 +6,3 @@ pub mod Requests
 pub mod Writing
 pub mod Answers
 pub mod Unwritten
-pub mod Cases
