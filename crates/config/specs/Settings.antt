@@ -2,6 +2,7 @@
 use mathlib.Core.Bool.{cond}
 use lib.Dec.{eqb}
 use Rattle.config.specs.Range.{outside}
+use Rattle.config.specs.declared.refusal.Refusal.{Refusal}
 use Rattle.config.specs.declared.refusal.Refusal.the-variants.{IdleInterval, IdleGrowth, CommandWords}
 use Rattle.config.specs.declared.settings.StreamConfig.{StreamConfig}
 use Rattle.config.specs.declared.settings.Check.{Check}
@@ -13,3 +14,8 @@ checkOf s =
     (cond (outside 1 300 (s .«idle_interval_ms»)) (Refused IdleInterval)
     (cond (eqb (s .«idle_growth») 0) (Refused IdleGrowth)
     Passed))
+
+-- a test, and what is done when it is passed
+abbrev pub tested : {A : Type 0} → Check → (Refusal → A) → A → A
+tested (Refused why) refused go = refused why
+tested Passed refused go = go

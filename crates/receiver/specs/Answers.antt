@@ -3,13 +3,11 @@ use Prim.Native.Nat.{ℕ}
 use mathlib.Core.Bool.{cond, not, _&&_}
 use mathlib.Core.List.{List}
 use lib.ListN.{length}
-use Rattle.config.specs.Settings.{checkOf}
+use Rattle.config.specs.Settings.{checkOf, tested}
 use Rattle.config.specs.Range.{outside}
 use Rattle.config.specs.declared.refusal.Refusal.{Refusal}
 use Rattle.config.specs.declared.refusal.Refusal.the-variants.{SizeNotAllowed, InvalidState}
 use Rattle.config.specs.declared.settings.StreamConfig.{StreamConfig}
-use Rattle.config.specs.declared.settings.Check.{Check}
-use Rattle.config.specs.declared.settings.Check.the-variants.{Passed, Refused as CheckRefused}
 use Rattle.packet.specs.Write.{validOf as payloadValid}
 use Rattle.packet.specs.declared.writer.PayloadWriter.{PayloadWriter}
 use Rattle.command.specs.declared.retransmit.RetransmitError.{RetransmitError}
@@ -30,11 +28,6 @@ use Rattle.receiver.specs.declared.receiver.Deadline.{Deadline}
 use Rattle.receiver.specs.declared.receiver.Deadline.the-variants.{Refused as DeadlineRefused}
 use Rattle.receiver.specs.declared.receiver.Due.{Due}
 use Rattle.receiver.specs.declared.receiver.Due.the-variants.{Is, Refused as DueRefused}
-
--- settings, then the state
-abbrev pub tested : {A : Type 0} → Check → (Refusal → A) → A → A
-tested (CheckRefused why) refused go = refused why
-tested Passed refused go = go
 
 -- 12 when W isn't 1 to 128
 unfoldable pub newAnswer : ℕ → Start

@@ -4,7 +4,7 @@ use mathlib.Core.Bool.{Bool, cond, not, _&&_}
 use mathlib.Core.List.{List, [], _∷_}
 use lib.ListN.{length}
 use Rattle.config.specs.Sequence.{turn}
-use Rattle.config.specs.Settings.{checkOf}
+use Rattle.config.specs.Settings.{checkOf, tested}
 use Rattle.config.specs.declared.refusal.Refusal.the-variants.{InvalidState}
 use Rattle.config.specs.declared.settings.StreamConfig.{StreamConfig}
 use Rattle.packet.specs.Write.{writtenOf, validOf as payloadValid}
@@ -16,7 +16,6 @@ use Rattle.command.specs.declared.retransmit.RetransmitError.{RetransmitError}
 use Rattle.window.specs.declared.window.Span.{Span}
 use Rattle.window.specs.declared.window.Span.the-variants.{Nothing as NoSpan, Of}
 use Rattle.receiver.specs.Receiver.{gapOf, lossOf, errorEvent, noFit}
-use Rattle.receiver.specs.Answers.{tested}
 use Rattle.receiver.specs.declared.receiver.Asked.{Asked}
 use Rattle.receiver.specs.declared.receiver.Asked.the-variants.{Nothing as Unasked, Request as AskedFor}
 use Rattle.receiver.specs.declared.receiver.Delivery.{Delivery}

@@ -6,7 +6,7 @@ use mathlib.Core.Bool.{true, cond, not}
 use mathlib.Core.List.{List, []}
 use lib.ListN.{length}
 use Rattle.config.specs.Sequence.{turn}
-use Rattle.config.specs.Settings.{checkOf}
+use Rattle.config.specs.Settings.{checkOf, tested}
 use Rattle.config.specs.declared.refusal.Refusal.the-variants.{InvalidState}
 use Rattle.config.specs.declared.settings.StreamConfig.{StreamConfig}
 use Rattle.packet.specs.Write.{validOf as payloadValid}
@@ -17,7 +17,7 @@ use Rattle.window.specs.Window.{processed, missingSpan, requestOf}
 use Rattle.window.specs.declared.window.Span.{Span}
 use Rattle.window.specs.declared.window.Span.the-variants.{Nothing, Of}
 use Rattle.receiver.specs.Receiver.{validOf, heardOf, polledOf, erroredOf, nakedOf, takenOf}
-use Rattle.receiver.specs.Answers.{tested, dataAnswer, hearingRefused, pollAnswer, eventRefused, errorAnswer, nakAnswer, takeAnswer, requestRefused}
+use Rattle.receiver.specs.Answers.{dataAnswer, hearingRefused, pollAnswer, eventRefused, errorAnswer, nakAnswer, takeAnswer, requestRefused}
 use Rattle.receiver.specs.declared.receiver.Receiver.{Receiver}
 use Rattle.receiver_log.specs.Calls.{Call, Entry, stepOf, run, AllTyped, Typed}
 use Rattle.receiver_log.specs.Log.{Report, reports, origin, high, times, lost, unprocessed, Missing}

@@ -7,6 +7,7 @@ use native.Mathlib.Omega.{arith}
 use lib.ListN.{length, take, replicate, length-drop}
 use lib.Dec.{ltb, leb, eqb}
 use borrow.Author.Tests.{leb-false, ltb-false}
+use Rattle.config.specs.Settings.{tested}
 use Rattle.config.specs.Sequence.{turn}
 use Rattle.config.specs.declared.refusal.Refusal.the-variants.{Full}
 use Rattle.config.specs.declared.settings.StreamConfig.{StreamConfig}
@@ -29,7 +30,7 @@ use Rattle.history.proofs.States.{state-good}
 use Rattle.sender.specs.State.{validOf, fresh, startOf, resetOf}
 use Rattle.sender.specs.Requests.{notWritten, withQueue, told, notInBuffer, queuedBy, requestedOf}
 use Rattle.sender.specs.Commands.{front, behind}
-use Rattle.sender.specs.Queueing.{tested, roomOf, joining, further, needOf, joinedTo, pushedAll, queuedTo, sent, unsent, queuedOf, wordsCheck, placedOf, sentOf}
+use Rattle.sender.specs.Queueing.{roomOf, joining, further, needOf, joinedTo, pushedAll, queuedTo, sent, unsent, queuedOf, wordsCheck, placedOf, sentOf}
 use Rattle.sender.specs.declared.sender.Send.the-variants.{Accepted}
 use Rattle.sender.specs.declared.sender.Sender.{Sender}
 use Rattle.sender.specs.declared.sender.RequestOutcome.the-variants.{Error, NotSupported}

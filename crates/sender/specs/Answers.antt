@@ -5,7 +5,7 @@ use mathlib.Core.List.{List}
 use lib.ListN.{length}
 use lib.Dec.{eqb}
 use Rattle.config.specs.Range.{outside}
-use Rattle.config.specs.Settings.{checkOf}
+use Rattle.config.specs.Settings.{checkOf, tested}
 use Rattle.config.specs.declared.refusal.Refusal.{Refusal}
 use Rattle.config.specs.declared.refusal.Refusal.the-variants.{SizeNotAllowed, InvalidState}
 use Rattle.config.specs.declared.settings.StreamConfig.{StreamConfig}
@@ -13,7 +13,7 @@ use Rattle.packet.specs.Write.{validOf as payloadValid}
 use Rattle.packet.specs.declared.writer.PayloadWriter.{PayloadWriter}
 use Rattle.command.specs.declared.retransmit.RetransmitRequest.{RetransmitRequest}
 use Rattle.sender.specs.State.{validOf, fresh, startOf, resetOf}
-use Rattle.sender.specs.Queueing.{tested, unsent, sentOf}
+use Rattle.sender.specs.Queueing.{unsent, sentOf}
 use Rattle.sender.specs.Requests.{told, requestedOf, deadlineOf, wantsOf, nextOf}
 use Rattle.sender.specs.Writing.{writtenBy}
 use Rattle.sender.specs.declared.sender.Sender.{Sender}

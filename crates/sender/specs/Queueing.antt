@@ -4,6 +4,7 @@ use mathlib.Core.Bool.{Bool, cond, not}
 use mathlib.Core.List.{List, [], _∷_}
 use lib.ListN.{length}
 use lib.Dec.{ltb, eqb}
+use Rattle.config.specs.Settings.{tested}
 use Rattle.config.specs.declared.refusal.Refusal.{Refusal}
 use Rattle.config.specs.declared.refusal.Refusal.the-variants.{InvalidUmpData, TooLarge, Full}
 use Rattle.config.specs.declared.settings.Check.{Check}
@@ -17,11 +18,6 @@ use Rattle.sender.specs.declared.sender.Sender.{Sender}
 use Rattle.sender.specs.declared.sender.Send.{Send}
 use Rattle.sender.specs.declared.sender.Send.the-variants.{Accepted, Refused}
 use Rattle.sender.specs.declared.sender.Sent.{Sent}
-
--- a test, and what is done when it is passed
-abbrev pub tested : {A : Type 0} → Check → (Refusal → A) → A → A
-tested (CheckRefused why) refused go = refused why
-tested Passed refused go = go
 
 -- the words that the newest unwritten command still takes; none when nothing is unwritten
 unfoldable pub roomOf : Sender → List ℕ → ℕ → ℕ
