@@ -1,0 +1,16 @@
+-- Why the sender over lists of calls holds what it says.
+mod Newest
+mod Held
+pub mod Packets
+pub mod Ties
+mod Requesting
+mod Queueing
+mod Serving
+mod Idling
+mod Writing
+pub mod Follows
+pub mod Runs
+pub mod Rows
+pub mod More
+mod Idle
+mod Cases

@@ -1,0 +1,91 @@
+-- Entries of the ring as data commands are the commands of the list, and commands written in a row.
+use mathlib.Core.Path.{_≡_, refl, sym, ap, _∙_}
+use mathlib.Core.List.{List, [], _∷_, _++_}
+use Prim.Native.Nat.{ℕ, zero, suc, _+_, _-_, _%_, _≤_, _<_}
+use native.Mathlib.Omega.{arith}
+use lib.ListN.{length, take, drop, length-drop}
+use lib.Seq.{drop-cons, drop-append-le, take-append-le, take-nil}
+use Rattle.config.specs.Sequence.{turn, after}
+use Rattle.packet.specs.Layout.{Packet}
+use Rattle.packet.specs.Write.{writtenOf}
+use Rattle.packet.specs.declared.writer.PayloadWriter.{PayloadWriter}
+use Rattle.packet.specs.declared.writer.Write.{Write}
+use Rattle.packet.specs.declared.writer.Write.the-variants.{Done, Refused}
+use Rattle.history.specs.Headers.{nextAt, headerAt, wordsFrom, entriesFrom}
+use Rattle.history.specs.Entries.{size, Holds}
+use Rattle.history.specs.Written.{dataPacket}
+use Rattle.history.specs.declared.history.SendHistory.{SendHistory}
+use Rattle.history.proofs.Entries.{take-entries, drop-entries, size-entries, holds-entries}
+use Rattle.history.proofs.Written.{holds-packet-at}
+use Rattle.sender.specs.Writing.{oneMore, rowOf, packetsFrom}
+use Rattle.sender_log.specs.Writes.{dataFrom}
+
+-- ---- commands as data commands
+
+pub length-data : (n : ℕ) (es : List (List ℕ)) → length (dataFrom n es) ≡ length es
+unfolding dataFrom
+length-data n [] = refl
+length-data n (e ∷ es) = ap suc (length-data (after n 1) es)
+
+pub take-data : (k n : ℕ) (es : List (List ℕ)) → take k (dataFrom n es) ≡ dataFrom n (take k es)
+unfolding dataFrom
+take-data zero n es = refl
+take-data (suc k) n [] = refl
+take-data (suc k) n (e ∷ es) = ap (λ (l : List Packet). dataPacket n e ∷ l) (take-data k (after n 1) es)
+
+pub drop-data : (k n : ℕ) (es : List (List ℕ)) → n < turn → drop k (dataFrom n es) ≡ dataFrom (after n k) (drop k es)
+unfolding dataFrom
+drop-data zero n es l = let e : (n + 0) % 65536 ≡ n = omega arith in rw e
+drop-data (suc k) n [] l = refl
+drop-data (suc k) n (e ∷ es) l =
+    let m : ((n + 1) % 65536 + k) % 65536 ≡ (n + suc k) % 65536 = omega arith in
+    drop-data k (after n 1) es (omega arith) ∙ ap (λ (x : ℕ). dataFrom x (drop k es)) m
+
+pub drop-take : {A : Type 0} (k n : ℕ) (l : List A) → drop k (take (k + n) l) ≡ take n (drop k l)
+drop-take zero n l = let e : 0 + n ≡ n = omega arith in rw e
+drop-take (suc k) n [] = let e : suc k + n ≡ suc (k + n) = omega arith in rw (e, take-nil n)
+drop-take (suc k) n (x ∷ l) = let e : suc k + n ≡ suc (k + n) = omega arith in rw e (drop-take k n l)
+
+-- the k from the j-th on lie among the first
+pub part-append : (j k : ℕ) (xs ys : List (List ℕ)) → j + k ≤ length xs → take k (drop j (xs ++ ys)) ≡ take k (drop j xs)
+part-append j k xs ys l = rw (drop-append-le j xs ys (omega arith)) (take-append-le k (drop j xs) ys (omega (arith, length-drop j xs)))
+
+-- ---- entries of the ring
+
+header-next : (k : ℕ) (b : List ℕ) (i : ℕ) → headerAt (suc k) b i ≡ nextAt b (headerAt k b i)
+unfolding headerAt
+header-next zero b i = refl
+header-next (suc k) b i = header-next k b (nextAt b i)
+
+module _ (h : SendHistory) (ring : List ℕ) (es : List (List ℕ)) (a : Holds h ring es) where
+  -- k entries from entry j on
+  pub packets-data : (k j : ℕ) → j + k ≤ h .count → packetsFrom k ring (headerAt j ring (h .head)) ≡ dataFrom (after (h .oldest) j) (take k (drop j es))
+  unfolding packetsFrom dataFrom
+  packets-data zero j l = refl
+  packets-data (suc k) j l =
+      let n : ((h .oldest + j) % 65536 + 1) % 65536 ≡ (h .oldest + suc j) % 65536 = omega arith in
+      let m : j < length es = omega (arith, a .many) in
+      rw (holds-packet-at h ring es a j (omega arith), drop-cons es j [] m, ← header-next j ring (h .head), packets-data k (suc j) (omega arith), n)
+
+  -- the words that they take
+  pub words-data : (k j : ℕ) → j + k ≤ h .count → wordsFrom k ring (headerAt j ring (h .head)) ≡ size (take k (drop j es))
+  words-data k j l =
+      let e : j + (h .count - j) ≡ h .count = omega arith in
+      let d : drop j (entriesFrom (h .count) ring (h .head)) ≡ entriesFrom (h .count - j) ring (headerAt j ring (h .head)) = rw e at (drop-entries j (h .count - j) ring (h .head)) in
+      sym (size-entries k ring (headerAt j ring (h .head)))
+      ∙ ap size (sym (take-entries k (h .count - j) ring (headerAt j ring (h .head)) (omega arith)))
+      ∙ ap (λ (l : List (List ℕ)). size (take k l)) (sym d)
+      ∙ ap (λ (l : List (List ℕ)). size (take k (drop j l))) (holds-entries h ring es a)
+
+-- ---- commands written in a row
+
+-- no more are written than there are
+pub row-few : (cs : List Packet) (p : PayloadWriter) (b : List ℕ) → rowOf p b cs .written ≤ length cs
+unfolding rowOf
+row-few [] p b = omega arith
+row-few (c ∷ cs) p b = by (writtenOf p b c .0 .answer) (row-few cs (writtenOf p b c .0 .payload) (writtenOf p b c .1))
+  where
+    by : (w : Write) → rowOf (writtenOf p b c .0 .payload) (writtenOf p b c .1) cs .written ≤ length cs
+        → oneMore w (writtenOf p b c .0 .payload) (writtenOf p b c .1) (rowOf (writtenOf p b c .0 .payload) (writtenOf p b c .1) cs) .written ≤ suc (length cs)
+    by Done l = omega arith
+    by (Refused why) l = omega arith

@@ -1,0 +1,7 @@
+-- The sender over whole lists of calls.
+pub mod Book
+pub mod Writes
+pub mod Calls
+pub mod Answers
+pub mod Idle
+pub mod Promise

@@ -1,0 +1,124 @@
+-- What holds of every list of calls on a fresh sender with a history of c words and q places for requests.
+use Prim.Native.Nat.{ℕ, _+_, _<_}
+use mathlib.Core.Path.{_≡_}
+use mathlib.Core.Bool.{true, false, cond, not}
+use mathlib.Core.List.{List, [], _∷_, _++_}
+use lib.ListN.{length}
+use Rattle.packet.specs.Layout.{Packet, sizeOf}
+use Rattle.packet.specs.Write.{limitOf, startOf, validOf as payloadValid}
+use Rattle.packet.specs.declared.writer.PayloadWriter.{PayloadWriter}
+use Rattle.command.specs.declared.retransmit.RetransmitRequest.{RetransmitRequest}
+use Rattle.history.specs.Entries.{size, entriesOf}
+use Rattle.history.specs.Queue.{waiting}
+use Rattle.config.specs.Settings.{checkOf, tested}
+use Rattle.config.specs.declared.refusal.Refusal.{Refusal}
+use Rattle.config.specs.declared.refusal.Refusal.the-variants.{InvalidState}
+use Rattle.config.specs.declared.settings.StreamConfig.{StreamConfig}
+use Rattle.sender.specs.State.{validOf, resetOf}
+use Rattle.sender.specs.Queueing.{unsent, sentOf}
+use Rattle.sender.specs.Requests.{requestedOf, deadlineOf, wantsOf, nextOf}
+use Rattle.sender.specs.Writing.{writtenBy}
+use Rattle.sender.specs.Answers.{newAnswer, resetAnswer, sendAnswer, requestRefused, requestAnswer, deadlineAnswer, wantsAnswer, nextAnswer, writeRefused, writeAnswer}
+use Rattle.sender.specs.declared.sender.Sender.{Sender}
+use Rattle.sender.specs.declared.sender.Start.the-variants.{Done, Refused as StartRefused}
+use Rattle.sender.specs.declared.sender.Reset.the-variants.{Done as ResetDone, Refused as ResetRefused}
+use Rattle.sender.specs.declared.sender.Deadline.the-variants.{Refused as DeadlineRefused}
+use Rattle.sender.specs.declared.sender.Wants.the-variants.{Is, Refused as WantsRefused}
+use Rattle.sender.specs.declared.sender.Next.the-variants.{Number, Refused as NextRefused}
+use Rattle.sender.specs.declared.sender.Writing.the-variants.{Written}
+use Rattle.sender_log.specs.Book.{Book, oldestIn, nothing}
+use Rattle.sender_log.specs.Writes.{newIn, answerIn, writeIn}
+use Rattle.sender_log.specs.Calls.{Call, AllTyped, Typed, stepOf, run}
+use Rattle.sender_log.specs.Answers.{toldOf, bookOf, saidFrom}
+
+-- ---- the state
+
+-- the state that is left passes the state test, and is what the calls say
+pub record Kept (c q : ℕ) (s : Sender) (ring : List ℕ) (b : Book) : Type 0 where
+  pub valid : validOf s ring ≡ true
+  pub words : s .history .size ≡ c
+  pub places : s .queue .size ≡ q
+  pub oldest : s .history .oldest ≡ oldestIn b
+  pub entries : entriesOf (s .history) ring ≡ b .written ++ b .unwritten
+  pub unsent : s .unsent ≡ length (b .unwritten)
+  pub unsent-words : s .«unsent_words» ≡ size (b .unwritten)
+  pub requests : waiting (s .queue) ≡ b .waiting
+  pub idle : s .idle ≡ b .idle
+
+-- no call is refused for the sender's state: what is left are its settings (9, 7, 8), its words and, for a write, the payload
+pub record StateTaken (s : Sender) (ring : List ℕ) : Type 0 where
+  pub queue-words : (cfg : StreamConfig) (ws : List ℕ) → sendAnswer s cfg ring ws ≡ tested (checkOf cfg) (unsent s ring) (sentOf s ring (cfg .«max_command_words») ws)
+  pub retransmit-request : (cfg : StreamConfig) (r : RetransmitRequest) → requestAnswer s cfg ring r ≡ tested (checkOf cfg) (requestRefused s) (requestedOf s cfg r)
+  pub write : (cfg : StreamConfig) (now : ℕ) (p : PayloadWriter) (by : List ℕ)
+      → writeAnswer s cfg now p by ring
+      ≡ tested (checkOf cfg) (writeRefused s p by ring) (cond (not (payloadValid p (length by))) (writeRefused s p by ring InvalidState) (writtenBy s cfg now p by ring))
+  pub deadline : deadlineAnswer s ring ≡ deadlineOf s
+  pub wants : (now : ℕ) → wantsAnswer s ring now ≡ Is (wantsOf s now)
+  pub next : nextAnswer s ring ≡ Number (nextOf s)
+  pub reset : resetAnswer s ring ≡ (record { sender = resetOf s ring .0; answer = ResetDone }, resetOf s ring .1)
+
+-- every call with settings that pass is refused with 13, and so is every call without
+pub record StateRefused (s : Sender) (ring : List ℕ) : Type 0 where
+  pub queue-words : (cfg : StreamConfig) (ws : List ℕ) → sendAnswer s cfg ring ws ≡ tested (checkOf cfg) (unsent s ring) (unsent s ring InvalidState)
+  pub retransmit-request : (cfg : StreamConfig) (r : RetransmitRequest) → requestAnswer s cfg ring r ≡ tested (checkOf cfg) (requestRefused s) (requestRefused s InvalidState)
+  pub write : (cfg : StreamConfig) (now : ℕ) (p : PayloadWriter) (by : List ℕ)
+      → writeAnswer s cfg now p by ring ≡ tested (checkOf cfg) (writeRefused s p by ring) (writeRefused s p by ring InvalidState)
+  pub deadline : deadlineAnswer s ring ≡ DeadlineRefused InvalidState
+  pub wants : (now : ℕ) → wantsAnswer s ring now ≡ WantsRefused InvalidState
+  pub next : nextAnswer s ring ≡ NextRefused InvalidState
+  pub reset : resetAnswer s ring ≡ (record { sender = s; answer = ResetRefused InvalidState }, ring)
+
+-- ---- "more"
+
+-- the next command in order: of the oldest request that waits, else the first unwritten one
+abbrev pub nextBy : Book → List RetransmitRequest → List Packet
+nextBy b [] = newIn b
+nextBy b (r ∷ rs) = answerIn b r
+
+unfoldable pub nextIn : Book → List Packet
+nextIn b = nextBy b (b .waiting)
+
+-- the first of the packets doesn't fit
+abbrev pub NoRoom : PayloadWriter → List ℕ → List Packet → Type 0
+NoRoom p by [] = ⊥
+NoRoom p by (c ∷ cs) = limitOf p (length by) < startOf p + sizeOf c
+
+-- A write answers "more" exactly when a command is left that doesn't fit; without it nothing is left.
+pub record MoreRight (c : ℕ) (b : Book) : Type 0 where
+  pub more : (cfg : StreamConfig) (now : ℕ) (p : PayloadWriter) (by : List ℕ) (n : ℕ)
+      → writeIn c cfg now b p by .answer ≡ Written record { commands = n; more = true }
+      → NoRoom (writeIn c cfg now b p by .payload) (writeIn c cfg now b p by .bytes) (nextIn (writeIn c cfg now b p by .book))
+  pub no-more : (cfg : StreamConfig) (now : ℕ) (p : PayloadWriter) (by : List ℕ) (n : ℕ)
+      → writeIn c cfg now b p by .answer ≡ Written record { commands = n; more = false }
+      → (writeIn c cfg now b p by .book .waiting ≡ []) × (writeIn c cfg now b p by .book .unwritten ≡ [])
+
+-- ---- the theorems
+
+-- a start that isn't refused
+abbrev pub Started : ℕ → ℕ → List ℕ → Type 0
+Started c q memory = newAnswer c q memory .0 .answer ≡ Done
+
+abbrev pub Reached : Type 0
+Reached =
+    (c q : ℕ) (memory : List ℕ) → Started c q memory → (calls : List Call) → AllTyped calls
+    → Kept c q (run c q memory calls .sender) (run c q memory calls .ring) (bookOf c q calls)
+
+abbrev pub NeverInvalid : Type 0
+NeverInvalid =
+    (c q : ℕ) (memory : List ℕ) → Started c q memory → (calls : List Call) → AllTyped calls
+    → StateTaken (run c q memory calls .sender) (run c q memory calls .ring)
+
+-- a start that is refused leaves a sender that every call refuses, whatever history is lent
+abbrev pub NotStarted : Type 0
+NotStarted = (c q : ℕ) (memory : List ℕ) (why : Refusal) → newAnswer c q memory .0 .answer ≡ StartRefused why → (ring : List ℕ) → StateRefused (newAnswer c q memory .0 .sender) ring
+
+-- each answer, and with it the whole log, is settled by the past calls
+pub record AnsweredIn (c q : ℕ) (memory : List ℕ) (calls : List Call) : Type 0 where
+  pub next : (call : Call) → Typed call → stepOf (run c q memory calls .sender) (run c q memory calls .ring) call .entry ≡ toldOf c q (bookOf c q calls) call .entry
+  pub whole : run c q memory calls .log ≡ saidFrom c q nothing [] calls
+
+abbrev pub Answered : Type 0
+Answered = (c q : ℕ) (memory : List ℕ) → Started c q memory → (calls : List Call) → AllTyped calls → AnsweredIn c q memory calls
+
+abbrev pub More : Type 0
+More = (c q : ℕ) (memory : List ℕ) → Started c q memory → (calls : List Call) → AllTyped calls → MoreRight c (bookOf c q calls)
