@@ -64,7 +64,7 @@ pub record Good (p : PayloadWriter) (b : List ℕ) (cs : List Packet) : Type 0 w
   pub holds : bytesIn p b ≡ payloadOf cs
   pub encodable : AllEncodable cs
 
-typed-words : (c : Call) → Typed c → Words32 (commandOf c .words)
+pub typed-words : (c : Call) → Typed c → Words32 (commandOf c .words)
 unfolding Typed Words32
 typed-words (raw code csd1 csd2 ws) t = t
 typed-words (umpData seq ws) t = t

@@ -1,5 +1,5 @@
 -- Laws that this crate's proofs cite, and, marked `pub`, those of the crates above.
-mod Choices
+pub mod Choices
 pub mod Numbers
 mod EndsOf
 pub mod Settled

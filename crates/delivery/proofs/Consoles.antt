@@ -1,0 +1,141 @@
+-- After every list of a console's calls: what its sender holds agrees with the log, and each payload holds what the log says.
+use Prim.Native.Nat.{ℕ, _<_}
+use mathlib.Core.Path.{_≡_}
+use mathlib.Core.Bool.{cond}
+use mathlib.Core.List.{List, [], _∷_, _++_}
+use native.Mathlib.Omega.{arith}
+use lib.Dec.{ltb}
+use lib.ListN.{length}
+use Rattle.config.specs.Range.{outside}
+use Rattle.config.specs.declared.settings.StreamConfig.{StreamConfig}
+use Rattle.config.proofs.Tests.{tests}
+use Rattle.packet.specs.Layout.{Words32}
+use Rattle.packet.specs.Write.{openedOf}
+use Rattle.packet.specs.declared.writer.Opened.{Opened}
+use Rattle.command.specs.declared.retransmit.RetransmitRequest.{RetransmitRequest}
+use Rattle.sender.specs.Answers.{newAnswer, writeAnswer}
+use Rattle.sender.specs.declared.sender.Send.{Send}
+use Rattle.sender.specs.declared.sender.Start.the-variants.{Done}
+use Rattle.sender_log.specs.Book.{Book, nothing, sentIn, requestedIn}
+use Rattle.sender_log.specs.Writes.{writeIn}
+use Rattle.sender_log.specs.Calls.{TypedConfig}
+use Rattle.sender_log.proofs.Follows.{Follows, start-follows, send-follows, request-follows, write-follows}
+use Rattle.receiver_log.proofs.Choices.{by-cond}
+use Rattle.delivery.specs.Commands.{Command, dataIn}
+use Rattle.delivery.specs.Console.{Lent, Call, open-payload, lend-again, queue-words, retransmit-request, write-into, put-into, Entry, queued, noted, Console, Step, noting, payloadAt, openStep, lentAgain, putStep, putInto, writeStep, stepOf, logFrom, freshConsole, Allowed, AllAllowed, accepted, added, held, written, commands, Was, was}
+use Rattle.delivery.proofs.Payloads.{Holds}
+use Rattle.delivery.proofs.Books.{Agrees, nothing-agrees, sent-agrees, requested-agrees}
+use Rattle.delivery.proofs.Writing.{write-grown}
+use Rattle.delivery.proofs.Tags.{on, commands-tagged}
+use Rattle.delivery.proofs.Lent.{Reads, reads-opened, reads-lent, reads-put, reads-more, reads-added, Payloads, none-opened, payloads-quiet, payloads-opened, payloads-stood, payloads-wrote}
+
+module _ (c q : ℕ) where
+  pub record Good (d : Console) (t : List Entry) : Type 0 where
+    pub book : Book
+    pub follows : Follows c q (d .sender) (d .ring) book
+    pub agrees : Agrees c book (accepted t) (commands (written t))
+    pub payloads : Payloads (d .payloads) (written t) t
+
+  abbrev StepGood : List Entry → Step → Type 0
+  StepGood t s = Good (s .console) (s .entry ∷ t)
+
+  -- ---- calls that touch no payload
+
+  quiet-noted : (t : List Entry) (k : ℕ) (v : Lent) → Was (noted ∷ t) k v → Was t k v
+  quiet-noted t k v (was e h) = h
+
+  quiet-queued : (t : List Entry) (cfg : StreamConfig) (ws : List ℕ) (a : Send) (k : ℕ) (v : Lent) → Was (queued cfg ws a ∷ t) k v → Was t k v
+  quiet-queued t cfg ws a k v (was e h) = h
+
+  noted-good : (d : Console) (t : List Entry) → Good d t → StepGood t (noting d)
+  noted-good d t i =
+      record { book = i .book; follows = i .follows; agrees = i .agrees; payloads = payloads-quiet (d .payloads) (written t) t noted (quiet-noted t) (i .payloads) }
+
+  queue-good : (d : Console) (t : List Entry) → Good d t → (cfg : StreamConfig) (ws : List ℕ) → Words32 ws → StepGood t (stepOf d (queue-words cfg ws))
+  unfolding stepOf
+  queue-good d t i cfg ws h =
+      let f = send-follows c q (d .sender) (d .ring) (i .book) (i .follows) cfg ws in
+      record {
+        book = sentIn c (i .book) cfg ws .book;
+        follows = f .0;
+        agrees = rw (f .1) (sent-agrees c (i .book) cfg ws (accepted t) (commands (written t)) (i .agrees) h);
+        payloads = payloads-quiet (d .payloads) (written t) t _ (quiet-queued t cfg ws _) (i .payloads);
+      }
+
+  request-good : (d : Console) (t : List Entry) → Good d t → (cfg : StreamConfig) (r : RetransmitRequest) → StepGood t (stepOf d (retransmit-request cfg r))
+  unfolding stepOf
+  request-good d t i cfg r =
+      record {
+        book = requestedIn q (i .book) cfg r .book;
+        follows = request-follows c q (d .sender) (d .ring) (i .book) (i .follows) cfg r .0;
+        agrees = requested-agrees c q (i .book) cfg r (accepted t) (commands (written t)) (i .agrees);
+        payloads = payloads-quiet (d .payloads) (written t) t noted (quiet-noted t) (i .payloads);
+      }
+
+  -- ---- calls that touch one
+
+  open-good : (d : Console) (t : List Entry) → Good d t → (limit : ℕ) (buffer : List ℕ) → StepGood t (openStep d buffer (openedOf limit))
+  unfolding openedOf
+  open-good d t i limit buffer =
+      by-cond (λ (o : Opened). StepGood t (openStep d buffer o)) (outside 8 1400 limit) _ _ (λ e. noted-good d t i)
+      (λ e. record {
+        book = i .book;
+        follows = i .follows;
+        agrees = i .agrees;
+        payloads = payloads-opened (d .payloads) (written t) t record { payload = record { len = 0; max = limit }; buffer = buffer } (reads-opened limit buffer) (i .payloads);
+      })
+
+  put-good : (d : Console) (t : List Entry) → Good d t → (k : ℕ) (f : Lent → Lent) → ((v : Lent) (cs : List Command) → Reads v cs → Reads (f v) cs)
+      → StepGood t (cond (ltb k (length (d .payloads))) (putStep d k (f (payloadAt d k))) (noting d))
+  put-good d t i k f keeps =
+      by-cond (StepGood t) (ltb k (length (d .payloads))) _ _
+      (λ e.
+      let l : k < length (d .payloads) = omega (arith, tests) in
+      record {
+        book = i .book;
+        follows = i .follows;
+        agrees = i .agrees;
+        payloads = payloads-stood (d .payloads) (written t) t (i .payloads) k l (f (payloadAt d k)) (keeps (payloadAt d k) (on k (written t)) (i .payloads .open-ones k l));
+      })
+      (λ e. noted-good d t i)
+
+  write-good : (d : Console) (t : List Entry) → Good d t → (k : ℕ) (cfg : StreamConfig) (now : ℕ) → TypedConfig cfg → k < length (d .payloads) → StepGood t (writeStep d k cfg now)
+  write-good d t i k cfg now typed l =
+      let v : Lent = payloadAt d k in
+      let w = writeAnswer (d .sender) cfg now (v .payload) (v .buffer) (d .ring) in
+      let u : Lent = record { payload = w .0 .payload; buffer = w .1 } in
+      let f = write-follows c q (d .sender) (d .ring) (i .book) (i .follows) cfg typed now (v .payload) (v .buffer) in
+      let before : Reads v (on k (written t)) = i .payloads .open-ones k l in
+      let g = write-grown c (i .follows .most) (accepted t) cfg now (i .book) (v .payload) (v .buffer) (commands (written t)) (before .packets) (omega (arith, i .follows .least)) (i .agrees) (before .holds) in
+      let holds : Holds (w .0 .payload) (w .1) (before .packets ++ g .more) = rw (f .2, f .3) (g .holds) in
+      let after : Reads u (on k (written t) ++ dataIn (g .more)) = reads-more v u (on k (written t)) before (g .more) holds in
+      let adds : added v u ≡ dataIn (g .more) = reads-added v u (on k (written t)) (dataIn (g .more)) before after in
+      record {
+        book = writeIn c cfg now (i .book) (v .payload) (v .buffer) .book;
+        follows = f .0;
+        agrees = rw (commands-tagged k (held v) (added v u) (written t), adds) (g .agrees);
+        payloads = payloads-wrote (d .payloads) (written t) t (i .payloads) k l u v (w .0 .answer) (dataIn (g .more)) before after;
+      }
+
+  -- ---- every call
+
+  step-good : (d : Console) (t : List Entry) → Good d t → (call : Call) → Allowed call → StepGood t (stepOf d call)
+  unfolding stepOf
+  step-good d t i (open-payload limit buffer) a = open-good d t i limit buffer
+  step-good d t i (lend-again k rest) a = put-good d t i k (lentAgain rest) (reads-lent rest)
+  step-good d t i (queue-words cfg ws) a = queue-good d t i cfg ws a
+  step-good d t i (retransmit-request cfg r) a = request-good d t i cfg r
+  step-good d t i (write-into k cfg now) a =
+      by-cond (StepGood t) (ltb k (length (d .payloads))) _ _ (λ e. write-good d t i k cfg now a (omega (arith, tests))) (λ e. noted-good d t i)
+  step-good d t i (put-into k call) a = put-good d t i k (putInto call) (λ v cs. reads-put call v cs (a .0) (a .1))
+
+  log-good : (calls : List Call) (d : Console) (t : List Entry) → Good d t → AllAllowed calls → (e : Console) × Good e (logFrom d t calls)
+  unfolding logFrom
+  log-good [] d t i a = (d, i)
+  log-good (call ∷ calls) d t i a = log-good calls (stepOf d call .console) (stepOf d call .entry ∷ t) (step-good d t i call (a .0)) (a .1)
+
+  pub console-good : (memory : List ℕ) → newAnswer c q memory .0 .answer ≡ Done → (calls : List Call) → AllAllowed calls
+      → (e : Console) × Good e (logFrom (freshConsole c q memory) [] calls)
+  console-good memory started calls a =
+      log-good calls (freshConsole c q memory) []
+      record { book = nothing; follows = start-follows c q memory started; agrees = nothing-agrees c; payloads = none-opened } a

@@ -1,0 +1,41 @@
+-- 01, "The runs of demand 3": what a chamber's receiver heard and handed on, over its log alone (crate receiver_log). A place is a position plus 65,536.
+use Prim.Native.Nat.{ℕ, zero, suc, _+_, _-_}
+use mathlib.Core.Bool.{Bool, true, false, cond, _&&_}
+use mathlib.Core.List.{List, [], _∷_, _++_}
+use lib.Dec.{eqb}
+use Rattle.receiver.specs.Messages.{handedWords}
+use Rattle.receiver.specs.declared.receiver.Hearing.the-variants.{Delivery as Delivered, Refused as HearingRefused}
+use Rattle.receiver_log.specs.Calls.{Entry, data-entry, poll-entry, error-entry, nak-entry, take-entry}
+use Rattle.receiver_log.specs.Log.{Report, heard, told, origin, high, handsOn, place}
+
+-- heard: a data command that a call takes without refusing
+abbrev pub isHeard : Entry → Bool
+isHeard (data-entry s now seq ws (Delivered d)) = true
+isHeard (data-entry s now seq ws (HearingRefused why)) = false
+isHeard (poll-entry s now e) = false
+isHeard (error-entry q e) = false
+isHeard (nak-entry e) = false
+isHeard (take-entry s p b a q c) = false
+
+-- handed on at a place: the words of heard commands, when they are answered New or Late, in order of time
+abbrev pub delivered : List Report → ℕ → List ℕ
+delivered [] x = []
+delivered (heard seq ws c l ∷ t) x = cond (handsOn (high t) (heard seq ws c l) x) (delivered t x ++ handedWords c ws) (delivered t x)
+delivered (told l ∷ t) x = delivered t x
+
+-- n places from x on, joined in order, and one by one
+abbrev pub joined : (ℕ → List ℕ) → ℕ → ℕ → List ℕ
+joined f x zero = []
+joined f x (suc n) = f x ++ joined f (suc x) n
+
+abbrev pub listed : (ℕ → List ℕ) → ℕ → ℕ → List (List ℕ)
+listed f x zero = []
+listed f x (suc n) = f x ∷ listed f (suc x) n
+
+-- what is handed on, joined in order of command position: every place up to the highest
+unfoldable pub handedOn : List Report → List ℕ
+handedOn t = joined (delivered t) 0 (suc (high t))
+
+-- the same position by position, from position 0 to the highest
+unfoldable pub handedByPosition : List Report → List (List ℕ)
+handedByPosition t = listed (delivered t) origin (suc (high t) - origin)

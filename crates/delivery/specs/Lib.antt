@@ -1,0 +1,6 @@
+-- The contract sentence: a change played is handed to the chamber once, or lies in a reported loss.
+pub mod Commands
+pub mod Positions
+pub mod Console
+pub mod Chamber
+pub mod Sentence

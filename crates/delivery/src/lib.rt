@@ -1,0 +1,23 @@
+// The contract sentence: a change played is handed to the chamber once, or lies in a reported loss.
+// Sender, payloads, line and receiver together, over whole lists of calls at both ends.
+//
+//     console                            line                        chamber
+//     accepted  A B D                                                handed on  A B D
+//        |                                                              ^
+//     queued,   0:A 1:B 2:D   written    payload bytes     heard     position by position
+//        v                       |       any payload, any    |          |
+//     positions of the data      +----->  moment, any  ------+       New or Late; a repeat
+//     commands that writes add            order, often or never      is a Duplicate
+//
+// A console's calls open payloads, lend their buffers again, queue words, take requests, write the
+// stream and other commands; refused calls are among them. What is heard is a data command that
+// reading the bytes of some payload at some moment finds, within reach of the highest heard.
+//
+// There is no state and no code here. The function of `theorems` does nothing, and its contract is a
+// theorem about the definitions of crates `sender` and `receiver`:
+//
+//   contract_sentence   demand 3, both sentences
+//
+// proofs/Example.antt has a run that meets all premises, with a lost, a repeated and a retransmitted
+// payload; proofs/Reach.antt shows what a command out of reach would do.
+pub mod theorems;

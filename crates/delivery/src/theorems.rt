@@ -1,0 +1,10 @@
+// Theorems as contracts: the function does nothing, and its contract is the theorem.
+ghost use Rattle.delivery.specs.Sentence.{Contract};
+
+// Demand 3, both sentences. First: if all that was accepted is written, the sender's newest position,
+// if any, is heard, no loss is reported and nothing is missing, then what is handed on, joined in
+// order of command position, is the accepted message list. Second: whatever arrives, each position is
+// handed on at most once, and if not handed on lies in a reported loss or is still missing.
+pub fn contract_sentence()
+    ensures { λ _. ⌜ Contract ⌝ }
+{}
