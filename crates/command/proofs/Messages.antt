@@ -2,7 +2,7 @@
 use mathlib.Core.Path.{_≡_, refl, sym, ap, _∙_}
 use mathlib.Core.Bool.{Bool, true, false, cond, not, _&&_}
 use mathlib.Core.Logic.{_⊎_, inl, inr}
-use mathlib.Core.List.{List, [], _∷_}
+use mathlib.Core.List.{List, [], _∷_, _++_, append-assoc, append-nil}
 use Prim.Native.Nat.{ℕ, zero, suc, _+_, _-_, _/_, _≤_, _<_}
 use native.Mathlib.Numerals.{add-one}
 use native.Mathlib.Omega.{arith}
@@ -11,7 +11,7 @@ use lib.ListN.{length, take, drop, getD, length-drop, drop-of-length-le}
 use lib.Seq.{drop-cons, drop-drop}
 use borrow.Author.Tests.{leb-true, eqb-true, le-leb, lt-leb}
 use Rattle.config.proofs.Tests.{split, tests, lifts, and-left, and-right, below, below-at}
-use Rattle.command.specs.Messages.{among, typeWords, messageWords, Messages, none, also, divided, messagesOf, wholeOf, messageItem, messageAt, follow, walked, MessagesWalk}
+use Rattle.command.specs.Messages.{among, typeWords, messageWords, Messages, none, also, divided, messagesOf, wholeOf, wordsIn, messageItem, messageAt, follow, walked, MessagesWalk}
 use Rattle.command.specs.declared.message.UmpMessages.{UmpMessages}
 use Rattle.command.specs.declared.message.MessageItem.the-variants.{Message, Truncated, End}
 
@@ -174,3 +174,14 @@ walked-messages (suc f) ws at = step f at ws (drop at ws) refl (λ next. walked-
 pub messages-walk : MessagesWalk
 unfolding messagesOf
 messages-walk ws = walked-messages (length ws) ws 0
+
+-- ---- words joined
+
+pub words-append : (xs ys : List (List ℕ)) → wordsIn (xs ++ ys) ≡ wordsIn xs ++ wordsIn ys
+unfolding wordsIn
+words-append [] ys = refl
+words-append (x ∷ xs) ys = rw (words-append xs ys, append-assoc)
+
+pub words-one : (ws : List ℕ) → wordsIn (ws ∷ []) ≡ ws
+unfolding wordsIn
+words-one ws = append-nil ws

@@ -2,7 +2,7 @@
 use Prim.Native.Nat.{ℕ, zero, suc, _+_, _/_}
 use mathlib.Core.Path.{_≡_}
 use mathlib.Core.Bool.{Bool, true, false, cond, not, _||_}
-use mathlib.Core.List.{List, [], _∷_}
+use mathlib.Core.List.{List, [], _∷_, _++_}
 use lib.ListN.{length, take, drop}
 use lib.Dec.{leb, eqb}
 use Rattle.command.specs.declared.message.UmpMessages.{UmpMessages}
@@ -48,6 +48,11 @@ messagesOf ws = divided (length ws) ws
 
 unfoldable pub wholeOf : List ℕ → Bool
 wholeOf ws = not (messagesOf ws .cut)
+
+-- messages, or commands, one after the other, as words
+unfoldable pub wordsIn : List (List ℕ) → List ℕ
+wordsIn [] = []
+wordsIn (ws ∷ wss) = ws ++ wordsIn wss
 
 -- what the words from index `at` on begin with
 abbrev pub messageItem : ℕ → List ℕ → MessageItem

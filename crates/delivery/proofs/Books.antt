@@ -14,18 +14,17 @@ use Rattle.config.specs.declared.settings.Check.the-variants.{Passed, Refused a
 use Rattle.config.specs.declared.settings.StreamConfig.{StreamConfig}
 use Rattle.config.proofs.Tests.{tests}
 use Rattle.packet.specs.Layout.{Words32}
-use Rattle.command.specs.Messages.{wholeOf}
+use Rattle.command.specs.Messages.{wholeOf, wordsIn}
 use Rattle.command.specs.declared.retransmit.RetransmitRequest.{RetransmitRequest}
 use Rattle.history.specs.Entries.{size, kept}
 use Rattle.history.specs.Queue.{asks}
 use Rattle.history.proofs.Flat.{size-append, size-one, size-first, kept-room}
 use Rattle.sender.specs.Commands.{front, behind, commandsOf}
 use Rattle.sender.specs.Queueing.{wordsCheck}
-use Rattle.sender.specs.Unwritten.{wordsIn}
 use Rattle.sender.proofs.Fronts.{Divides, part-of, divides-behind}
 use Rattle.sender.proofs.Parts.{front-behind, commands-parts}
 use Rattle.sender.proofs.Queued.{check-divides, settings-few}
-use Rattle.sender.proofs.Appends.{words-append, words-one}
+use Rattle.command.proofs.Messages.{words-append, words-one}
 use Rattle.sender_log.specs.Book.{Book, freed, pushedIn, pushedAllIn, joinedLast, joinedIn, roomIn, needIn, queuedIn, QueueIn, sentIn, absentIn, RequestIn, requestedIn}
 use Rattle.receiver_log.proofs.Choices.{by-cond}
 use Rattle.delivery.specs.Commands.{Command}

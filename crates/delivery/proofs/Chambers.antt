@@ -9,8 +9,7 @@ use lib.Dec.{ltb, eqb}
 use lib.ListN.{length, getD}
 use Rattle.config.specs.Sequence.{turn}
 use Rattle.config.proofs.Tests.{split, tests}
-use Rattle.command.specs.Messages.{wholeOf}
-use Rattle.sender.specs.Unwritten.{wordsIn}
+use Rattle.command.specs.Messages.{wholeOf, wordsIn}
 use Rattle.window.specs.Arrival.{reach}
 use Rattle.window.specs.declared.window.Class.{Class}
 use Rattle.window.specs.declared.window.Class.the-variants.{New, Late, Duplicate}

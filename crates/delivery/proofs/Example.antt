@@ -18,7 +18,7 @@ use Rattle.packet.specs.Bytes.{bytesOf, wordsOf, spliced}
 use Rattle.packet.specs.Layout.{Words32}
 use Rattle.packet.specs.Read.{signed, itemsFrom, itemsOf}
 use Rattle.packet.specs.Write.{openedOf, validOf as payloadValid, writtenOf}
-use Rattle.command.specs.Messages.{typeWords, divided, messagesOf, wholeOf}
+use Rattle.command.specs.Messages.{typeWords, divided, messagesOf, wholeOf, wordsIn}
 use Rattle.command.specs.declared.retransmit.RetransmitRequest.{RetransmitRequest}
 use Rattle.history.specs.Ring.{slotOf, ringStored, ringRead}
 use Rattle.history.specs.Headers.{headerAt, wordsFrom, numbered}
@@ -31,7 +31,6 @@ use Rattle.sender.specs.Commands.{fitting, front, behind, commandsIn, commandsO
 use Rattle.sender.specs.State.{validOf}
 use Rattle.sender.specs.Queueing.{roomOf, needOf, joinedTo, pushedAll, queuedTo, queuedOf, wordsCheck, placedOf, sentOf}
 use Rattle.sender.specs.Requests.{requestedOf}
-use Rattle.sender.specs.Unwritten.{wordsIn}
 use Rattle.sender.specs.Writing.{rowOf, packetsFrom, servedIn, servedOf, idleNext, idledOf, sizesOf, repeatsOf, anyWords, writtenOff, newOf, writtenBy}
 use Rattle.sender.specs.declared.sender.Send.the-variants.{Accepted}
 use Rattle.sender.specs.declared.sender.Start.the-variants.{Done}

@@ -9,9 +9,9 @@ use lib.Dec.{leb}
 use lib.ListN.{length, take, drop, length-append, length-drop, take-append-drop}
 use lib.Seq.{drop-append-le, drop-length, length-take-le}
 use Rattle.config.proofs.Tests.{split, tests}
-use Rattle.command.specs.Messages.{messageWords, wholeOf}
+use Rattle.command.specs.Messages.{messageWords, wholeOf, wordsIn}
 use Rattle.command.proofs.Messages.{messages-nil, messages-cons}
-use Rattle.receiver.specs.Messages.{joined, wholeWords}
+use Rattle.receiver.specs.Messages.{wholeWords}
 use Rattle.sender.specs.Commands.{front}
 use Rattle.sender.proofs.Fronts.{First, first-of, front-nil, front-more, front-stop}
 
@@ -70,7 +70,7 @@ front-whole n ws e = by-messages (λ xs. (n : ℕ) → wholeOf (front n xs) ≡ 
 
 -- whole messages are handed on as they are
 pub whole-words : (ws : List ℕ) → wholeOf ws ≡ true → wholeWords ws ≡ ws
-unfolding wholeWords joined
+unfolding wholeWords wordsIn
 whole-words ws e = by-messages (λ xs. wholeWords xs ≡ xs) (rw messages-nil) step ws e
   where
     step : (w : ℕ) (ws : List ℕ) → First (w ∷ ws) (messageWords w) → wholeWords (drop (messageWords w) (w ∷ ws)) ≡ drop (messageWords w) (w ∷ ws) → wholeWords (w ∷ ws) ≡ w ∷ ws

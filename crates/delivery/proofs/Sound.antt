@@ -7,11 +7,11 @@ use native.Mathlib.Omega.{arith}
 use lib.Dec.{ltb}
 use lib.ListN.{length, take, drop, length-append}
 use Rattle.packet.specs.Layout.{Words32}
-use Rattle.command.specs.Messages.{wholeOf}
+use Rattle.command.specs.Messages.{wholeOf, wordsIn}
 use Rattle.history.specs.Entries.{size, kept}
 use Rattle.sender.specs.Commands.{front, behind, commandsIn, commandsOf}
-use Rattle.sender.specs.Unwritten.{wordsIn}
 use Rattle.sender.proofs.Fronts.{Divides, part-of, divides-behind}
+use Rattle.sender_log.proofs.Newest.{size-joined as size-newest}
 use Rattle.sender_log.specs.Book.{joinedLast, roomIn}
 use Rattle.delivery.proofs.Lists.{All, length-none}
 use Rattle.delivery.proofs.Messages.{whole-append, front-whole}
@@ -77,8 +77,7 @@ module _ (max : ℕ) (xs : List ℕ) where
   pub size-joined : (us : List (List ℕ)) → length xs ≤ roomIn max us → size (joinedLast us xs) ≡ size us + length xs
   unfolding roomIn joinedLast size
   size-joined [] l = omega arith
-  size-joined (u ∷ []) l = omega (arith, length-append u xs)
-  size-joined (u ∷ v ∷ us) l = omega (arith, size-joined (v ∷ us) l)
+  size-joined (u ∷ us) l = size-newest u us xs
 
   pub sound-joined : (us : List (List ℕ)) → length xs ≤ roomIn max us → max ≤ 64 → wholeOf xs ≡ true → Words32 xs → All Sound us → All Sound (joinedLast us xs)
   unfolding roomIn joinedLast

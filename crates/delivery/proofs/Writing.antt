@@ -18,11 +18,11 @@ use Rattle.packet.specs.declared.writer.PayloadWriter.{PayloadWriter}
 use Rattle.command.specs.declared.retransmit.RetransmitRequest.{RetransmitRequest}
 use Rattle.history.specs.Entries.{size}
 use Rattle.history.proofs.Flat.{size-append}
-use Rattle.sender.specs.Unwritten.{wordsIn}
+use Rattle.command.specs.Messages.{wordsIn}
 use Rattle.sender.specs.Writing.{rowOf, fitAll, repeatsOf}
 use Rattle.sender.specs.declared.sender.IdleTimer.{IdleTimer}
 use Rattle.sender.specs.declared.sender.IdleTimer.the-variants.{Off, Waiting}
-use Rattle.sender.proofs.Appends.{words-append}
+use Rattle.command.proofs.Messages.{words-append}
 use Rattle.sender_log.specs.Book.{Book, oldestIn, indexIn, absentIn, withWaiting}
 use Rattle.sender_log.specs.Writes.{writtenFrom, newIn, reachIn, answerIn, ServedIn, servedIn, isEmpty, idledBy, idledIn, againIn, writtenOn, WriteIn, newBy, newWritten, writtenIn, writeIn}
 use Rattle.sender_log.proofs.Packets.{take-data}

@@ -12,23 +12,23 @@ use borrow.Author.Tests.{lt-ltb}
 use Rattle.config.proofs.Tests.{split, tests, lifts}
 use Rattle.packet.specs.Bytes.{wordsOf}
 use Rattle.packet.proofs.Reading.{length-wordsOf}
-use Rattle.command.specs.Messages.{messageWords, Messages, messagesOf, messageItem, messageAt}
+use Rattle.command.specs.Messages.{messageWords, Messages, messagesOf, messageItem, messageAt, wordsIn}
 use Rattle.command.proofs.Messages.{typeWords-range, messages-nil, messages-cons, messages-cut}
 use Rattle.window.specs.declared.window.Class.{Class}
-use Rattle.receiver.specs.Messages.{handsOn, joined, wholeWords, itemWords, handedWords, handedBytes, handedCut}
+use Rattle.receiver.specs.Messages.{handsOn, wholeWords, itemWords, handedWords, handedBytes, handedCut}
 
 -- ---- the whole messages at the front of a list of words
 whole-cons : (w : ℕ) (ws : List ℕ) → messageWords w ≤ length (w ∷ ws)
     → wholeWords (w ∷ ws) ≡ take (messageWords w) (w ∷ ws) ++ wholeWords (drop (messageWords w) (w ∷ ws))
-unfolding wholeWords joined
+unfolding wholeWords wordsIn
 whole-cons w ws h = rw (messages-cons w ws h)
 
 whole-cut : (w : ℕ) (ws : List ℕ) → length (w ∷ ws) < messageWords w → wholeWords (w ∷ ws) ≡ []
-unfolding wholeWords joined
+unfolding wholeWords wordsIn
 whole-cut w ws h = rw (messages-cut w ws h)
 
 whole-nil : wholeWords [] ≡ []
-unfolding wholeWords joined
+unfolding wholeWords wordsIn
 whole-nil = rw messages-nil
 
 -- they are a front part, cut where that is not all

@@ -5,7 +5,7 @@ use mathlib.Core.Bool.{Bool, true, false, cond, _&&_}
 use mathlib.Core.List.{List, [], _∷_, _++_}
 use lib.ListN.{length, take}
 use Rattle.packet.specs.Bytes.{wordsOf}
-use Rattle.command.specs.Messages.{messagesOf}
+use Rattle.command.specs.Messages.{messagesOf, wordsIn}
 use Rattle.command.specs.declared.message.MessageItem.{MessageItem}
 use Rattle.command.specs.declared.message.MessageItem.the-variants.{Message, Truncated, End}
 use Rattle.window.specs.declared.window.Class.{Class}
@@ -16,14 +16,9 @@ handsOn (New gap) = true
 handsOn Late = true
 handsOn Duplicate = false
 
--- messages, one after the other, as words
-unfoldable pub joined : List (List ℕ) → List ℕ
-joined [] = []
-joined (m ∷ ms) = m ++ joined ms
-
 -- the words of the whole messages at the front
 unfoldable pub wholeWords : List ℕ → List ℕ
-wholeWords ws = joined (messagesOf ws .whole)
+wholeWords ws = wordsIn (messagesOf ws .whole)
 
 -- the words of a whole message that a walk finds
 abbrev pub itemWords : MessageItem → ℕ

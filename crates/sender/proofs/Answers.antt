@@ -11,11 +11,14 @@ use Rattle.config.specs.declared.refusal.Refusal.{Refusal}
 use Rattle.config.specs.declared.refusal.Refusal.the-variants.{InvalidState}
 use Rattle.config.specs.declared.settings.StreamConfig.{StreamConfig}
 use Rattle.config.specs.declared.settings.Check.the-variants.{Passed, Refused as CheckRefused}
+use Rattle.packet.specs.Write.{validOf as payloadValid}
+use Rattle.packet.specs.declared.writer.PayloadWriter.{PayloadWriter}
 use Rattle.command.specs.declared.retransmit.RetransmitRequest.{RetransmitRequest}
 use Rattle.sender.specs.State.{validOf, startOf, resetOf}
 use Rattle.sender.specs.Queueing.{unsent, sentOf}
 use Rattle.sender.specs.Requests.{requestedOf, deadlineOf, wantsOf, nextOf}
-use Rattle.sender.specs.Answers.{notStarted, newAnswer, resetAnswer, sendAnswer, requestRefused, requestAnswer, deadlineAnswer, wantsAnswer, nextAnswer}
+use Rattle.sender.specs.Writing.{writtenBy}
+use Rattle.sender.specs.Answers.{notStarted, newAnswer, resetAnswer, sendAnswer, requestRefused, requestAnswer, deadlineAnswer, wantsAnswer, nextAnswer, writeRefused, writeAnswer}
 use Rattle.sender.specs.declared.sender.Sender.{Sender}
 use Rattle.sender.specs.declared.sender.Start.the-variants.{Done}
 use Rattle.sender.specs.declared.sender.Started.{Started}
@@ -115,3 +118,22 @@ module _ (s : Sender) (cfg : StreamConfig) (ring : List ℕ) where
     pub request-told : (r : RetransmitRequest) → validOf s ring ≡ true → requestedOf s cfg r ≡ requestAnswer s cfg ring r
     unfolding requestAnswer
     request-told r v = rw (p, v)
+
+-- ---- a write
+module _ (s : Sender) (cfg : StreamConfig) (now : ℕ) (p : PayloadWriter) (b ring : List ℕ) where
+  pub write-settings : (why : Refusal) → checkOf cfg ≡ CheckRefused why → writeRefused s p b ring why ≡ writeAnswer s cfg now p b ring
+  unfolding writeAnswer
+  write-settings why e = rw e
+
+  module _ (k : checkOf cfg ≡ Passed) where
+    pub write-state : validOf s ring ≡ false → writeRefused s p b ring InvalidState ≡ writeAnswer s cfg now p b ring
+    unfolding writeAnswer
+    write-state v = rw (k, v)
+
+    pub write-payload : validOf s ring ≡ true → payloadValid p (length b) ≡ false → writeRefused s p b ring InvalidState ≡ writeAnswer s cfg now p b ring
+    unfolding writeAnswer
+    write-payload v w = rw (k, v, w)
+
+    pub write-written : validOf s ring ≡ true → payloadValid p (length b) ≡ true → writtenBy s cfg now p b ring ≡ writeAnswer s cfg now p b ring
+    unfolding writeAnswer
+    write-written v w = rw (k, v, w)

@@ -6,4 +6,7 @@ mod Questions
 mod Answers
 pub mod Parts
 pub mod Kept
-pub mod Appends
+pub mod Rows
+pub mod Serving
+pub mod Idling
+pub mod Repeating

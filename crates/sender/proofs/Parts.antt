@@ -6,7 +6,7 @@ use native.Mathlib.Omega.{arith}
 use lib.ListN.{length, take, drop, length-drop, take-append-drop}
 use Rattle.history.specs.Entries.{size, Short}
 use Rattle.sender.specs.Commands.{front, behind, commandsOf}
-use Rattle.sender.specs.Unwritten.{wordsIn}
+use Rattle.command.specs.Messages.{wordsIn}
 use Rattle.sender.proofs.Fronts.{Divides, part-of, divides-behind, behind-less, commands-nil, commands-cons}
 
 -- a front and what is behind it

@@ -75,8 +75,11 @@ module _ (s : Sender) (ring : List ℕ) where
         let t : size es ≡ s .history .used = size-entries (s .history .count) ring (s .history .head) ∙ valid-good .words in
         omega (arith, valid-good .room)
 
+    pub valid-few : s .history .count ≤ 32768
+    valid-few = omega (arith, good-few (s .history) ring valid-good, valid-good .room, valid-good .most)
+
     pub valid-small : (s .unsent ≤ 32768) × (s .history .size ≤ 32768)
-    valid-small = (omega (arith, valid-unsent, good-few (s .history) ring valid-good, valid-good .room, valid-good .most), valid-good .most)
+    valid-small = (omega (arith, valid-unsent, valid-few), valid-good .most)
 
     pub valid-last : (s .unsent ≡ 0 → ⊥) → s .history .last < length ring
     valid-last n = good-last (s .history) ring valid-good (let p : 0 < s .unsent = omega arith in omega (arith, valid-unsent))

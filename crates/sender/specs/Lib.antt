@@ -5,4 +5,3 @@ pub mod Queueing
 pub mod Requests
 pub mod Writing
 pub mod Answers
-pub mod Unwritten

@@ -171,6 +171,11 @@ wrote s p n more = record { sender = s; payload = p; answer = Written record { c
 abbrev pub refused : Sender → PayloadWriter → Wrote
 refused s p = record { sender = s; payload = p; answer = Refused TooLarge }
 
+-- what a row leaves of which the first commands repeat `again` written ones
+abbrev pub newRow : Sender → StreamConfig → ℕ → ℕ → List ℕ → ℕ → Row → Wrote × List ℕ
+newRow s cfg now n ring again out =
+    (wrote (writtenOff s cfg now ring (out .written - again)) (out .payload) (n + out .written) (not (out .whole)), out .bytes)
+
 -- n commands were written before; up to R of the last written commands, and the new ones
 abbrev pub newBy : Sender → StreamConfig → ℕ → ℕ → PayloadWriter → List ℕ → List ℕ → List Packet → Wrote × List ℕ
 newBy s cfg now n p b ring [] = (wrote s p n false, b)
@@ -179,7 +184,7 @@ newBy s cfg now n p b ring (first ∷ others) =
     let again = repeatsOf p b first (commandsAt s ring (writtenCount s - r) r) in
     let out = rowOf p b (again ++ (first ∷ others)) in
     cond (not (fitAll p b (first ∷ []))) (cond (eqb (p .len) 0) (refused s p) (wrote s p n true), b)
-    (wrote (writtenOff s cfg now ring (out .written - length again)) (out .payload) (n + out .written) (not (out .whole)), out .bytes)
+    (newRow s cfg now n ring (length again) out)
 
 unfoldable pub newOf : Sender → StreamConfig → ℕ → ℕ → PayloadWriter → List ℕ → List ℕ → Wrote × List ℕ
 newOf s cfg now n p b ring = newBy s cfg now n p b ring (commandsAt s ring (writtenCount s) (s .unsent))

@@ -1,8 +1,9 @@
 // The sender and its calls. Each takes the sender by value and hands it back with its answer; the
 // history's words lie in the lent slice `ring`.
 ghost use mathlib.Core.Path.{_≡_};
-ghost use Rattle.sender.specs.Answers.{newAnswer, resetAnswer, sendAnswer, requestAnswer, deadlineAnswer, wantsAnswer, nextAnswer};
+ghost use Rattle.sender.specs.Answers.{newAnswer, resetAnswer, sendAnswer, requestAnswer, deadlineAnswer, wantsAnswer, nextAnswer, writeAnswer};
 use super::valid;
+use super::writing;
 use command::retransmit::RetransmitError;
 use command::retransmit::RetransmitRequest;
 use config::range::outside;
@@ -202,6 +203,44 @@ impl Sender {
                 Requested {
                     sender: self,
                     outcome: RequestOutcome::Refused(Refusal::InvalidState),
+                }
+            }
+        }
+    }
+
+    // Writes into the payload: waiting retransmits, up to R repeats, and new commands, after a due idle
+    // command was queued. 3 when the first new command is too large for an empty payload.
+    pub fn write(
+        self,
+        cfg: StreamConfig,
+        time: u64,
+        p: PayloadWriter,
+        buf: &mut [u8],
+        ring: &mut [u32],
+    ) -> Wrote
+        ensures { λ r. ⌜ (r, now (buf .exit), now (ring .exit)) ≡ writeAnswer self cfg time p (now (buf .entry)) (now (ring .entry)) ⌝ }
+    {
+        match cfg.check() {
+            Check::Refused(why) => Wrote {
+                sender: self,
+                payload: p,
+                answer: Writing::Refused(why),
+            },
+            Check::Passed => {
+                if valid::is_valid(self, &ring[..]) {
+                    if packet::valid::is_valid(p, buf.len()) {
+                        return writing::write(self, cfg, time, p, buf, ring);
+                    }
+                    return Wrote {
+                        sender: self,
+                        payload: p,
+                        answer: Writing::Refused(Refusal::InvalidState),
+                    };
+                }
+                Wrote {
+                    sender: self,
+                    payload: p,
+                    answer: Writing::Refused(Refusal::InvalidState),
                 }
             }
         }

@@ -1,5 +1,5 @@
 -- Why the sender over lists of calls holds what it says.
-mod Newest
+pub mod Newest
 mod Held
 pub mod Packets
 pub mod Ties

@@ -1,0 +1,523 @@
+// The write over settings, a state and a payload that were tested.
+//
+//   payload:  | what it holds | retransmits | repeats | new commands |
+//
+// Waiting requests are served first; where one does not fit whole, the write ends. Else a due idle
+// command is queued, and up to R of the last written commands are repeated before the new ones.
+ghost use mathlib.Core.Path.{_≡_};
+ghost use mathlib.Core.Bool.{true, false, cond, _||_, not};
+ghost use mathlib.Core.List.{[], _∷_};
+ghost use Prim.Native.Nat.{_+_, _-_, _*_, _≤_, _<_, min};
+ghost use lib.ListN.{length};
+ghost use lib.Dec.{eqb, ltb};
+ghost use Rattle.config.specs.Settings.{checkOf};
+ghost use Rattle.config.specs.declared.settings.Check.the-variants.{Passed};
+ghost use Rattle.packet.specs.Write.{validOf as payloadValid, freeOf};
+ghost use Rattle.command.specs.Write.{errorPacket};
+ghost use Rattle.history.specs.Headers.{lengthAt, headerAt, wordsFrom, entriesFrom};
+ghost use Rattle.history.specs.Entries.{Short};
+ghost use Rattle.history.specs.Queue.{Fit, popped};
+ghost use Rattle.history.specs.Written.{entryPacket};
+ghost use Rattle.sender.specs.State.{validOf};
+ghost use Rattle.sender.specs.Requests.{writtenCount, notWritten, withQueue};
+ghost use Rattle.sender.specs.Writing.{rowOf, packetsFrom, reachOf, answerTo, restOf, servedOf, lastTime, later, idleNext, idledOf, repeatsOf, newRow, newOf, writtenBy};
+ghost use Rattle.sender.specs.declared.sender.IdleTimer.the-variants.{Waiting};
+use super::sender::Idle;
+use super::sender::IdleTimer;
+use super::sender::Sender;
+use super::sender::Writing;
+use super::sender::Written;
+use super::sender::Wrote;
+use command::retransmit::NOT_IN_BUFFER;
+use command::retransmit::RetransmitError;
+use command::retransmit::RetransmitRequest;
+use config::refusal::Refusal;
+use config::sequence;
+use config::settings::StreamConfig;
+use packet::writer::PayloadWriter;
+use packet::writer::Write;
+
+// Commands written one after the other, up to the first that does not fit.
+pub struct Row {
+    pub payload: PayloadWriter,
+    pub written: usize,
+    // Whether all were.
+    pub whole: bool,
+}
+
+// Writes `k` entries of the history from the header at `at` on.
+fn write_entries(p: PayloadWriter, buf: &mut [u8], ring: &[u32], at: usize, k: usize) -> Row
+    requires { ⌜ (payloadValid p (length (now buf)) ≡ true) × (at < length (now ring)) × (65 ≤ length (now ring)) × (length (now ring) ≤ 32768) × Short (entriesFrom k (now ring) at) ⌝ }
+    ensures { λ r. ⌜ rowOf p (now (buf .entry)) (packetsFrom k (now (ring .entry)) at) ≡ record { payload = r .payload; bytes = now (buf .exit); written = r .written; whole = r .whole } ⌝ }
+{
+    let mut q = p;
+    let mut i = at;
+    let mut n = 0;
+    while n < k {
+        let wrote = history::valid::write_entry(q, buf, ring, i);
+        let answer = wrote.answer;
+        q = wrote.payload;
+        match answer {
+            Write::Refused(_) => {
+                return Row {
+                    payload: q,
+                    written: n,
+                    whole: false,
+                };
+            }
+            Write::Done => {
+                i = history::valid::next_index(ring, i);
+                n += 1;
+            }
+        }
+    }
+    Row {
+        payload: q,
+        written: n,
+        whole: true,
+    }
+}
+
+fn write_error(err: RetransmitError, p: PayloadWriter, buf: &mut [u8]) -> Row
+    requires { ⌜ (payloadValid p (length (now buf)) ≡ true) × (err .reason ≤ 1) ⌝ }
+    ensures { λ r. ⌜ rowOf p (now (buf .entry)) (errorPacket err ∷ []) ≡ record { payload = r .payload; bytes = now (buf .exit); written = r .written; whole = r .whole } ⌝ }
+{
+    let wrote = command::valid::write_error(err, p, buf);
+    let payload = wrote.payload;
+    let answer = wrote.answer;
+    match answer {
+        Write::Done => Row {
+            payload,
+            written: 1,
+            whole: true,
+        },
+        Write::Refused(_) => Row {
+            payload,
+            written: 0,
+            whole: false,
+        },
+    }
+}
+
+fn least(a: usize, b: usize) -> usize
+    ensures { λ r. ⌜ r ≡ min a b ⌝ }
+{
+    if a <= b { a } else { b }
+}
+
+// How many commands a request is answered with, of the `left` ones from its number on; count 0 asks
+// for all of them.
+fn reach(count: usize, left: usize) -> usize
+    ensures { λ r. ⌜ r ≡ cond (eqb count 0) left (min count left) ⌝ }
+{
+    if count == 0 {
+        return left;
+    }
+    least(count, left)
+}
+
+// Answers a request with its commands, or with the error if its number left while it waited.
+fn answer(s: Sender, req: RetransmitRequest, p: PayloadWriter, buf: &mut [u8], ring: &[u32]) -> Row
+    requires { ⌜ (validOf s (now ring) ≡ true) × (payloadValid p (length (now buf)) ≡ true) ⌝ }
+    ensures { λ r. ⌜ rowOf p (now (buf .entry)) (answerTo s (now (ring .entry)) req) ≡ record { payload = r .payload; bytes = now (buf .exit); written = r .written; whole = r .whole } ⌝ }
+{
+    let history = s.history;
+    let written = history.count - s.unsent;
+    let k = sequence::distance(history.oldest, req.seq) as usize;
+    if written <= k {
+        return write_error(
+            RetransmitError {
+                reason: NOT_IN_BUFFER,
+                seq: history.oldest,
+            },
+            p,
+            buf,
+        );
+    }
+    let at = history::valid::index_of(history, ring, k);
+    write_entries(p, buf, ring, at, reach(req.count as usize, written - k))
+}
+
+// What of a request is left in front after `n` of its commands.
+fn rest(s: Sender, req: RetransmitRequest, n: usize) -> Sender
+    requires { ⌜ Fit (s .queue) × (0 < s .queue .len) × (s .unsent ≤ s .history .count) × (s .history .count ≤ 32768) × (notWritten s (req .seq) ≡ false → n ≤ reachOf s req) ⌝ }
+    ensures { λ r. ⌜ r ≡ restOf s req n ⌝ }
+{
+    let history = s.history;
+    let queue = s.queue;
+    let idle = s.idle;
+    let written = history.count - s.unsent;
+    let k = sequence::distance(history.oldest, req.seq) as usize;
+    if written <= k {
+        return s;
+    }
+    let left = reach(req.count as usize, written - k);
+    Sender {
+        history,
+        queue: history::valid::set_front(
+            queue,
+            RetransmitRequest {
+                seq: sequence::add(req.seq, n as u16),
+                count: (left - n) as u16,
+            },
+        ),
+        unsent: s.unsent,
+        unsent_words: s.unsent_words,
+        idle,
+    }
+}
+
+// Whether a request leaves the ring: all is written, or its first command or error is too large for
+// an empty payload.
+fn leaves(out: Row) -> bool
+    ensures { λ r. ⌜ r ≡ (out .whole || eqb (out .payload .len) 0) ⌝ }
+{
+    if out.whole {
+        return true;
+    }
+    let payload = out.payload;
+    payload.len == 0
+}
+
+fn pop(s: Sender) -> Sender
+    requires { ⌜ Fit (s .queue) × (0 < s .queue .len) ⌝ }
+    ensures { λ r. ⌜ r ≡ withQueue s (popped (s .queue)) ⌝ }
+{
+    let history = s.history;
+    let queue = s.queue;
+    let idle = s.idle;
+    let out = history::valid::pop(queue);
+    let next = out.queue;
+    Sender {
+        history,
+        queue: next,
+        unsent: s.unsent,
+        unsent_words: s.unsent_words,
+        idle,
+    }
+}
+
+// What serving the waiting requests has come to.
+pub struct Served {
+    pub sender: Sender,
+    pub payload: PayloadWriter,
+    pub written: usize,
+    // A request waits for which the payload has no space.
+    pub more: bool,
+}
+
+// Serves the waiting requests, the oldest first.
+fn serve(s: Sender, p: PayloadWriter, buf: &mut [u8], ring: &[u32]) -> Served
+    requires { ⌜ (validOf s (now ring) ≡ true) × (payloadValid p (length (now buf)) ≡ true) ⌝ }
+    ensures { λ r. ⌜ servedOf s (now (ring .entry)) p (now (buf .entry)) ≡ record { sender = r .sender; payload = r .payload; bytes = now (buf .exit); written = r .written; more = r .more } ⌝ }
+{
+    let queue = s.queue;
+    let mut left = queue.len;
+    let mut g = s;
+    let mut q = p;
+    let mut n = 0;
+    while 0 < left {
+        let waiting = g.queue;
+        let head = waiting.head;
+        let req = waiting.items[head];
+        let out = answer(g, req, q, buf, ring);
+        q = out.payload;
+        n += out.written;
+        if leaves(out) {
+            g = pop(g);
+            left -= 1;
+        } else {
+            return Served {
+                sender: rest(g, req, out.written),
+                payload: q,
+                written: n,
+                more: true,
+            };
+        }
+    }
+    Served {
+        sender: g,
+        payload: q,
+        written: n,
+        more: false,
+    }
+}
+
+// The time `wait` after `time`, at most the last one.
+fn later_by(time: u64, wait: u64) -> u64
+    ensures { λ r. ⌜ r ≡ later time wait ⌝ }
+{
+    if u64::MAX - time < wait {
+        return u64::MAX;
+    }
+    time + wait
+}
+
+fn grown(interval: u64, growth: u32) -> u64
+    requires { ⌜ 0 < growth ⌝ }
+    ensures { λ r. ⌜ r ≡ min (interval * growth) lastTime ⌝ }
+{
+    let times = growth as u64;
+    if u64::MAX / times < interval {
+        return u64::MAX;
+    }
+    interval * times
+}
+
+// The schedule after an idle command is queued: 1 + R at steps of T1, then K more, each step G times
+// the one before.
+fn idle_next(cfg: StreamConfig, time: u64, i: Idle) -> IdleTimer
+    requires { ⌜ (checkOf cfg ≡ Passed) × (i .step ≤ 510) ⌝ }
+    ensures { λ r. ⌜ r ≡ idleNext cfg time i ⌝ }
+{
+    let step = i.step + 1;
+    let repeats = cfg.fec_repeats as u16;
+    let further = cfg.idle_further as u16;
+    if step <= repeats {
+        return IdleTimer::Waiting(Idle {
+            due: later_by(time, i.interval),
+            step,
+            interval: i.interval,
+        });
+    }
+    if step < 1 + repeats + further {
+        let interval = grown(i.interval, cfg.idle_growth);
+        return IdleTimer::Waiting(Idle {
+            due: later_by(time, interval),
+            step,
+            interval,
+        });
+    }
+    IdleTimer::Off
+}
+
+// Queues an idle command if one is due and no command is unwritten.
+fn queue_idle(s: Sender, cfg: StreamConfig, time: u64, ring: &mut [u32]) -> Sender
+    requires { ⌜ (checkOf cfg ≡ Passed) × (validOf s (now ring) ≡ true) ⌝ }
+    ensures { λ r. ⌜ (r, now (ring .exit)) ≡ idledOf s cfg time (now (ring .entry)) ⌝ }
+{
+    let history = s.history;
+    let queue = s.queue;
+    let idle = s.idle;
+    match idle {
+        IdleTimer::Off => s,
+        IdleTimer::Waiting(i) => {
+            if 0 < s.unsent {
+                return s;
+            }
+            if time < i.due {
+                return s;
+            }
+            Sender {
+                history: history::valid::push(history, ring, &[0u32; 0]),
+                queue,
+                unsent: s.unsent + 1,
+                unsent_words: s.unsent_words + 1,
+                idle: idle_next(cfg, time, i),
+            }
+        }
+    }
+}
+
+// Where a walk over entries has come to, and the words that they take.
+pub struct Walked {
+    pub at: usize,
+    pub words: usize,
+}
+
+// Walks over `k` entries from the header at `at` on.
+fn walk(ring: &[u32], at: usize, k: usize) -> Walked
+    requires { ⌜ (at < length (now ring)) × (65 ≤ length (now ring)) × (length (now ring) ≤ 32768) × Short (entriesFrom k (now ring) at) × (wordsFrom k (now ring) at ≤ 32768) ⌝ }
+    ensures { λ r. ⌜ (r .at ≡ headerAt k (now (ring .entry)) at) × (r .at < length (now (ring .entry))) × (r .words ≡ wordsFrom k (now (ring .entry)) at) ⌝ }
+{
+    let mut i = at;
+    let mut words = 0;
+    let mut left = k;
+    while 0 < left {
+        words += 1 + history::valid::pl(ring, i);
+        i = history::valid::next_index(ring, i);
+        left -= 1;
+    }
+    Walked { at: i, words }
+}
+
+// The commands that are repeated: the first one's header, how many, and the words that they take.
+pub struct Repeated {
+    pub at: usize,
+    pub count: usize,
+    pub words: usize,
+}
+
+// Of `k` entries from the header at `at` on, which take `words` words, those that fit beside the one
+// at `first`; the oldest are dropped first.
+fn repeats(
+    p: PayloadWriter,
+    buf: &[u8],
+    ring: &[u32],
+    at: usize,
+    k: usize,
+    words: usize,
+    first: usize,
+) -> Repeated
+    requires { ⌜ (at < length (now ring)) × (65 ≤ length (now ring)) × (length (now ring) ≤ 32768) × Short (entriesFrom k (now ring) at) × (words ≡ wordsFrom k (now ring) at) × (first < length (now ring)) × (lengthAt (now ring) first < freeOf p (length (now buf))) ⌝ }
+    ensures { λ r. ⌜ (packetsFrom (r .count) (now (ring .entry)) (r .at) ≡ repeatsOf p (now (buf .entry)) (entryPacket (now (ring .entry)) first) (packetsFrom k (now (ring .entry)) at)) × (r .count ≤ k) × (r .at ≡ headerAt (k - r .count) (now (ring .entry)) at) × (r .words ≡ wordsFrom (r .count) (now (ring .entry)) (r .at)) × (r .words < freeOf p (length (now (buf .entry)))) ⌝ }
+{
+    let free = packet::valid::free_words(p, buf.len());
+    let room = free - (1 + history::valid::pl(ring, first));
+    let mut i = at;
+    let mut count = k;
+    let mut left = words;
+    while room < left {
+        left -= 1 + history::valid::pl(ring, i);
+        i = history::valid::next_index(ring, i);
+        count -= 1;
+    }
+    Repeated {
+        at: i,
+        count,
+        words: left,
+    }
+}
+
+// The sender after `n` of its unwritten commands were written, which take `words` words; one with
+// words among them starts the idle schedule.
+fn written_off(s: Sender, cfg: StreamConfig, time: u64, n: usize, words: usize) -> Sender
+    requires { ⌜ (n ≤ s .unsent) × (words ≤ s .«unsent_words») ⌝ }
+    ensures { λ r. ⌜ r ≡ record { history = s .history; queue = s .queue; unsent = s .unsent - n; «unsent_words» = s .«unsent_words» - words; idle = cond (ltb n words) (Waiting record { due = later time (cfg .«idle_interval_ms»); step = 0; interval = cfg .«idle_interval_ms» }) (s .idle) } ⌝ }
+{
+    let history = s.history;
+    let queue = s.queue;
+    let idle = s.idle;
+    let unsent = s.unsent - n;
+    let unsent_words = s.unsent_words - words;
+    if n < words {
+        let interval = cfg.idle_interval_ms as u64;
+        return Sender {
+            history,
+            queue,
+            unsent,
+            unsent_words,
+            idle: IdleTimer::Waiting(Idle {
+                due: later_by(time, interval),
+                step: 0,
+                interval,
+            }),
+        };
+    }
+    Sender {
+        history,
+        queue,
+        unsent,
+        unsent_words,
+        idle,
+    }
+}
+
+// Writes the repeats and the unwritten commands, as far as they fit. What the payload has less of free
+// words is what they take.
+fn write_row(
+    s: Sender,
+    cfg: StreamConfig,
+    time: u64,
+    before: usize,
+    p: PayloadWriter,
+    buf: &mut [u8],
+    ring: &[u32],
+    again: Repeated,
+) -> Wrote
+    requires { ⌜ (validOf s (now ring) ≡ true) × (payloadValid p (length (now buf)) ≡ true) × (before ≤ 350) × (again .count ≤ writtenCount s) × (again .at ≡ headerAt (writtenCount s - again .count) (now ring) (s .history .head)) × (again .words ≡ wordsFrom (again .count) (now ring) (again .at)) × (again .words < freeOf p (length (now buf))) ⌝ }
+    ensures { λ r. ⌜ (r, now (buf .exit)) ≡ newRow s cfg time before (now (ring .entry)) (again .count) (rowOf p (now (buf .entry)) (packetsFrom (again .count + s .unsent) (now (ring .entry)) (again .at))) ⌝ }
+{
+    let free = packet::valid::free_words(p, buf.len());
+    let out = write_entries(p, buf, ring, again.at, again.count + s.unsent);
+    let payload = out.payload;
+    let took = free - packet::valid::free_words(payload, buf.len());
+    let n = out.written - again.count;
+    Wrote {
+        sender: written_off(s, cfg, time, n, took - again.words),
+        payload,
+        answer: Writing::Written(Written {
+            commands: before + out.written,
+            more: !out.whole,
+        }),
+    }
+}
+
+// Writes up to R of the last written commands, and the new ones; `before` commands were written
+// before. 3 when the first new one is too large for an empty payload.
+fn write_new(
+    s: Sender,
+    cfg: StreamConfig,
+    time: u64,
+    before: usize,
+    p: PayloadWriter,
+    buf: &mut [u8],
+    ring: &[u32],
+) -> Wrote
+    requires { ⌜ (validOf s (now ring) ≡ true) × (payloadValid p (length (now buf)) ≡ true) × (before ≤ 350) ⌝ }
+    ensures { λ r. ⌜ (r, now (buf .exit)) ≡ newOf s cfg time before p (now (buf .entry)) (now (ring .entry)) ⌝ }
+{
+    if s.unsent == 0 {
+        return Wrote {
+            sender: s,
+            payload: p,
+            answer: Writing::Written(Written {
+                commands: before,
+                more: false,
+            }),
+        };
+    }
+    let history = s.history;
+    let written = history.count - s.unsent;
+    let k = least(cfg.fec_repeats as usize, written);
+    let at = history::valid::index_of(history, ring, written - k);
+    let last = walk(ring, at, k);
+    let first = last.at;
+    if packet::valid::free_words(p, buf.len()) <= history::valid::pl(ring, first) {
+        if p.len == 0 {
+            return Wrote {
+                sender: s,
+                payload: p,
+                answer: Writing::Refused(Refusal::TooLarge),
+            };
+        }
+        return Wrote {
+            sender: s,
+            payload: p,
+            answer: Writing::Written(Written {
+                commands: before,
+                more: true,
+            }),
+        };
+    }
+    let again = repeats(p, &buf[..], ring, at, k, last.words, first);
+    write_row(s, cfg, time, before, p, buf, ring, again)
+}
+
+pub fn write(
+    s: Sender,
+    cfg: StreamConfig,
+    time: u64,
+    p: PayloadWriter,
+    buf: &mut [u8],
+    ring: &mut [u32],
+) -> Wrote
+    requires { ⌜ (checkOf cfg ≡ Passed) × (validOf s (now ring) ≡ true) × (payloadValid p (length (now buf)) ≡ true) ⌝ }
+    ensures { λ r. ⌜ (r, now (buf .exit), now (ring .exit)) ≡ writtenBy s cfg time p (now (buf .entry)) (now (ring .entry)) ⌝ }
+{
+    let served = serve(s, p, buf, &ring[..]);
+    let next = served.sender;
+    let payload = served.payload;
+    if served.more {
+        return Wrote {
+            sender: next,
+            payload,
+            answer: Writing::Written(Written {
+                commands: served.written,
+                more: true,
+            }),
+        };
+    }
+    let idled = queue_idle(next, cfg, time, ring);
+    write_new(idled, cfg, time, served.written, payload, buf, &ring[..])
+}
