@@ -2,21 +2,20 @@
 use mathlib.Core.Path.{_≡_, refl, sym, ap, _∙_}
 use mathlib.Core.Bool.{Bool, true, false, cond, _||_}
 use mathlib.Core.Logic.{inl, inr}
-use mathlib.Core.List.{List, [], _∷_}
+use mathlib.Core.List.{List, []}
 use Prim.Native.Nat.{ℕ, _+_, _-_, _*_, _/_, _≤_, _<_, min}
 use native.Mathlib.Nat.{le-div-iff-mul-le, div-lt-iff-lt-mul}
 use native.Mathlib.Omega.{arith}
 use lib.ListN.{length, drop}
 use lib.Seq.{drop-length}
 use lib.Dec.{leb, ltb, eqb}
-use borrow.Author.Tests.{lt-ltb, le-ltb, le-leb, lt-leb, leb-true, eqb-false, ltb-false}
+use borrow.Author.Tests.{lt-ltb, le-ltb, le-leb, lt-leb, leb-true, ltb-false}
 use Rattle.config.proofs.Tests.{split, tests, lifts}
 use Rattle.config.specs.Range.{outside}
 use Rattle.config.specs.Sequence.{turn}
 use Rattle.config.specs.Settings.{checkOf}
 use Rattle.config.specs.declared.refusal.Refusal.the-variants.{IdleInterval, IdleGrowth, CommandWords}
 use Rattle.config.specs.declared.settings.StreamConfig.{StreamConfig}
-use Rattle.config.specs.declared.settings.Check.{Check}
 use Rattle.config.specs.declared.settings.Check.the-variants.{Passed, Refused}
 use Rattle.history.specs.Push.{pushed}
 use Rattle.history.specs.Entries.{size, entriesOf}
@@ -30,7 +29,8 @@ use Rattle.sender.specs.declared.sender.Idle.{Idle}
 use Rattle.sender.specs.declared.sender.IdleTimer.{IdleTimer}
 use Rattle.sender.specs.declared.sender.IdleTimer.the-variants.{Off, Waiting}
 use Rattle.sender.specs.declared.sender.Sender.{Sender}
-use Rattle.sender.proofs.Validity.{passes, valid-history, valid-queue, valid-idle, valid-good}
+use Rattle.sender.proofs.Queued.{pushed-good}
+use Rattle.sender.proofs.Validity.{passes, valid-history, valid-queue, valid-good}
 
 -- ---- an interval that grows
 module _ (i g : ℕ) (some : 0 < g) where
@@ -137,3 +137,14 @@ module _ (s : Sender) (cfg : StreamConfig) (now : ℕ) (ring : List ℕ) (v : va
 
   pub idled-next : (next : Sender) (words : List ℕ) → (next, words) ≡ idledOf s cfg now ring → validOf next words ≡ true
   idled-next next words e = rw (← e) at idled-kept
+
+  pub idled-number : idledOf s cfg now ring .0 .history .oldest < turn
+  unfolding idledOf
+  idled-number = by (s .idle)
+    where
+      by : (t : IdleTimer) → idledBy s cfg now ring t .0 .history .oldest < turn
+      by Off = o
+      by (Waiting i) = elim (split (ltb 0 (s .unsent) || ltb now (i .due))) [
+        | inl a ↦ rw a o
+        | inr a ↦ rw a (pushed-good (s .history) ring [] (valid-good s ring v) o (omega arith) .1)
+      ]

@@ -1,10 +1,10 @@
 -- Each call keeps a state that passes the state test.
-use mathlib.Core.Path.{_≡_, refl, sym, ap, _∙_}
+use mathlib.Core.Path.{_≡_, refl, ap, _∙_}
 use mathlib.Core.Bool.{Bool, true, false, cond, not}
 use mathlib.Core.List.{List, [], _∷_, _++_}
-use Prim.Native.Nat.{ℕ, zero, suc, _+_, _-_, _≤_, _<_}
+use Prim.Native.Nat.{ℕ, zero, suc, _+_, _-_, _≤_, _<_, min}
 use native.Mathlib.Omega.{arith}
-use lib.ListN.{length, take, replicate, length-drop}
+use lib.ListN.{length, take, replicate, length-drop, length-append}
 use lib.Dec.{ltb, leb, eqb}
 use borrow.Author.Tests.{leb-false, ltb-false}
 use Rattle.config.specs.Settings.{tested}
@@ -13,11 +13,14 @@ use Rattle.config.specs.declared.refusal.Refusal.the-variants.{Full}
 use Rattle.config.specs.declared.settings.StreamConfig.{StreamConfig}
 use Rattle.config.specs.declared.settings.Check.{Check}
 use Rattle.config.specs.declared.settings.Check.the-variants.{Passed, Refused as CheckRefused}
+use Rattle.packet.specs.Layout.{Packet}
+use Rattle.packet.specs.Write.{validOf as payloadValid}
+use Rattle.packet.specs.declared.writer.PayloadWriter.{PayloadWriter}
 use Rattle.command.specs.declared.retransmit.RetransmitRequest.{RetransmitRequest}
-use Rattle.history.specs.State.{fresh as noneHeld, stateOk}
-use Rattle.history.specs.Queue.{Fit, noneWait, queueOk, behind as behindAll, asks, waiting, answered, pushAnswer}
-use Rattle.history.specs.Push.{popped, grown, pushed, longer, appended}
-use Rattle.history.specs.Headers.{lengthAt}
+use Rattle.history.specs.State.{stateOk}
+use Rattle.history.specs.Queue.{noneWait, queueOk, behind as behindAll, asks, waiting, answered, pushAnswer}
+use Rattle.history.specs.Push.{grown, pushed, longer, appended}
+use Rattle.history.specs.Headers.{lengthAt, entrySize, nextAt, headerAt, wordsFrom}
 use Rattle.history.specs.Entries.{size, Short}
 use Rattle.history.specs.declared.history.SendHistory.{SendHistory}
 use Rattle.history.specs.declared.queue.RetransmitQueue.{RetransmitQueue}
@@ -25,19 +28,26 @@ use Rattle.history.specs.declared.queue.Ignored.the-variants.{Pending, Full as 
 use Rattle.history.specs.declared.queue.Push.the-variants.{Queued as PushQueued, Ignored as PushIgnored}
 use Rattle.history.proofs.Effects.{popped-size}
 use Rattle.history.proofs.Queues.{queue-fit, fit-queue}
-use Rattle.history.proofs.Reached.{fresh-state, pushed-state}
+use Rattle.history.proofs.Reached.{fresh-state, pushed-state, written-state}
 use Rattle.history.proofs.States.{state-good}
-use Rattle.sender.specs.State.{validOf, fresh, startOf, resetOf}
-use Rattle.sender.specs.Requests.{notWritten, withQueue, told, notInBuffer, queuedBy, requestedOf}
+use Rattle.sender.specs.State.{idleOk, validOf, fresh, startOf, resetOf}
+use Rattle.sender.specs.Requests.{writtenCount, notWritten, withQueue, told, notInBuffer, queuedBy, requestedOf}
 use Rattle.sender.specs.Commands.{front, behind}
 use Rattle.sender.specs.Queueing.{roomOf, joining, further, needOf, joinedTo, pushedAll, queuedTo, sent, unsent, queuedOf, wordsCheck, placedOf, sentOf}
+use Rattle.sender.specs.Writing.{rowOf, packetsFrom, commandsAt, later, idledOf, fitAll, repeatsOf, anyWords, writtenOff, wrote, refused, newRow, newBy, newOf, servedOf, writtenBy}
+use Rattle.sender.specs.declared.sender.IdleTimer.the-variants.{Waiting}
 use Rattle.sender.specs.declared.sender.Send.the-variants.{Accepted}
+use Rattle.sender.specs.declared.sender.Wrote.{Wrote}
 use Rattle.sender.specs.declared.sender.Sender.{Sender}
 use Rattle.sender.specs.declared.sender.RequestOutcome.the-variants.{Error, NotSupported}
-use Rattle.sender.proofs.Validity.{passes, valid-history, valid-queue, valid-idle, valid-good, valid-fit, valid-words}
+use Rattle.sender.proofs.Packets.{length-packets, header-add}
+use Rattle.sender.proofs.Validity.{passes, valid-history, valid-queue, valid-idle, valid-good, valid-fit, valid-unsent, valid-words}
 use Rattle.sender.proofs.Queued.{pushed-good, check-divides, join-some, joined-state, joined-number}
 use Rattle.sender.proofs.Fronts.{Divides, part-of, divides-behind}
 use Rattle.sender.proofs.Parts.{commands-parts}
+use Rattle.sender.proofs.Rows.{row-few, row-length, row-valid}
+use Rattle.sender.proofs.Serving.{served-sound}
+use Rattle.sender.proofs.Idling.{idled-kept, idled-number}
 
 -- ---- a start and a reset
 pub start-kept : (words places : ℕ) (ring : List ℕ) → 65 ≤ words → words ≤ 32768 → 1 ≤ places → places ≤ 16 → length ring ≡ words
@@ -165,3 +175,74 @@ module _ (s : Sender) (ring : List ℕ) (max : ℕ) (ws : List ℕ) (v : validOf
       by true k e = v
       by false (CheckRefused why) e = v
       by false Passed e = placed-kept (check-divides max ws e)
+
+-- ---- a write
+off-state : (n : ℕ) (h : SendHistory) (ring : List ℕ) (unsent words : ℕ) → h .oldest < turn → n ≤ unsent → unsent ≤ h .count → stateOk h ring unsent words ≡ true
+    → stateOk h ring (unsent - n) (words - wordsFrom n ring (headerAt (h .count - unsent) ring (h .head))) ≡ true
+unfolding wordsFrom headerAt
+off-state zero h ring unsent words o l m ok =
+    let a : unsent - 0 ≡ unsent = omega arith in
+    let b : words - 0 ≡ words = omega arith in
+    rw (a, b) ok
+off-state (suc n) h ring unsent words o l m ok =
+    let i : ℕ = headerAt (h .count - unsent) ring (h .head) in
+    let one = written-state h ring unsent words ok o (omega arith) in
+    let all = off-state n h ring (unsent - 1) (words - entrySize ring i) o (omega arith) (omega arith) one in
+    let c : h .count - (unsent - 1) ≡ h .count - unsent + 1 = omega arith in
+    let next : headerAt (h .count - (unsent - 1)) ring (h .head) ≡ nextAt ring i = ap (λ (k : ℕ). headerAt k ring (h .head)) c ∙ header-add (h .count - unsent) 1 ring (h .head) in
+    let a : unsent - 1 - n ≡ unsent - suc n = omega arith in
+    let b : words - entrySize ring i - wordsFrom n ring (nextAt ring i) ≡ words - (entrySize ring i + wordsFrom n ring (nextAt ring i)) = omega arith in
+    rw (next, a, b) at all
+
+-- the state, the payload and the buffer's length after a write
+abbrev pub Leaves : List ℕ → Wrote × List ℕ × List ℕ → Type 0
+Leaves b w = (validOf (w .0 .sender) (w .2) ≡ true) × (payloadValid (w .0 .payload) (length (w .1)) ≡ true) × (length (w .1) ≡ length b)
+
+off-kept : (s : Sender) (cfg : StreamConfig) (now : ℕ) (ring : List ℕ) (n : ℕ) → validOf s ring ≡ true → s .history .oldest < turn → n ≤ s .unsent → validOf (writtenOff s cfg now ring n) ring ≡ true
+unfolding writtenOff
+off-kept s cfg now ring n v o l =
+    passes _ ring (off-state n (s .history) ring (s .unsent) (s .«unsent_words») o l (valid-unsent s ring v) (valid-history s ring v)) (valid-queue s ring v)
+    (by (anyWords (packetsFrom n ring (headerAt (writtenCount s) ring (s .history .head)))))
+  where
+    by : (t : Bool) → idleOk (cond t (Waiting record { due = later now (cfg .«idle_interval_ms»); step = 0; interval = cfg .«idle_interval_ms» }) (s .idle)) ≡ true
+    by true = refl
+    by false = valid-idle s ring v
+
+module _ (s : Sender) (cfg : StreamConfig) (now n : ℕ) (p : PayloadWriter) (b ring : List ℕ) (v : validOf s ring ≡ true) (o : s .history .oldest < turn) (k : payloadValid p (length b) ≡ true) where
+  row-kept : (again cs : List Packet) → length cs ≤ s .unsent → Leaves b (newRow s cfg now n ring (length again) (rowOf p b (again ++ cs)) .0, newRow s cfg now n ring (length again) (rowOf p b (again ++ cs)) .1, ring)
+  row-kept again cs l =
+      let out = rowOf p b (again ++ cs) in
+      let m : out .written ≤ length again + length cs = simp length-append at (row-few (again ++ cs) p b) in
+      (off-kept s cfg now ring (out .written - length again) v o (omega arith), row-valid (again ++ cs) p b k, row-length (again ++ cs) p b)
+
+  new-kept : Leaves b (newOf s cfg now n p b ring .0, newOf s cfg now n p b ring .1, ring)
+  unfolding newOf
+  new-kept = by (commandsAt s ring (writtenCount s) (s .unsent)) (omega (arith, length-packets (s .unsent) ring (headerAt (writtenCount s) ring (s .history .head))))
+    where
+      pick : (t z : Bool) (w : Wrote × List ℕ) → Leaves b (w .0, w .1, ring) → Leaves b (cond t (cond z (refused s p) (wrote s p n true), b) w .0, cond t (cond z (refused s p) (wrote s p n true), b) w .1, ring)
+      pick false z w h = h
+      pick true true w h = (v, k, refl)
+      pick true false w h = (v, k, refl)
+
+      by : (cs : List Packet) → length cs ≤ s .unsent → Leaves b (newBy s cfg now n p b ring cs .0, newBy s cfg now n p b ring cs .1, ring)
+      by [] l = (v, k, refl)
+      by (c ∷ cs) l =
+          let r : ℕ = min (cfg .«fec_repeats») (writtenCount s) in
+          pick (not (fitAll p b (c ∷ []))) (eqb (p .len) 0) _ (row-kept (repeatsOf p b c (commandsAt s ring (writtenCount s - r) r)) (c ∷ cs) l)
+
+pub write-kept : (s : Sender) (cfg : StreamConfig) (now : ℕ) (p : PayloadWriter) (b ring : List ℕ) → validOf s ring ≡ true → s .history .oldest < turn → payloadValid p (length b) ≡ true
+    → cfg .«fec_repeats» ≤ 255 → cfg .«idle_further» ≤ 255
+    → Leaves b (writtenBy s cfg now p b ring)
+unfolding writtenBy
+write-kept s cfg now p b ring v o k few less =
+    let served = servedOf s ring p b in
+    let z = served-sound s ring p b v k in
+    let n : served .sender .history .oldest < turn = rw (z .history) o in
+    let idled = idledOf (served .sender) cfg now ring in
+    let w =
+    new-kept (idled .0) cfg now (served .written) (served .payload) (served .bytes) (idled .1) (idled-kept (served .sender) cfg now ring (z .state) n few less) (idled-number (served .sender) cfg now ring (z .state) n few less) (z .payload) in
+    pick (served .more) _ _ (z .state, z .payload, z .same) (w .0, w .1, w .2 ∙ z .same)
+  where
+    pick : (t : Bool) (x y : Wrote × List ℕ × List ℕ) → Leaves b x → Leaves b y → Leaves b (cond t x y)
+    pick true x y h i = h
+    pick false x y h i = i

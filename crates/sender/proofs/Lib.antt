@@ -6,6 +6,7 @@ mod Questions
 mod Answers
 pub mod Parts
 pub mod Kept
+pub mod Packets
 pub mod Rows
 pub mod Serving
 pub mod Idling

@@ -1,51 +1,36 @@
 -- Repeats and new commands: the repeats that fit, the row of both, and the sender after it.
 use mathlib.Core.Path.{_≡_, refl, sym, ap, _∙_}
-use mathlib.Core.Bool.{Bool, true, false, cond, not, _||_}
+use mathlib.Core.Bool.{Bool, true, false, cond, not}
 use mathlib.Core.Logic.{inl, inr}
 use mathlib.Core.List.{List, [], _∷_, _++_}
-use Prim.Native.Nat.{ℕ, zero, suc, _+_, _-_, _*_, _/_, _≤_, _<_, min}
+use Prim.Native.Nat.{ℕ, zero, suc, _+_, _-_, _*_, _≤_, _<_, min}
 use native.Mathlib.Omega.{arith}
 use lib.ListN.{length, take, drop}
-use lib.Dec.{leb, ltb, eqb}
+use lib.Dec.{ltb}
 use borrow.Author.Tests.{lt-ltb, le-ltb, le-leb, lt-leb, eq-eqb, ne-eqb}
-use Rattle.config.proofs.Tests.{split, tests, lifts}
+use Rattle.config.proofs.Tests.{split, tests}
 use Rattle.config.specs.declared.settings.StreamConfig.{StreamConfig}
 use Rattle.packet.specs.Layout.{Packet, sizeOf}
 use Rattle.packet.specs.Write.{validOf as payloadValid, limitOf, startOf, freeOf, doneOf, placedOf, writtenOf, Outcome, done}
 use Rattle.packet.specs.declared.writer.PayloadWriter.{PayloadWriter}
 use Rattle.packet.proofs.Outcomes.{written-valid, written-length}
-use Rattle.history.specs.Headers.{lengthAt, entrySize, nextAt, headerAt, wordsFrom, entriesFrom}
+use Rattle.history.specs.Headers.{lengthAt, nextAt, headerAt, wordsFrom, entriesFrom}
 use Rattle.history.specs.Entries.{Short, size, entriesOf}
 use Rattle.history.specs.Written.{entryPacket}
 use Rattle.history.proofs.Entries.{length-read, length-entries, drop-entries, size-entries}
 use Rattle.history.proofs.Room.{good-header}
 use Rattle.history.proofs.States.{state-unwritten}
-use Rattle.history.proofs.Walk.{header-first, header-none, words-first, words-none, words-add, words-count, words-prefix}
+use Rattle.history.proofs.Walk.{words-add, words-prefix}
 use Rattle.sender.specs.State.{validOf}
 use Rattle.sender.specs.Requests.{writtenCount}
-use Rattle.sender.specs.Writing.{Row, rowOf, packetsFrom, sizesOf, fitAll, repeatsOf, anyWords, idleAfter, later, writtenOff, wrote, refused, newRow, newBy, newOf}
+use Rattle.sender.specs.Writing.{rowOf, packetsFrom, sizesOf, fitAll, repeatsOf, later, writtenOff, wrote, refused, newRow, newBy, newOf}
 use Rattle.sender.specs.declared.sender.IdleTimer.{IdleTimer}
 use Rattle.sender.specs.declared.sender.IdleTimer.the-variants.{Waiting}
 use Rattle.sender.specs.declared.sender.Sender.{Sender}
-use Rattle.sender.proofs.Rows.{rowWith, packets-first, packets-none, packets-add, length-packets, short-first, short-prefix, good-short, entry-size, entry-few, start-done, out-length, row-size, row-fits, out-few}
+use Rattle.sender.specs.declared.sender.Wrote.{Wrote}
+use Rattle.sender.proofs.Rows.{rowWith, start-done, out-length, row-size, row-fits, out-few}
 use Rattle.sender.proofs.Validity.{valid-history, valid-good, valid-unsent}
-
--- ---- sizes
-pub header-add : (j k : ℕ) (ring : List ℕ) (i : ℕ) → headerAt (j + k) ring i ≡ headerAt k ring (headerAt j ring i)
-unfolding headerAt
-header-add zero k ring i = let e : 0 + k ≡ k = omega arith in rw e
-header-add (suc j) k ring i = let e : suc j + k ≡ suc (j + k) = omega arith in rw e (header-add j k ring (nextAt ring i))
-
-pub sizes-packets : (k : ℕ) (ring : List ℕ) (i : ℕ) → sizesOf (packetsFrom k ring i) ≡ 4 * wordsFrom k ring i
-unfolding sizesOf packetsFrom wordsFrom
-sizes-packets zero ring i = refl
-sizes-packets (suc k) ring i = omega (arith, entry-size ring i, sizes-packets k ring (nextAt ring i))
-
-pub take-packets : (n k : ℕ) (ring : List ℕ) (i : ℕ) → n ≤ k → take n (packetsFrom k ring i) ≡ packetsFrom n ring i
-unfolding packetsFrom
-take-packets zero k ring i l = refl
-take-packets (suc n) zero ring i l = absurd (omega arith)
-take-packets (suc n) (suc k) ring i l = ap (λ (cs : List Packet). entryPacket ring i ∷ cs) (take-packets n k ring (nextAt ring i) (omega arith))
+use Rattle.sender.proofs.Packets.{packets-first, length-packets, take-packets, packets-add, header-add, short-prefix, good-short, entry-size, entry-few, sizes-packets, any-words}
 
 -- ---- what fits beside the first new command
 module _ (p : PayloadWriter) (b ring : List ℕ) (first : ℕ) where
@@ -133,36 +118,6 @@ module _ (k : ℕ) (ring : List ℕ) (i : ℕ) (p : PayloadWriter) (b : List ℕ
       let l = out-length (packetsFrom k ring i) p b q bytes n whole out in
       let m = f .1 (omega arith) in
       rw (l, f .0) (omega (arith, took-size))
-
--- ---- the walk that drops the oldest
-pub words-some : (k : ℕ) (ring : List ℕ) (i room : ℕ) {left : ℕ} → room < left → left ≡ wordsFrom k ring i → 0 < k
-words-some zero ring i room h e = let z : wordsFrom 0 ring i ≡ 0 = words-none ring i in omega arith
-words-some (suc k) ring i room h e = omega arith
-
--- the header after the one that is k - n after the start
-pub header-next : (k n : ℕ) (ring : List ℕ) (start i at : ℕ) → 0 < n → n ≤ k → i ≡ headerAt (k - n) ring start → at ≡ nextAt ring i → at ≡ headerAt (k - (n - 1)) ring start
-unfolding headerAt
-header-next k n ring start i at s l e f =
-    let z : k - (n - 1) ≡ k - n + 1 = omega arith in
-    rw (z, f, e) (sym (header-add (k - n) 1 ring start))
-
--- ---- the sender after new commands were written
--- a command has words exactly where the words are more than the headers
-pub any-words : (n : ℕ) (ring : List ℕ) (i : ℕ) → anyWords (packetsFrom n ring i) ≡ ltb n (wordsFrom n ring i)
-unfolding anyWords packetsFrom wordsFrom entryPacket
-any-words zero ring i = refl
-any-words (suc n) ring i =
-    let c = words-count n ring (nextAt ring i) in
-    rw (length-read, any-words n ring (nextAt ring i))
-    (elim (split (ltb 0 (lengthAt ring i))) [
-      | inl k ↦ rw k (sym (lt-ltb (suc n) (entrySize ring i + wordsFrom n ring (nextAt ring i)) (omega (arith, tests))))
-      | inr k ↦
-          let z : lengthAt ring i ≡ 0 = omega (arith, tests) in
-          rw (k) (elim (split (ltb n (wordsFrom n ring (nextAt ring i)))) [
-            | inl h ↦ rw h (sym (lt-ltb (suc n) (entrySize ring i + wordsFrom n ring (nextAt ring i)) (omega (arith, tests))))
-            | inr h ↦ rw h (sym (le-ltb (suc n) (entrySize ring i + wordsFrom n ring (nextAt ring i)) (omega (arith, tests))))
-          ])
-    ])
 
 -- n commands and their words are off the unwritten ones
 abbrev pub offWith : Sender → ℕ → ℕ → IdleTimer → Sender
@@ -284,11 +239,12 @@ module _ (s : Sender) (cfg : StreamConfig) (now n : ℕ) (p : PayloadWriter) (b 
     pub new-more : freeOf p (length b) ≤ lengthAt ring first → (p .len ≡ 0 → ⊥) → (wrote s p n true, b) ≡ newOf s cfg now n p b ring
     new-more h z = sym (new-by ∙ rw (first-none p b ring first h, ne-eqb _ _ z))
 
-    pub new-row : lengthAt ring first < freeOf p (length b) → (k at count place : ℕ) → k ≡ min (cfg .«fec_repeats») (writtenCount s) → at ≡ headerAt (writtenCount s - k) ring (s .history .head)
+    pub new-row : (w : Wrote × List ℕ) → lengthAt ring first < freeOf p (length b) → (k at count place : ℕ) → k ≡ min (cfg .«fec_repeats») (writtenCount s) → at ≡ headerAt (writtenCount s - k) ring (s .history .head)
         → packetsFrom count ring place ≡ repeatsOf p b (entryPacket ring first) (packetsFrom k ring at)
         → headerAt count ring place ≡ first
-        → newRow s cfg now n ring count (rowOf p b (packetsFrom (count + s .unsent) ring place)) ≡ newOf s cfg now n p b ring
-    new-row h k at count place f g a l =
+        → w ≡ newRow s cfg now n ring count (rowOf p b (packetsFrom (count + s .unsent) ring place))
+        → w ≡ newOf s cfg now n p b ring
+    new-row w h k at count place f g a l u =
         let r = rw (g, f) at a in
         let c : packetsFrom (count + s .unsent) ring place ≡ packetsFrom count ring place ++ (entryPacket ring first ∷ packetsFrom (s .unsent - 1) ring (nextAt ring first)) = rw (l, news) at (packets-add count (s .unsent) ring place) in
-        sym (new-by ∙ rw (first-fits p b ring first h, ← r, length-packets, ← c))
+        u ∙ sym (new-by ∙ rw (first-fits p b ring first h, ← r, length-packets, ← c))

@@ -1,38 +1,39 @@
 -- Commands written one after the other: a turn of the loop that writes them, and what a row leaves of the payload.
 use mathlib.Core.Path.{_≡_, refl, sym, ap, _∙_}
-use mathlib.Core.Bool.{Bool, true, false, cond, _&&_}
+use mathlib.Core.Bool.{Bool, true, false, _&&_}
 use mathlib.Core.Logic.{inl, inr}
-use mathlib.Core.List.{List, [], _∷_, _++_}
-use Prim.Native.Nat.{ℕ, zero, suc, _+_, _-_, _*_, _/_, _%_, _≤_, _<_, min}
+use mathlib.Core.List.{List, [], _∷_}
+use Prim.Native.Nat.{ℕ, suc, _+_, _-_, _*_, _%_, _≤_, _<_}
 use native.Mathlib.Omega.{arith}
 use lib.ListN.{length, take, length-take}
-use lib.Dec.{eqb, leb, ltb}
-use borrow.Author.Tests.{le-ltb, ne-eqb, leb-true}
+use lib.Dec.{eqb, leb}
+use borrow.Author.Tests.{ne-eqb, leb-true}
 use Rattle.config.specs.Range.{within}
-use Rattle.config.proofs.Tests.{split, tests, and-left, and-right}
+use Rattle.config.proofs.Tests.{split, and-left, and-right}
 use Rattle.config.specs.declared.refusal.Refusal.{Refusal}
 use Rattle.packet.specs.Layout.{Packet, sizeOf}
-use Rattle.packet.specs.Write.{validOf as payloadValid, limitOf, startOf, freeOf, doneOf, placedOf, writtenOf, Outcome, refused, done}
+use Rattle.packet.specs.Write.{validOf as payloadValid, limitOf, startOf, doneOf, placedOf, writtenOf, Outcome, refused, done}
 use Rattle.packet.specs.declared.writer.PayloadWriter.{PayloadWriter}
 use Rattle.packet.specs.declared.writer.Write.{Write}
 use Rattle.packet.specs.declared.writer.Write.the-variants.{Done, Refused}
 use Rattle.packet.specs.declared.writer.Wrote.{Wrote}
 use Rattle.packet.proofs.Outcomes.{outcome, valid-max, written-valid, written-length}
-use Rattle.history.specs.Headers.{lengthAt, entrySize, nextAt, headerAt, wordsFrom, entriesFrom}
+use Rattle.history.specs.Headers.{nextAt, entriesFrom}
 use Rattle.history.specs.Entries.{Short}
-use Rattle.history.specs.State.{Good}
 use Rattle.history.specs.Written.{entryPacket}
-use Rattle.history.specs.declared.history.SendHistory.{SendHistory}
-use Rattle.history.proofs.Entries.{length-read, short-entries}
 use Rattle.sender.specs.Writing.{Row, oneMore, rowOf, packetsFrom, sizesOf}
+use Rattle.sender.proofs.Packets.{packets-first, short-first, packets-none}
 
--- ---- a turn of the loop
+-- ---- a row and the commands before it
 -- the row after n commands that were written before it
 abbrev pub also : ℕ → Row → Row
 also n r = record { payload = r .payload; bytes = r .bytes; written = n + r .written; whole = r .whole }
 
 abbrev pub rowWith : PayloadWriter → List ℕ → ℕ → Bool → Row
 rowWith p b n whole = record { payload = p; bytes = b; written = n; whole = whole }
+
+pub also-none : (r : Row) → also 0 r ≡ r
+also-none r = let e : 0 + r .written ≡ r .written = omega arith in ap (λ (m : ℕ). rowWith (r .payload) (r .bytes) m (r .whole)) e
 
 module _ (p : PayloadWriter) (b bytes : List ℕ) (c : Packet) (w : Wrote) (put : (w, bytes) ≡ writtenOf p b c) where
   first : (cs : List Packet) → rowOf p b (c ∷ cs) ≡ oneMore (w .answer) (w .payload) bytes (rowOf (w .payload) bytes cs)
@@ -61,51 +62,13 @@ pub row-end : (p : PayloadWriter) (b : List ℕ) (n : ℕ) → also n (rowOf p b
 unfolding rowOf
 row-end p b n = let s : n + 0 ≡ n = omega arith in rw s
 
--- ---- the entries of a history as commands
-module _ (k : ℕ) (ring : List ℕ) (i : ℕ) (some : 0 < k) where
-  one : k ≡ suc (k - 1)
-  one = omega arith
+-- ---- one command as a row
+module _ (p : PayloadWriter) (b bytes : List ℕ) (c : Packet) (w : Wrote) (put : (w, bytes) ≡ writtenOf p b c) where
+  pub row-one : w .answer ≡ Done → rowOf p b (c ∷ []) ≡ rowWith (w .payload) bytes 1 true
+  row-one e = sym (also-none (rowOf p b (c ∷ []))) ∙ row-done p b bytes c w put 0 [] e ∙ row-end (w .payload) bytes 1
 
-  pub packets-first : packetsFrom k ring i ≡ entryPacket ring i ∷ packetsFrom (k - 1) ring (nextAt ring i)
-  unfolding packetsFrom
-  packets-first = ap (λ (n : ℕ). packetsFrom n ring i) one
-
-  pub short-first : Short (entriesFrom k ring i) → (lengthAt ring i ≤ 64) × Short (entriesFrom (k - 1) ring (nextAt ring i))
-  unfolding entriesFrom Short
-  short-first s = let t : Short (entriesFrom (suc (k - 1)) ring i) = rw one at s in (rw length-read at (t .0), t .1)
-
-pub packets-none : (ring : List ℕ) (i : ℕ) → packetsFrom 0 ring i ≡ []
-unfolding packetsFrom
-packets-none ring i = refl
-
-pub length-packets : (k : ℕ) (ring : List ℕ) (i : ℕ) → length (packetsFrom k ring i) ≡ k
-unfolding packetsFrom
-length-packets zero ring i = refl
-length-packets (suc k) ring i = ap suc (length-packets k ring (nextAt ring i))
-
-pub packets-add : (j k : ℕ) (ring : List ℕ) (i : ℕ) → packetsFrom (j + k) ring i ≡ packetsFrom j ring i ++ packetsFrom k ring (headerAt j ring i)
-unfolding packetsFrom headerAt
-packets-add zero k ring i = let e : 0 + k ≡ k = omega arith in rw e
-packets-add (suc j) k ring i =
-    let e : suc j + k ≡ suc (j + k) = omega arith in
-    rw e (ap (λ (cs : List Packet). entryPacket ring i ∷ cs) (packets-add j k ring (nextAt ring i)))
-
-pub short-from : (j k : ℕ) (ring : List ℕ) (i : ℕ) → Short (entriesFrom (j + k) ring i) → Short (entriesFrom k ring (headerAt j ring i))
-unfolding entriesFrom headerAt Short
-short-from zero k ring i s = let e : 0 + k ≡ k = omega arith in rw e at s
-short-from (suc j) k ring i s =
-    let e : suc j + k ≡ suc (j + k) = omega arith in
-    let t : Short (entriesFrom (suc (j + k)) ring i) = rw e at s in
-    short-from j k ring (nextAt ring i) (t .1)
-
--- the bytes of an entry are four for each of its words, its header with them
-pub entry-size : (ring : List ℕ) (i : ℕ) → sizeOf (entryPacket ring i) ≡ 4 * entrySize ring i
-unfolding entryPacket
-entry-size ring i = rw length-read (omega arith)
-
-pub entry-few : (ring : List ℕ) (i : ℕ) → lengthAt ring i ≤ 64 → length (entryPacket ring i .words) ≤ 64
-unfolding entryPacket
-entry-few ring i l = rw length-read l
+  pub row-none : (why : Refusal) → w .answer ≡ Refused why → rowOf p b (c ∷ []) ≡ rowWith (w .payload) bytes 0 false
+  row-none why e = sym (also-none (rowOf p b (c ∷ []))) ∙ row-stop p b bytes c w put 0 [] why e
 
 -- ---- a turn of `write_entries`
 module _ (p : PayloadWriter) (b bytes ring : List ℕ) (i k n : ℕ) (w : Wrote) (put : (w, bytes) ≡ writtenOf p b (entryPacket ring i)) (more : n < k) where
@@ -126,9 +89,6 @@ pub entries-end : (p : PayloadWriter) (b ring : List ℕ) (i k n : ℕ) (z : Row
 entries-end p b ring i k n z l inv =
     let e : k - n ≡ 0 = omega arith in
     sym (rw (e, packets-none) at inv) ∙ row-end p b n
-
-pub also-none : (r : Row) → also 0 r ≡ r
-also-none r = let e : 0 + r .written ≡ r .written = omega arith in ap (λ (m : ℕ). rowWith (r .payload) (r .bytes) m (r .whole)) e
 
 -- ---- what a row leaves
 -- the first command is not written, or it is, and the rest comes behind it
@@ -187,6 +147,12 @@ unfolding sizesOf
 sizes-least [] = omega arith
 sizes-least (c ∷ cs) = omega (arith, sizes-least cs)
 
+-- each command takes four bytes at least
+pub row-grows : (cs : List Packet) (p : PayloadWriter) (b : List ℕ) → startOf p + 4 * rowOf p b cs .written ≤ startOf (rowOf p b cs .payload)
+row-grows cs p b =
+    let l : length (take (rowOf p b cs .written) cs) ≡ rowOf p b cs .written = simp length-take (omega (arith, row-few cs p b)) in
+    omega (arith, row-size cs p b, sizes-least (take (rowOf p b cs .written) cs))
+
 -- up to the limit
 pub row-fits : (cs : List Packet) (p : PayloadWriter) (b : List ℕ)
     → (rowOf p b cs .payload .max ≡ p .max) × (startOf p ≤ limitOf p (length b) → startOf (rowOf p b cs .payload) ≤ limitOf p (length b))
@@ -198,31 +164,6 @@ row-fits (c ∷ cs) p b =
     let l = written-length p b c _ o in
     let r = row-fits cs (doneOf p c .payload) (placedOf p b c) in
     (r .0, λ h. rw l at (r .1 (rw l (omega (arith, start-done p c))))))
-
--- ---- one command as a row
-module _ (p : PayloadWriter) (b bytes : List ℕ) (c : Packet) (w : Wrote) (put : (w, bytes) ≡ writtenOf p b c) where
-  pub row-one : w .answer ≡ Done → rowOf p b (c ∷ []) ≡ rowWith (w .payload) bytes 1 true
-  row-one e = sym (also-none (rowOf p b (c ∷ []))) ∙ row-done p b bytes c w put 0 [] e ∙ row-end (w .payload) bytes 1
-
-  pub row-none : (why : Refusal) → w .answer ≡ Refused why → rowOf p b (c ∷ []) ≡ rowWith (w .payload) bytes 0 false
-  row-none why e = sym (also-none (rowOf p b (c ∷ []))) ∙ row-stop p b bytes c w put 0 [] why e
-
--- ---- the entries of a good history
-pub short-prefix : (j k : ℕ) (ring : List ℕ) (i : ℕ) → j ≤ k → Short (entriesFrom k ring i) → Short (entriesFrom j ring i)
-unfolding entriesFrom Short
-short-prefix zero k ring i l s = tt
-short-prefix (suc j) zero ring i l s = absurd (omega arith)
-short-prefix (suc j) (suc k) ring i l s = (s .0, short-prefix j k ring (nextAt ring i) (omega arith) (s .1))
-
-pub good-short : (h : SendHistory) (ring : List ℕ) → Good h ring → (j k : ℕ) → j + k ≤ h .count → Short (entriesFrom k ring (headerAt j ring (h .head)))
-good-short h ring g j k l =
-    short-from j k ring (h .head) (short-prefix (j + k) (h .count) ring (h .head) l (short-entries (h .count) ring (h .head) (h .oldest) (g .headers)))
-
--- each command takes four bytes at least
-pub row-grows : (cs : List Packet) (p : PayloadWriter) (b : List ℕ) → startOf p + 4 * rowOf p b cs .written ≤ startOf (rowOf p b cs .payload)
-row-grows cs p b =
-    let l : length (take (rowOf p b cs .written) cs) ≡ rowOf p b cs .written = simp length-take (omega (arith, row-few cs p b)) in
-    omega (arith, row-size cs p b, sizes-least (take (rowOf p b cs .written) cs))
 
 -- a payload that passes the state test ends at 1,400 or before
 pub start-most : (p : PayloadWriter) (room : ℕ) → payloadValid p room ≡ true → startOf p ≤ 1400

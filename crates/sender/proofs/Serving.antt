@@ -6,12 +6,11 @@ use mathlib.Core.List.{List, [], _∷_}
 use Prim.Native.Nat.{ℕ, zero, suc, _+_, _-_, _*_, _≤_, _<_, min}
 use native.Mathlib.Omega.{arith}
 use lib.ListN.{length, getD}
-use lib.Dec.{leb, eqb}
+use lib.Dec.{eqb}
 use borrow.Author.Tests.{le-leb, lt-leb, eq-eqb, ne-eqb}
 use Rattle.config.proofs.Tests.{split}
-use Rattle.config.specs.Sequence.{after, ahead}
+use Rattle.config.specs.Sequence.{after}
 use Rattle.config.specs.declared.settings.StreamConfig.{StreamConfig}
-use Rattle.packet.specs.Layout.{Packet}
 use Rattle.packet.specs.Write.{validOf as payloadValid, startOf, writtenOf}
 use Rattle.packet.specs.declared.writer.PayloadWriter.{PayloadWriter}
 use Rattle.command.specs.Write.{errorPacket, errorWritten}
@@ -23,15 +22,15 @@ use Rattle.history.specs.Queue.{Fit, queueOk, blank, request, popped, inFront, 
 use Rattle.history.specs.declared.queue.RetransmitQueue.{RetransmitQueue}
 use Rattle.history.specs.declared.queue.Popped.{Popped}
 use Rattle.history.proofs.Queues.{fit-queue}
-use Rattle.history.proofs.Room.{good-few}
 use Rattle.history.proofs.Slots.{slot-zero, slot-in}
 use Rattle.sender.specs.State.{validOf}
 use Rattle.sender.specs.Requests.{writtenCount, indexOf, notWritten, notInBuffer, withQueue}
 use Rattle.sender.specs.Writing.{Row, rowOf, packetsFrom, reachOf, answerTo, restOf, Served, servedAlso, servedIn, servedOf, idledOf, wrote, newOf, writtenBy}
 use Rattle.sender.specs.declared.sender.Sender.{Sender}
 use Rattle.sender.specs.declared.sender.Wrote.{Wrote}
-use Rattle.sender.proofs.Rows.{rowWith, good-short, length-packets, row-length, row-valid, row-grows, out-few}
-use Rattle.sender.proofs.Validity.{passes, valid-history, valid-queue, valid-idle, valid-good, valid-fit, valid-unsent, valid-small}
+use Rattle.sender.proofs.Packets.{length-packets, good-short}
+use Rattle.sender.proofs.Rows.{rowWith, row-length, row-valid, row-grows, out-few}
+use Rattle.sender.proofs.Validity.{passes, valid-history, valid-queue, valid-idle, valid-good, valid-fit}
 
 pub or-right : (a b : Bool) → a ≡ false → b ≡ (a || b)
 or-right a b e = rw e

@@ -5,7 +5,7 @@
 // Waiting requests are served first; where one does not fit whole, the write ends. Else a due idle
 // command is queued, and up to R of the last written commands are repeated before the new ones.
 ghost use mathlib.Core.Path.{_≡_};
-ghost use mathlib.Core.Bool.{true, false, cond, _||_, not};
+ghost use mathlib.Core.Bool.{true, false, cond, _||_};
 ghost use mathlib.Core.List.{[], _∷_};
 ghost use Prim.Native.Nat.{_+_, _-_, _*_, _≤_, _<_, min};
 ghost use lib.ListN.{length};
@@ -78,6 +78,7 @@ fn write_entries(p: PayloadWriter, buf: &mut [u8], ring: &[u32], at: usize, k: u
     }
 }
 
+// Writes an error as the only command of a row.
 fn write_error(err: RetransmitError, p: PayloadWriter, buf: &mut [u8]) -> Row
     requires { ⌜ (payloadValid p (length (now buf)) ≡ true) × (err .reason ≤ 1) ⌝ }
     ensures { λ r. ⌜ rowOf p (now (buf .entry)) (errorPacket err ∷ []) ≡ record { payload = r .payload; bytes = now (buf .exit); written = r .written; whole = r .whole } ⌝ }
@@ -179,6 +180,7 @@ fn leaves(out: Row) -> bool
     payload.len == 0
 }
 
+// The oldest request leaves.
 fn pop(s: Sender) -> Sender
     requires { ⌜ Fit (s .queue) × (0 < s .queue .len) ⌝ }
     ensures { λ r. ⌜ r ≡ withQueue s (popped (s .queue)) ⌝ }
@@ -253,6 +255,7 @@ fn later_by(time: u64, wait: u64) -> u64
     time + wait
 }
 
+// The interval times the growth, at most the last time.
 fn grown(interval: u64, growth: u32) -> u64
     requires { ⌜ 0 < growth ⌝ }
     ensures { λ r. ⌜ r ≡ min (interval * growth) lastTime ⌝ }
@@ -494,6 +497,7 @@ fn write_new(
     write_row(s, cfg, time, before, p, buf, ring, again)
 }
 
+// The whole write: serving, the idle command, then repeats and new commands.
 pub fn write(
     s: Sender,
     cfg: StreamConfig,

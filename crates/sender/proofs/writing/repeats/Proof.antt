@@ -1,6 +1,6 @@
 -- Those that are left give the same repeats, and the oldest of them is dropped exactly where it does not fit.
 use mathlib.Core.Path.{_≡_, refl, sym, _∙_}
-use Prim.Native.Nat.{_+_, _-_, _≤_, _<_}
+use Prim.Native.Nat.{_-_, _≤_, _<_}
 use native.Mathlib.Omega.{arith}
 use native.Mathlib.Nat.{sub-self}
 use lib.ListN.{length}
@@ -12,8 +12,8 @@ use Rattle.history.specs.Entries.{Short}
 use Rattle.history.specs.Written.{entryPacket}
 use Rattle.history.proofs.Walk.{words-first, header-none}
 use Rattle.sender.specs.Writing.{packetsFrom, repeatsOf}
-use Rattle.sender.proofs.Rows.{short-first}
-use Rattle.sender.proofs.Repeating.{words-some, header-next, repeats-drop, repeats-stay}
+use Rattle.sender.proofs.Packets.{short-first, header-next, words-some}
+use Rattle.sender.proofs.Repeating.{repeats-drop, repeats-stay}
 use Rattle.sender.proofs.writing.repeats.Statement.{statement}
 use Rattle.sender.proofs.writing.repeats.Tie as tie
 

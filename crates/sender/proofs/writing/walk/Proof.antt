@@ -1,14 +1,14 @@
 -- What is left of the way leads to the same place, and takes the words that are not counted yet.
 use mathlib.Core.Path.{_≡_, refl, sym, _∙_}
-use Prim.Native.Nat.{_+_, _≤_, _<_}
+use Prim.Native.Nat.{_+_, _<_}
 use native.Mathlib.Omega.{arith}
 use lib.ListN.{length}
 use borrow.Author.Needs.{needs}
 use Rattle.history.specs.Headers.{headerAt, wordsFrom, entriesFrom}
 use Rattle.history.specs.Entries.{Short}
 use Rattle.history.proofs.Walk.{header-first, header-none, words-first, words-none}
-use Rattle.sender.proofs.Rows.{short-first}
 use Rattle.sender.proofs.writing.walk.Statement.{statement}
+use Rattle.sender.proofs.Packets.{short-first}
 use Rattle.sender.proofs.writing.walk.Tie as tie
 
 abbrev Inv-loop : tie.InvT-loop

@@ -1,11 +1,10 @@
 -- Serving, the idle command and the new commands follow one another as in the definition, and each leaves what the next requires.
-use mathlib.Core.Path.{ap, sym, _∙_}
 use native.Mathlib.Omega.{arith}
 use Prim.Native.Nat.{_≤_, _<_}
 use Rattle.config.specs.Sequence.{turn}
 use Rattle.sender.proofs.Rows.{start-most}
 use Rattle.sender.proofs.Serving.{out-sound, written-more, written-new}
-use Rattle.sender.proofs.Idling.{idled-kept, idled-next}
+use Rattle.sender.proofs.Idling.{idled-next}
 use borrow.Author.Needs.{needs}
 use borrow.Author.Needs.{needs}
 use Rattle.sender.proofs.writing.write.Statement.{statement}

@@ -1,5 +1,5 @@
 -- What is left of the row from here, after the commands that were written, is the whole row.
-use mathlib.Core.Path.{_≡_, refl, sym, ap, _∙_}
+use mathlib.Core.Path.{_≡_, refl, _∙_}
 use mathlib.Core.Bool.{true}
 use Prim.Native.Nat.{_-_, _≤_, _<_}
 use native.Mathlib.Nat.{sub-zero}
@@ -10,7 +10,8 @@ use Rattle.packet.specs.Write.{validOf as payloadValid}
 use Rattle.history.specs.Headers.{entriesFrom}
 use Rattle.history.specs.Entries.{Short}
 use Rattle.sender.specs.Writing.{rowOf, packetsFrom}
-use Rattle.sender.proofs.Rows.{also, also-none, short-first, one-valid, one-length, entries-done, entries-stop, entries-short, entries-end}
+use Rattle.sender.proofs.Packets.{short-first}
+use Rattle.sender.proofs.Rows.{also, also-none, one-valid, one-length, entries-done, entries-stop, entries-short, entries-end}
 use Rattle.sender.proofs.writing.write_entries.Statement.{statement}
 use Rattle.sender.proofs.writing.write_entries.Tie as tie
 

@@ -82,8 +82,7 @@ returns-4 c =
     let r = c .before .before .before .before .repeats .ensures in
     let e = c .before .before .before .before .before .before .before .before .before .walk .ensures .0 ∙ last-end _ _ v _ _ few at in
     let a = again-place _ _ v _ _ few at _ _ (r .1) (r .2) in
-    c .before .before .write-row .ensures
-    ∙ new-row (start .args .s) (start .args .cfg) (start .args .time) _ _ _ _ (c .before .before .before .before .before .before .before .before .before .before .before .before .before .before .before .before .if1 .left) _ e (omega (arith, c .before .before .before .before .before .before .if2 .left, c .before .before .before .before .before .before .before .pl .ensures, c .before .before .before .before .before .before .before .before .free-words .ensures)) _ _ _ _ (c .before .before .before .before .before .before .before .before .before .before .before .least .ensures) at (r .0) (last-end _ _ v _ _ (omega (arith, r .1, c .before .before .before .before .before .before .before .before .before .before .before .least .ensures)) a ∙ sym e)
+    new-row (start .args .s) (start .args .cfg) (start .args .time) _ _ _ _ (c .before .before .before .before .before .before .before .before .before .before .before .before .before .before .before .before .if1 .left) _ e _ (omega (arith, c .before .before .before .before .before .before .if2 .left, c .before .before .before .before .before .before .before .pl .ensures, c .before .before .before .before .before .before .before .before .free-words .ensures)) _ _ _ _ (c .before .before .before .before .before .before .before .before .before .before .before .least .ensures) at (r .0) (last-end _ _ v _ _ (omega (arith, r .1, c .before .before .before .before .before .before .before .before .before .before .before .least .ensures)) a ∙ sym e) (c .before .before .write-row .ensures)
 
 pub write-new-spec : {M : Type 1} → statement M
 write-new-spec =

@@ -1,0 +1,71 @@
+-- Settings, both states and the payload are tested, and the rest is `valid::write_data`.
+use mathlib.Core.Path.{sym, _∙_}
+use Rattle.stream.proofs.Writing.{write-settings, write-refused, write-payload, write-written}
+use borrow.Author.Needs.{needs}
+use Rattle.stream.proofs.stream.DataStream.write_data.Statement.{statement}
+use Rattle.stream.proofs.stream.DataStream.write_data.Tie as tie
+
+check-requires : tie.Need-check-requires
+check-requires c κs = search needs
+
+enum-known-why : tie.Need-enum-known-why
+enum-known-why c = search needs
+
+enum-told : tie.Need-enum-told
+enum-told c = search needs
+
+is-valid-requires : tie.Need-is-valid-requires
+is-valid-requires c κs = search needs
+
+is-valid-requires-2 : tie.Need-is-valid-requires-2
+is-valid-requires-2 c κs = search needs
+
+write-data-requires : tie.Need-write-data-requires
+write-data-requires c κs =
+    (sym (c .before .before .before .before .before .before .before .before .before .check .ensures) ∙ c .before .before .before .before .before .before .before .enum-told .given .1, sym (c .before .before .before .before .before .is-valid .ensures) ∙ c .before .before .before .before .if1 .taken, sym (c .before .before .before .is-valid2 .ensures) ∙ c .before .before .if2 .taken)
+
+same-length : tie.Need-same-length
+same-length c = search needs
+
+same-length-2 : tie.Need-same-length-2
+same-length-2 c = search needs
+
+returns : tie.Need-returns
+returns c =
+    c .before .before .before .before .write-data .ensures ∙ write-written _ _ _ _ _ _ (sym (c .before .before .before .before .before .before .before .before .before .before .before .before .before .before .check .ensures) ∙ c .before .before .before .before .before .before .before .before .before .before .before .before .enum-told .given .1) (sym (c .before .before .before .before .before .before .before .before .before .before .is-valid .ensures) ∙ c .before .before .before .before .before .before .before .before .before .if1 .taken) (sym (c .before .before .before .before .before .before .before .before .is-valid2 .ensures) ∙ c .before .before .before .before .before .before .before .if2 .taken)
+
+returns-2 : tie.Need-returns-2
+returns-2 c = write-settings _ _ _ _ _ _ _ (sym (c .before .before .before .check .ensures) ∙ c .before .why .given .1)
+
+same-length-3 : tie.Need-same-length-3
+same-length-3 c = search needs
+
+returns-3 : tie.Need-returns-3
+returns-3 c =
+    write-payload _ _ _ _ _ _ (sym (c .before .before .before .before .before .before .before .check .ensures) ∙ c .before .before .before .before .before .enum-told .given .1) (sym (c .before .before .before .is-valid .ensures) ∙ c .before .before .if1 .taken) (sym (c .before .is-valid2 .ensures) ∙ c .if2 .left)
+
+same-length-4 : tie.Need-same-length-4
+same-length-4 c = search needs
+
+returns-4 : tie.Need-returns-4
+returns-4 c =
+    write-refused _ _ _ _ _ _ (sym (c .before .before .before .before .before .check .ensures) ∙ c .before .before .before .enum-told .given .1) (sym (c .before .is-valid .ensures) ∙ c .if1 .left)
+
+pub write-data-spec : {M : Type 1} → statement M
+write-data-spec =
+    tie.close
+    (tie.spec
+    check-requires
+    enum-known-why
+    enum-told
+    is-valid-requires
+    is-valid-requires-2
+    write-data-requires
+    same-length
+    same-length-2
+    returns
+    returns-2
+    same-length-3
+    returns-3
+    same-length-4
+    returns-4)

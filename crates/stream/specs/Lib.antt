@@ -1,0 +1,5 @@
+-- The definitions that the contracts of `stream` cite.
+pub mod State
+pub mod Ends
+pub mod Answers
+pub mod Writing

@@ -1,0 +1,131 @@
+// The calls over settings and states that were tested: `is_valid` is the test of both ends.
+ghost use mathlib.Core.Path.{_≡_};
+ghost use mathlib.Core.Bool.{true};
+ghost use Prim.Native.Nat.{_≤_};
+ghost use lib.ListN.{length};
+ghost use Rattle.config.specs.Settings.{checkOf};
+ghost use Rattle.config.specs.declared.settings.Check.the-variants.{Passed};
+ghost use Rattle.packet.specs.Write.{validOf as payloadValid};
+ghost use Rattle.sender.specs.State.{validOf as senderValid};
+ghost use Rattle.stream.specs.State.{validOf};
+ghost use Rattle.stream.specs.Answers.{earlier as earlierOf};
+ghost use Rattle.stream.specs.Writing.{sentAfter, dataWritten};
+use super::stream::DataStream;
+use super::stream::Deadline;
+use super::stream::Wrote;
+use config::settings::StreamConfig;
+use packet::writer::PayloadWriter;
+use receiver::receiver::Request;
+use sender::sender::Writing;
+use sender::sender::Written;
+
+// The state test: that of each end.
+pub fn is_valid(s: DataStream, ring: &[u32]) -> bool
+    ensures { λ r. ⌜ r ≡ validOf s (now (ring .entry)) ⌝ }
+{
+    let receiver = s.receiver;
+    let sender = s.sender;
+    if receiver::valid::is_valid(receiver) {
+        return sender::valid::is_valid(sender, ring);
+    }
+    false
+}
+
+// The earlier of the two ends' due times.
+pub fn earlier(a: receiver::receiver::Deadline, b: sender::sender::Deadline) -> Deadline
+    ensures { λ r. ⌜ r ≡ earlierOf a b ⌝ }
+{
+    match a {
+        receiver::receiver::Deadline::Refused(why) => Deadline::Refused(why),
+        receiver::receiver::Deadline::Nothing => match b {
+            sender::sender::Deadline::Refused(why) => Deadline::Refused(why),
+            sender::sender::Deadline::Nothing => Deadline::Nothing,
+            sender::sender::Deadline::At(t) => Deadline::At(t),
+        },
+        receiver::receiver::Deadline::At(t) => match b {
+            sender::sender::Deadline::Refused(why) => Deadline::Refused(why),
+            sender::sender::Deadline::Nothing => Deadline::At(t),
+            sender::sender::Deadline::At(u) => {
+                if t < u {
+                    return Deadline::At(t);
+                }
+                Deadline::At(u)
+            }
+        },
+    }
+}
+
+// The sender's write, after `n` commands.
+fn write_after(
+    n: usize,
+    s: DataStream,
+    cfg: StreamConfig,
+    time: u64,
+    p: PayloadWriter,
+    buf: &mut [u8],
+    ring: &mut [u32],
+) -> Wrote
+    requires { ⌜ (n ≤ 1) × (checkOf cfg ≡ Passed) × (senderValid (s .sender) (now ring) ≡ true) × (payloadValid p (length (now buf)) ≡ true) ⌝ }
+    ensures { λ r. ⌜ (r, now (buf .exit), now (ring .exit)) ≡ sentAfter n s cfg time p (now (buf .entry)) (now (ring .entry)) ⌝ }
+{
+    let before = s.sender;
+    let receiver = s.receiver;
+    let wrote = sender::writing::write(before, cfg, time, p, buf, ring);
+    let sender = wrote.sender;
+    let payload = wrote.payload;
+    let answer = wrote.answer;
+    let stream = DataStream { sender, receiver };
+    match answer {
+        Writing::Refused(why) => Wrote {
+            stream,
+            payload,
+            answer: Writing::Refused(why),
+        },
+        Writing::Written(w) => Wrote {
+            stream,
+            payload,
+            answer: Writing::Written(Written {
+                commands: n + w.commands,
+                more: w.more,
+            }),
+        },
+    }
+}
+
+// A due request, then the sender's commands.
+pub fn write_data(
+    s: DataStream,
+    cfg: StreamConfig,
+    time: u64,
+    p: PayloadWriter,
+    buf: &mut [u8],
+    ring: &mut [u32],
+) -> Wrote
+    requires { ⌜ (checkOf cfg ≡ Passed) × (validOf s (now ring) ≡ true) × (payloadValid p (length (now buf)) ≡ true) ⌝ }
+    ensures { λ r. ⌜ (r, now (buf .exit), now (ring .exit)) ≡ dataWritten s cfg time p (now (buf .entry)) (now (ring .entry)) ⌝ }
+{
+    let sender = s.sender;
+    let before = s.receiver;
+    let taken = receiver::valid::write_request(before, cfg, p, buf);
+    let receiver = taken.receiver;
+    let payload = taken.payload;
+    let answer = taken.answer;
+    let stream = DataStream { sender, receiver };
+    match answer {
+        Request::Refused(why) => Wrote {
+            stream,
+            payload,
+            answer: Writing::Refused(why),
+        },
+        Request::More => Wrote {
+            stream,
+            payload,
+            answer: Writing::Written(Written {
+                commands: 0,
+                more: true,
+            }),
+        },
+        Request::Nothing => write_after(0, stream, cfg, time, payload, buf, ring),
+        Request::Written => write_after(1, stream, cfg, time, payload, buf, ring),
+    }
+}
