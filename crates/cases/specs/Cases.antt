@@ -5,7 +5,7 @@ use mathlib.Core.List.{List, [], _∷_}
 use mathlib.Core.Path.{_≡_, refl, sym, ap}
 use lib.Count.{trailingZeros}
 use lib.ListN.{length, take, replicate}
-use Rattle.config.specs.Settings.{checkOf}
+use Rattle.config.specs.Settings.{defaults, checkOf}
 use Rattle.config.specs.declared.refusal.Refusal.the-variants.{TooLarge}
 use Rattle.config.specs.declared.settings.StreamConfig.{StreamConfig}
 use Rattle.packet.specs.Bytes.{bytesOf, spliced}
@@ -129,10 +129,6 @@ unfolding writtenOf payloadValid spliced bytesOf
 P9-short = refl
 
 -- ---- the sender: P10 to P12, and the idle times
-abbrev defaults : StreamConfig
-defaults =
-    record { «idle_interval_ms» = 100; «idle_growth» = 2; «idle_further» = 5; «fec_repeats» = 2; retransmit = true; «request_delay_ms» = 10; «max_requests» = 3; «max_command_words» = 64 }
-
 -- the first word, queued and written at 1000
 abbrev queued : Sent × List ℕ
 queued = sendAnswer (freshSender 65 4) defaults (replicate 65 0) (0x20903C40 ∷ [])

@@ -1,6 +1,6 @@
 // The settings of a stream. No state keeps them: each call that uses them is given them.
 ghost use mathlib.Core.Path.{_≡_};
-ghost use Rattle.config.specs.Settings.{checkOf};
+ghost use Rattle.config.specs.Settings.{checkOf, defaults};
 use super::range::outside;
 use super::refusal::Refusal;
 
@@ -44,6 +44,13 @@ impl StreamConfig {
         max_requests: 3,
         max_command_words: MAX_COMMAND_WORDS,
     };
+
+    // The same, as a call.
+    pub fn default() -> Self
+        ensures { λ r. ⌜ r ≡ defaults ⌝ }
+    {
+        StreamConfig::DEFAULT
+    }
 
     // The command size, then the idle interval, then the growth.
     pub fn check(self) -> Check

@@ -6,3 +6,4 @@ pub mod NotStarted
 mod Taking
 mod Counts
 mod Writing
+mod Calls

@@ -3,3 +3,4 @@ pub mod State
 pub mod Ends
 pub mod Answers
 pub mod Writing
+pub mod Theorems

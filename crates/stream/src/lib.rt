@@ -13,5 +13,7 @@
 //             sizes that a start does not take; 5, 3 and 6 for words that are not queued; 3 for a
 //             write in which nothing fits
 //   valid     the same over settings and states that were tested
+//   theorems  a write is made of the calls of its ends
 pub mod stream;
+pub mod theorems;
 pub mod valid;
