@@ -1,0 +1,4 @@
+// Answers the call script on standard input (crate `script`).
+fn main() {
+    script::run();
+}
