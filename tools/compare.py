@@ -4,10 +4,12 @@ bytes after every call.
 
     rt check replay && tools/compare.py [--calls N] [--seed S] [--random] [--keep FOLDER]
 
-Three parts: short lists, all of them, over small sizes; random long lists over 01's domain; payloads read back, cut and
-damaged (--random leaves the short lists out). A list that differs is shortened and printed, and the run fails. The summary counts calls by name, answers by
-kind and refusals by number. --keep writes examples/cases.script and a sample in which each pair of call and answer kind
-occurs to FOLDER/stdin, and the Rust's answers to FOLDER/stdout: that is how crates/replay_recorded was made, by
+Parts: short lists, all of them, over small sizes; lists in which the sender's numbers pass a turn; random long lists over
+01's domain; payloads read back, cut and damaged (--random: the last two alone). With a history of 4,096 words the state
+is shown now and then only. A list that differs is shortened and printed, and the run fails. The summary counts calls by
+name, answers by kind and refusals by number. --keep writes examples/cases.script and a sample in which each pair of call
+and answer kind occurs to FOLDER/stdin, and the Rust's answers to FOLDER/stdout: that is how crates/replay_recorded was
+made, by
 
     tools/compare.py --calls 300000 --keep crates/replay_recorded"""
 import argparse
@@ -178,6 +180,21 @@ def random_lists(seed):
         yield seen(first + list(walk.calls(length)), 40 if c == 4096 else 1, rng) + ["memory"]
 
 
+def turn_lists(seed):
+    """The sender's numbers past a turn and a half: one command a write, requests near the newest and across the turn."""
+    rng = random.Random(seed)
+    for c, q in [(65, 1), (256, 4)]:
+        lines, now = ["cfg 100 2 5 1 1 10 3 64", "new 64 %d %d" % (c, q)], 0
+        for i in range(100000):
+            now += rng.choice([0, 1, 100])
+            lines += ["queue " + " ".join(message(rng, rng.choice([2, 4]))), "open 1400 1400", "write %d" % now]
+            if rng.randrange(20) == 0 or i % 65536 < 4 or i % 65536 > 65531:
+                lines += ["request %d %d" % ((i - rng.randrange(6)) % 65536, rng.randrange(4)), "open %d 1400" % rng.choice([16, 40, 1400]), "write %d" % now, "payload"]
+            if i % 500 == 0 or i % 65536 < 8:
+                lines.append("state")
+        yield lines
+
+
 def small_lists():
     """All lists of up to four calls over a few that matter, at small sizes."""
     words = " ".join(["20903C40"] * 40)
@@ -337,6 +354,7 @@ def main():
     if not args.random:
         it.all(sizes_lists(), TOP)
         it.all(small_lists(), TOP)
+        it.all(turn_lists(args.seed), TOP)
     it.all(random_lists(args.seed), args.calls - it.calls - args.calls // 20)
     it.all(read_lists(it.payloads, args.seed), args.calls - it.calls)
     print("%d calls in %d lists, %d lines compared (seed %d): no difference" % (it.calls, it.lists, it.lines, args.seed))
