@@ -1,147 +1,74 @@
-// The calls by name.
+// One call: its name, its fields, what it runs.
 use super::codec;
 use super::fields;
+use super::names;
+use super::names::Name;
 use super::session::Answer;
 use super::session::Answered;
+use super::session::Part;
 use super::session::Session;
 use super::streams;
+use super::streams::Done;
+use super::streams::Paid;
+use stream::stream::DataStream;
 
-// The name of a call.
-enum Name {
-    Unknown,
-    Data,
-    Queue,
-    Write,
-    Wants,
-    Poll,
-    Request,
-    Take,
-    Senddata,
-    Payload,
-    Read,
-    State,
-    Deadline,
-    Open,
-    Error,
-    Nak,
-    Reset,
-    New,
-    Cfg,
-    Raw,
-    Sendrequest,
-    Senderror,
-    Buffer,
-    Memory,
+// What a call leaves and answers.
+pub struct Called {
+    pub session: Session,
+    pub stream: DataStream,
+    pub answer: Answer,
 }
 
-// The call that a line's first field names, which ends at `end`.
-fn named(line: &[u8], end: usize) -> Name {
-    if fields::is(line, end, b"data") {
-        return Name::Data;
+fn answers(session: Session, stream: DataStream, answer: Answer) -> Called {
+    Called {
+        session,
+        stream,
+        answer,
     }
-    if fields::is(line, end, b"queue") {
-        return Name::Queue;
+}
+
+fn of_session(stream: DataStream, a: Answered) -> Called {
+    let answer = a.answer;
+    answers(a.session, stream, answer)
+}
+
+fn of_stream(session: Session, d: Done) -> Called {
+    let answer = d.answer;
+    answers(session, d.stream, answer)
+}
+
+fn of_both(session: Session, p: Paid) -> Called {
+    let answer = p.answer;
+    answers(session.with_payload(p.payload), p.stream, answer)
+}
+
+// A call without fields that prints what is there.
+fn show(session: Session, stream: DataStream, line: &[u8], at: usize, part: Part) -> Called {
+    if at != line.len() {
+        return answers(session, stream, Answer::Bad);
     }
-    if fields::is(line, end, b"write") {
-        return Name::Write;
-    }
-    if fields::is(line, end, b"wants") {
-        return Name::Wants;
-    }
-    if fields::is(line, end, b"poll") {
-        return Name::Poll;
-    }
-    if fields::is(line, end, b"request") {
-        return Name::Request;
-    }
-    if fields::is(line, end, b"take") {
-        return Name::Take;
-    }
-    if fields::is(line, end, b"senddata") {
-        return Name::Senddata;
-    }
-    if fields::is(line, end, b"payload") {
-        return Name::Payload;
-    }
-    if fields::is(line, end, b"read") {
-        return Name::Read;
-    }
-    if fields::is(line, end, b"state") {
-        return Name::State;
-    }
-    if fields::is(line, end, b"deadline") {
-        return Name::Deadline;
-    }
-    if fields::is(line, end, b"open") {
-        return Name::Open;
-    }
-    if fields::is(line, end, b"error") {
-        return Name::Error;
-    }
-    if fields::is(line, end, b"nak") {
-        return Name::Nak;
-    }
-    if fields::is(line, end, b"reset") {
-        return Name::Reset;
-    }
-    if fields::is(line, end, b"new") {
-        return Name::New;
-    }
-    if fields::is(line, end, b"cfg") {
-        return Name::Cfg;
-    }
-    if fields::is(line, end, b"raw") {
-        return Name::Raw;
-    }
-    if fields::is(line, end, b"sendrequest") {
-        return Name::Sendrequest;
-    }
-    if fields::is(line, end, b"senderror") {
-        return Name::Senderror;
-    }
-    if fields::is(line, end, b"buffer") {
-        return Name::Buffer;
-    }
-    if fields::is(line, end, b"memory") {
-        return Name::Memory;
-    }
-    Name::Unknown
+    answers(session, stream, Answer::Show(part))
 }
 
 // Runs the call of a line.
 pub fn call(
     s: Session,
+    stream: DataStream,
     line: &[u8],
-    words: &mut [u32],
     bytes: &mut [u8],
     memory: &mut [u32],
     buffer: &mut [u8],
-) -> Answered {
+) -> Called {
     let at = fields::end(line, 0);
-    match named(line, at) {
-        Name::Unknown => s.answers(Answer::Bad),
-        Name::Data => streams::data(s, line, at, words, bytes),
-        Name::Queue => streams::queue(s, line, at, words, memory),
-        Name::Write => streams::write(s, line, at, memory, buffer),
-        Name::Wants => streams::wants(s, line, at, &memory[..]),
-        Name::Poll => streams::poll(s, line, at),
-        Name::Request => streams::request(s, line, at, &memory[..]),
-        Name::Take => streams::take(s, line, at, buffer),
-        Name::Senddata => codec::senddata(s, line, at, words, buffer),
-        Name::Payload => codec::alone(s, line, at, Answer::Payload),
-        Name::Read => codec::read(s, line, at, bytes),
-        Name::State => codec::alone(s, line, at, Answer::State),
-        Name::Deadline => streams::deadline(s, line, at, &memory[..]),
-        Name::Open => codec::open(s, line, at, buffer),
-        Name::Error => streams::error(s, line, at),
-        Name::Nak => streams::nak(s, line, at),
-        Name::Reset => streams::reset(s, line, at, memory),
-        Name::New => streams::new(s, line, at, memory),
-        Name::Cfg => codec::cfg(s, line, at),
-        Name::Raw => codec::raw(s, line, at, words, buffer),
-        Name::Sendrequest => codec::sendrequest(s, line, at, buffer),
-        Name::Senderror => codec::senderror(s, line, at, buffer),
-        Name::Buffer => codec::alone(s, line, at, Answer::Buffer),
-        Name::Memory => codec::alone(s, line, at, Answer::Memory),
+    match names::named(line, at) {
+        Name::Unknown => answers(s, stream, Answer::Bad),
+        Name::Codec(name) => { of_session(stream, codec::call(s, name, line, at, bytes, buffer)) }
+        Name::Stream(name) => of_stream(
+            s,
+            streams::call(s.settings, stream, name, line, at, bytes, memory),
+        ),
+        Name::Write => of_both(s, streams::write(s, stream, line, at, memory, buffer)),
+        Name::Take => of_both(s, streams::take(s, stream, line, at, buffer)),
+        Name::Show(part) => show(s, stream, line, at, part),
     }
 }

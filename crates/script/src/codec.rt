@@ -4,6 +4,7 @@ use super::fields::BYTE;
 use super::fields::HALF;
 use super::fields::WHOLE;
 use super::fields::WIDE;
+use super::names::Codec;
 use super::session;
 use super::session::Answer;
 use super::session::Answered;
@@ -27,7 +28,7 @@ const BUFFER: u64 = 2048;
 const FILL: u8 = 0xAA;
 
 // cfg T1 G K R X D M SIZE
-pub fn cfg(s: Session, line: &[u8], at: usize) -> Answered {
+fn cfg(s: Session, line: &[u8], at: usize) -> Answered {
     let t1 = fields::figure(line, at, WIDE);
     let g = fields::figure(line, t1.next, WIDE);
     let k = fields::figure(line, g.next, BYTE);
@@ -59,7 +60,12 @@ pub fn cfg(s: Session, line: &[u8], at: usize) -> Answered {
 
 // Keeps the settings, whatever their check answers.
 fn set(s: Session, settings: StreamConfig) -> Answered {
-    let kept = s.with_settings(settings);
+    let payload = s.payload;
+    let kept = Session {
+        settings,
+        payload,
+        room: s.room,
+    };
     match settings.check() {
         Check::Passed => kept.answers(Answer::Done),
         Check::Refused(why) => kept.answers(Answer::Refused(why)),
@@ -76,7 +82,7 @@ fn fill(buffer: &mut [u8]) {
 }
 
 // open LIMIT BUFFER
-pub fn open(s: Session, line: &[u8], at: usize, buffer: &mut [u8]) -> Answered {
+fn open(s: Session, line: &[u8], at: usize, buffer: &mut [u8]) -> Answered {
     let limit = fields::figure(line, at, WHOLE);
     let room = fields::figure(line, limit.next, BUFFER);
     if room.next != line.len() {
@@ -86,8 +92,13 @@ pub fn open(s: Session, line: &[u8], at: usize, buffer: &mut [u8]) -> Answered {
         Opened::Payload(p) => {
             let n = session::lent(&buffer[..], room.n as usize);
             fill(&mut buffer[..n]);
-            let opened = s.with_room(n);
-            opened.with_payload(p).answers(Answer::Done)
+            let settings = s.settings;
+            let opened = Session {
+                settings,
+                payload: p,
+                room: n,
+            };
+            opened.answers(Answer::Done)
         }
         Opened::Refused(why) => s.answers(Answer::Refused(why)),
     }
@@ -105,11 +116,12 @@ fn wrote(s: Session, w: Wrote) -> Answered {
 }
 
 // raw CODE CSD1 CSD2 WORD..
-pub fn raw(s: Session, line: &[u8], at: usize, words: &mut [u32], buffer: &mut [u8]) -> Answered {
+fn raw(s: Session, line: &[u8], at: usize, buffer: &mut [u8]) -> Answered {
+    let mut words = [0u32; WORDS];
     let code = fields::byte(line, at);
     let csd1 = fields::byte(line, code.next);
     let csd2 = fields::byte(line, csd1.next);
-    let read = fields::words(line, csd2.next, words, WORDS);
+    let read = fields::words(line, csd2.next, &mut words, WORDS);
     if read.next != line.len() {
         return s.answers(Answer::Bad);
     }
@@ -134,15 +146,10 @@ fn command(s: Session, head: Header, words: &[u32], buffer: &mut [u8]) -> Answer
 }
 
 // senddata NUMBER WORD..
-pub fn senddata(
-    s: Session,
-    line: &[u8],
-    at: usize,
-    words: &mut [u32],
-    buffer: &mut [u8],
-) -> Answered {
+fn senddata(s: Session, line: &[u8], at: usize, buffer: &mut [u8]) -> Answered {
+    let mut words = [0u32; WORDS];
     let seq = fields::figure(line, at, HALF);
-    let read = fields::words(line, seq.next, words, WORDS);
+    let read = fields::words(line, seq.next, &mut words, WORDS);
     if read.next != line.len() {
         return s.answers(Answer::Bad);
     }
@@ -155,7 +162,7 @@ pub fn senddata(
 }
 
 // sendrequest NUMBER COUNT
-pub fn sendrequest(s: Session, line: &[u8], at: usize, buffer: &mut [u8]) -> Answered {
+fn sendrequest(s: Session, line: &[u8], at: usize, buffer: &mut [u8]) -> Answered {
     let seq = fields::figure(line, at, HALF);
     let count = fields::figure(line, seq.next, HALF);
     if count.next != line.len() {
@@ -170,7 +177,7 @@ pub fn sendrequest(s: Session, line: &[u8], at: usize, buffer: &mut [u8]) -> Ans
 }
 
 // senderror REASON NUMBER
-pub fn senderror(s: Session, line: &[u8], at: usize, buffer: &mut [u8]) -> Answered {
+fn senderror(s: Session, line: &[u8], at: usize, buffer: &mut [u8]) -> Answered {
     let reason = fields::figure(line, at, BYTE);
     let seq = fields::figure(line, reason.next, HALF);
     if seq.next != line.len() {
@@ -185,7 +192,7 @@ pub fn senderror(s: Session, line: &[u8], at: usize, buffer: &mut [u8]) -> Answe
 }
 
 // read BYTE..
-pub fn read(s: Session, line: &[u8], at: usize, bytes: &mut [u8]) -> Answered {
+fn read(s: Session, line: &[u8], at: usize, bytes: &mut [u8]) -> Answered {
     let found = fields::bytes(line, at, bytes);
     if found.next != line.len() {
         return s.answers(Answer::Bad);
@@ -193,10 +200,21 @@ pub fn read(s: Session, line: &[u8], at: usize, bytes: &mut [u8]) -> Answered {
     s.answers(Answer::Read(found.n))
 }
 
-// A call that has no fields: its answer, or `bad`.
-pub fn alone(s: Session, line: &[u8], at: usize, answer: Answer) -> Answered {
-    if at != line.len() {
-        return s.answers(Answer::Bad);
+pub fn call(
+    s: Session,
+    name: Codec,
+    line: &[u8],
+    at: usize,
+    bytes: &mut [u8],
+    buffer: &mut [u8],
+) -> Answered {
+    match name {
+        Codec::Cfg => cfg(s, line, at),
+        Codec::Open => open(s, line, at, buffer),
+        Codec::Raw => raw(s, line, at, buffer),
+        Codec::Senddata => senddata(s, line, at, buffer),
+        Codec::Sendrequest => sendrequest(s, line, at, buffer),
+        Codec::Senderror => senderror(s, line, at, buffer),
+        Codec::Read => read(s, line, at, bytes),
     }
-    s.answers(answer)
 }

@@ -1,9 +1,31 @@
-// The call script.
+// The call script: a list of calls on a stream and a payload, one to a line, each answered with one
+// line. `run` reads it from standard input and writes the answers to standard output, in fixed memory
+// whatever its length.
+//
+//   input blocks -> lines -> fields -> call on the session -> answer -> output block
+//
+//   session   settings, stream (its history in an array of 32,768 words, the first C lent), payload (in
+//             an array of 2,048 bytes, the first BUFFER lent)
+//
+//   settings  cfg T1 G K R X D M SIZE              start     new W C Q, reset
+//   send      queue WORD.., request NUMBER COUNT   write     write NOW, take
+//   payload   open LIMIT BUFFER, raw CODE CSD1 CSD2 WORD.., senddata NUMBER WORD..,
+//             sendrequest NUMBER COUNT, senderror REASON NUMBER
+//   receive   read BYTES, data NOW NUMBER WORD.., poll NOW, error REASON NUMBER, nak
+//   ask       deadline, wants NOW, state, payload, buffer, memory
+//
+// Figures are decimal, WORD, BYTES, CODE, CSD1 and CSD2 hexadecimal. Empty lines and those that begin
+// with # answer nothing. A line that is no call answers `bad`, a refusal `refused N` by its number; in
+// both cases nothing changes but what 01 says.
+//
+// lines gathers a line's bytes; names and fields take it apart; calls, codec and streams run it; show,
+// items and state write the answer; out holds what is still to be written.
 mod calls;
 mod codec;
 mod fields;
 mod items;
 mod lines;
+mod names;
 mod out;
 mod session;
 mod show;
@@ -14,27 +36,23 @@ ghost use Prim.Native.Nat.{_<_};
 ghost use Rattle.io.specs.Counts.{Counts};
 use out::Out;
 use session::Session;
+use stream::stream::DataStream;
 
 // What a run holds between two lines.
 struct Progress {
     session: Session,
+    stream: DataStream,
     // The bytes of the line so far.
     used: usize,
     out: Out,
 }
 
-// What is left after a block of input.
-struct Left {
-    state: Progress,
-    // Another block may follow.
-    more: bool,
-}
-
 impl Progress {
     // No byte of a line yet.
-    fn new(session: Session, out: Out) -> Progress {
+    fn new(session: Session, stream: DataStream, out: Out) -> Progress {
         Progress {
             session,
+            stream,
             used: 0,
             out,
         }
@@ -57,51 +75,35 @@ impl Progress {
 
 // A call, and its answer.
 fn answered(
-    s: Session,
-    to: Out,
+    p: Progress,
     line: &[u8],
-    words: &mut [u32],
     bytes: &mut [u8],
     memory: &mut [u32],
     buffer: &mut [u8],
     out: &mut [u8],
 ) -> Progress {
-    let done = calls::call(s, line, words, bytes, memory, buffer);
-    let session = done.session;
-    let answer = done.answer;
-    Progress {
-        session,
-        used: 0,
-        out: show::line(
-            to,
-            out,
-            session,
-            answer,
-            &memory[..],
-            &buffer[..],
-            &bytes[..],
-        ),
-    }
+    let called = calls::call(p.session, p.stream, line, bytes, memory, buffer);
+    let to = show::line(p.out, out, called, &memory[..], &buffer[..], &bytes[..]);
+    Progress::new(called.session, called.stream, to)
 }
 
 // A line without its end.
 fn whole(
-    s: Session,
-    to: Out,
+    p: Progress,
     line: &[u8],
-    words: &mut [u32],
     bytes: &mut [u8],
     memory: &mut [u32],
     buffer: &mut [u8],
     out: &mut [u8],
 ) -> Progress {
     if lines::skipped(line) {
-        return Progress::new(s, to);
+        return p.gathered(0);
     }
     if lines::LIMIT < line.len() {
-        return Progress::new(s, to.text(out, b"bad\n"));
+        let to = p.out;
+        return Progress::new(p.session, p.stream, to.text(out, b"bad\n"));
     }
-    answered(s, to, line, words, bytes, memory, buffer, out)
+    answered(p, line, bytes, memory, buffer, out)
 }
 
 // The lines of a block, each answered.
@@ -109,7 +111,6 @@ fn block(
     first: Progress,
     input: &[u8],
     line: &mut [u8],
-    words: &mut [u32],
     bytes: &mut [u8],
     memory: &mut [u32],
     buffer: &mut [u8],
@@ -123,9 +124,7 @@ fn block(
             return state.gathered(part.used);
         }
         let n = lines::bare(&line[..], part.used);
-        let s = state.session;
-        let to = state.out;
-        state = whole(s, to, &line[..n], words, bytes, memory, buffer, out);
+        state = whole(state, &line[..n], bytes, memory, buffer, out);
         at = part.at + 1;
     }
     state
@@ -143,73 +142,46 @@ fn fetch(input: &mut [u8]) -> usize
 fn last(
     state: Progress,
     line: &[u8],
-    words: &mut [u32],
-    bytes: &mut [u8],
-    memory: &mut [u32],
-    buffer: &mut [u8],
-    out: &mut [u8],
-) -> Progress {
-    let n = session::lent(line, state.used);
-    let s = state.session;
-    let to = state.out;
-    let done = whole(s, to, &line[..n], words, bytes, memory, buffer, out);
-    done.flushed(&out[..])
-}
-
-// Reads a block of input, and answers its lines; after the input's end, the last line.
-fn turn(
-    first: Progress,
-    input: &mut [u8],
-    line: &mut [u8],
-    words: &mut [u32],
-    bytes: &mut [u8],
-    memory: &mut [u32],
-    buffer: &mut [u8],
-    out: &mut [u8],
-) -> Left {
-    let n = fetch(input);
-    if n == 0 {
-        return Left {
-            state: last(first, &line[..], words, bytes, memory, buffer, out),
-            more: false,
-        };
-    }
-    let next = block(first, &input[..n], line, words, bytes, memory, buffer, out);
-    Left {
-        state: next.flushed(&out[..]),
-        more: true,
-    }
-}
-
-// The turns that are left after one.
-fn to_go(turns: u64, more: bool) -> u64
-    requires { ⌜ 0 < turns ⌝ }
-    ensures { λ r. ⌜ r < turns ⌝ }
-{
-    if more {
-        return turns - 1;
-    }
-    0
-}
-
-// A proved loop has to end, and nothing says that the input does: it counts down from a number that
-// no run uses up.
-fn all(
-    input: &mut [u8],
-    line: &mut [u8],
-    words: &mut [u32],
     bytes: &mut [u8],
     memory: &mut [u32],
     buffer: &mut [u8],
     out: &mut [u8],
 ) {
-    let mut state = Progress::new(Session::new(memory), Out { used: 0 });
+    let n = session::lent(line, state.used);
+    let done = whole(state, &line[..n], bytes, memory, buffer, out);
+    done.flushed(&out[..]);
+}
+
+// The turns that are left after one that has read `n` bytes.
+fn to_go(turns: u64, n: usize) -> u64
+    requires { ⌜ 0 < turns ⌝ }
+    ensures { λ r. ⌜ r < turns ⌝ }
+{
+    if 0 < n {
+        return turns - 1;
+    }
+    0
+}
+
+// Block after block. A proved loop has to end, and nothing says that the input does: it counts down
+// from a number that no run uses up.
+fn all(
+    input: &mut [u8],
+    line: &mut [u8],
+    bytes: &mut [u8],
+    memory: &mut [u32],
+    buffer: &mut [u8],
+    out: &mut [u8],
+) {
+    let mut state = Progress::new(Session::new(), streams::first(memory), Out { used: 0 });
     let mut turns = u64::MAX;
     while 0 < turns {
-        let left = turn(state, input, line, words, bytes, memory, buffer, out);
-        state = left.state;
-        turns = to_go(turns, left.more);
+        let n = fetch(input);
+        turns = to_go(turns, n);
+        let next = block(state, &input[..n], line, bytes, memory, buffer, out);
+        state = next.flushed(&out[..]);
     }
+    last(state, &line[..], bytes, memory, buffer, out);
 }
 
 // Reads all of standard input.
@@ -217,14 +189,12 @@ pub fn run() {
     let mut input = io::large_buffer();
     let mut out = io::large_buffer();
     let mut line = [0u8; 4098];
-    let mut words = [0u32; 300];
     let mut bytes = [0u8; 2000];
     let mut memory = [0u32; 32768];
     let mut buffer = [0xAAu8; 2048];
     all(
         &mut input,
         &mut line,
-        &mut words,
         &mut bytes,
         &mut memory,
         &mut buffer,

@@ -1,10 +1,12 @@
 // Answers as text. Figures are decimal, bytes and words hexadecimal.
+use super::calls::Called;
 use super::items;
 use super::out::Out;
 use super::session;
 use super::session::Answer;
-use super::session::Session;
+use super::session::Part;
 use super::state;
+use super::streams;
 use config::refusal::Refusal;
 use history::queue::Ignored;
 use receiver::messages;
@@ -13,6 +15,7 @@ use receiver::receiver::Request;
 use receiver::receiver::StreamEvent;
 use sender::sender::RequestOutcome;
 use sender::sender::Written;
+use stream::stream::DataStream;
 use stream::stream::Deadline;
 use stream::stream::Wants;
 use window::window::Class;
@@ -163,42 +166,39 @@ fn heard(to: Out, out: &mut [u8], d: Delivery, payload: &[u8], n: usize) -> Out 
     delivery(to, out, d, &payload[8..end])
 }
 
-fn whole_state(to: Out, out: &mut [u8], s: Session, memory: &[u32]) -> Out {
-    let n = s.words(memory);
-    state::all(to, out, s.stream, &memory[..n])
-}
-
-fn whole_memory(to: Out, out: &mut [u8], s: Session, memory: &[u32]) -> Out {
-    let n = s.words(memory);
-    state::words(to, out, memory, 0, n)
-}
-
-// The answer to a call, without the line's end.
-fn answer(
-    to: Out,
-    out: &mut [u8],
-    s: Session,
-    a: Answer,
-    memory: &[u32],
-    buffer: &[u8],
-    bytes_read: &[u8],
-) -> Out {
+// An answer that prints no part of the session or the stream.
+fn said(to: Out, out: &mut [u8], a: Answer, bytes_read: &[u8]) -> Out {
     match a {
         Answer::Bad => to.text(out, b"bad"),
         Answer::Done => to.text(out, b"ok"),
         Answer::Refused(why) => refusal(to, out, why),
         Answer::Requested(outcome) => requested(to, out, outcome),
-        Answer::Written(w) => written(to, out, w, s.payload.len),
-        Answer::Payload => part(to, out, buffer, s.payload.len),
-        Answer::Buffer => part(to, out, buffer, s.room),
+        Answer::Written(w, len) => written(to, out, w, len),
         Answer::Read(n) => items::reading(to, out, bytes_read, n),
         Answer::Heard(d, n) => heard(to, out, d, bytes_read, n),
         Answer::Event(e) => event(to, out, e),
         Answer::Taken(r) => taken(to, out, r),
         Answer::Deadline(d) => deadline(to, out, d),
         Answer::Wants(w) => wants(to, out, w),
-        Answer::State => whole_state(to, out, s, memory),
-        Answer::Memory => whole_memory(to, out, s, memory),
+        Answer::Show(_) => to,
+    }
+}
+
+// What is there: `len` bytes of the payload, the lent bytes, the stream and its words.
+fn shown(
+    to: Out,
+    out: &mut [u8],
+    p: Part,
+    len: usize,
+    buffer: &[u8],
+    stream: DataStream,
+    ring: &[u32],
+) -> Out {
+    match p {
+        Part::Payload => part(to, out, buffer, len),
+        Part::Buffer => bytes(to, out, buffer),
+        Part::State => state::all(to, out, stream, ring),
+        Part::Memory => state::words(to, out, ring, 0, ring.len()),
     }
 }
 
@@ -206,12 +206,28 @@ fn answer(
 pub fn line(
     to: Out,
     out: &mut [u8],
-    s: Session,
-    a: Answer,
+    c: Called,
     memory: &[u32],
     buffer: &[u8],
     bytes_read: &[u8],
 ) -> Out {
-    let said = answer(to, out, s, a, memory, buffer, bytes_read);
-    said.byte(out, b'\n')
+    let s = c.session;
+    let stream = c.stream;
+    let answer = c.answer;
+    if let Answer::Show(p) = answer {
+        let n = streams::size(stream, memory);
+        let room = session::lent(buffer, s.room);
+        let done = shown(
+            to,
+            out,
+            p,
+            s.payload.len,
+            &buffer[..room],
+            stream,
+            &memory[..n],
+        );
+        return done.byte(out, b'\n');
+    }
+    let done = said(to, out, answer, bytes_read);
+    done.byte(out, b'\n')
 }

@@ -1,15 +1,17 @@
 // The calls on the stream.
+ghost use Rattle.io.specs.Counts.{Counts};
 use super::fields;
 use super::fields::BYTE;
 use super::fields::HALF;
 use super::fields::WHOLE;
+use super::names::Stream;
 use super::session;
 use super::session::Answer;
-use super::session::Answered;
 use super::session::Session;
 use command::data::UmpData;
 use command::retransmit::RetransmitError;
 use command::retransmit::RetransmitRequest;
+use config::settings::StreamConfig;
 use packet::writer::PayloadWriter;
 use receiver::receiver::Hearing;
 use sender::sender::Send;
@@ -24,6 +26,49 @@ const QUEUED: usize = 256;
 // The most words of a data command that is received.
 const HEARD: usize = 255;
 
+// What a call leaves and answers.
+pub struct Done {
+    pub stream: DataStream,
+    pub answer: Answer,
+}
+
+// The same of a call that writes into the payload.
+pub struct Paid {
+    pub stream: DataStream,
+    pub payload: PayloadWriter,
+    pub answer: Answer,
+}
+
+fn answers(stream: DataStream, answer: Answer) -> Done {
+    Done { stream, answer }
+}
+
+// How many of the first `n` words there are.
+fn lent(memory: &[u32], n: usize) -> usize
+    ensures { λ r. ⌜ Counts r (now (memory .entry)) ⌝ }
+{
+    if memory.len() < n {
+        return memory.len();
+    }
+    n
+}
+
+// How many words of the memory are lent to the stream.
+pub fn size(stream: DataStream, memory: &[u32]) -> usize
+    ensures { λ r. ⌜ Counts r (now (memory .entry)) ⌝ }
+{
+    let sender = stream.sender;
+    let history = sender.history;
+    lent(memory, history.size)
+}
+
+// The stream of a run's start: a window of 64, a history of 256 words, a request ring of 4 places.
+pub fn first(memory: &mut [u32]) -> DataStream {
+    let n = lent(&memory[..], 256);
+    let started = DataStream::new(StreamConfig::DEFAULT, 64, 256, 4, &mut memory[..n]);
+    started.stream
+}
+
 // A window's size; one that has no room in its type is as good as the largest, which is refused.
 fn window(w: u64) -> u32 {
     if w < 0xFFFF_FFFF {
@@ -33,222 +78,227 @@ fn window(w: u64) -> u32 {
 }
 
 // new W C Q
-pub fn new(s: Session, line: &[u8], at: usize, memory: &mut [u32]) -> Answered {
+fn new(cfg: StreamConfig, stream: DataStream, line: &[u8], at: usize, memory: &mut [u32]) -> Done {
     let w = fields::figure(line, at, WHOLE);
     let c = fields::figure(line, w.next, WHOLE);
     let q = fields::figure(line, c.next, WHOLE);
     if q.next != line.len() {
-        return s.answers(Answer::Bad);
+        return answers(stream, Answer::Bad);
     }
-    started(s, window(w.n), c.n as usize, q.n as usize, memory)
-}
-
-// A fresh stream; the old one where that is refused.
-fn started(s: Session, w: u32, words: usize, places: usize, memory: &mut [u32]) -> Answered {
-    let n = session::lent_words(&memory[..], words);
-    let started = DataStream::new(s.settings, w, words, places, &mut memory[..n]);
-    let stream = started.stream;
+    let words = c.n as usize;
+    let n = lent(&memory[..], words);
+    let started = DataStream::new(cfg, window(w.n), words, q.n as usize, &mut memory[..n]);
     let answer = started.answer;
     match answer {
-        Start::Done => s.with_stream(stream).answers(Answer::Done),
-        Start::Refused(why) => s.answers(Answer::Refused(why)),
+        Start::Done => answers(started.stream, Answer::Done),
+        Start::Refused(why) => answers(stream, Answer::Refused(why)),
     }
 }
 
 // queue WORD..
-pub fn queue(
-    s: Session,
+fn queue(
+    cfg: StreamConfig,
+    stream: DataStream,
     line: &[u8],
     at: usize,
-    words: &mut [u32],
     memory: &mut [u32],
-) -> Answered {
-    let read = fields::words(line, at, words, QUEUED);
+) -> Done {
+    let mut words = [0u32; QUEUED];
+    let read = fields::words(line, at, &mut words, QUEUED);
     if read.next != line.len() {
-        return s.answers(Answer::Bad);
+        return answers(stream, Answer::Bad);
     }
     let n = read.n;
-    queued(s, &words[..n], memory)
-}
-
-fn queued(s: Session, words: &[u32], memory: &mut [u32]) -> Answered {
-    let n = s.words(&memory[..]);
-    let stream = s.stream;
-    let sent = stream.send_ump(s.settings, &mut memory[..n], words);
-    let next = s.with_stream(sent.stream);
+    let size = size(stream, &memory[..]);
+    let sent = stream.send_ump(cfg, &mut memory[..size], &words[..n]);
     let answer = sent.answer;
     match answer {
-        Send::Accepted => next.answers(Answer::Done),
-        Send::Refused(why) => next.answers(Answer::Refused(why)),
+        Send::Accepted => answers(sent.stream, Answer::Done),
+        Send::Refused(why) => answers(sent.stream, Answer::Refused(why)),
     }
 }
 
 // request NUMBER COUNT
-pub fn request(s: Session, line: &[u8], at: usize, memory: &[u32]) -> Answered {
+fn request(cfg: StreamConfig, stream: DataStream, line: &[u8], at: usize, memory: &[u32]) -> Done {
     let seq = fields::figure(line, at, HALF);
     let count = fields::figure(line, seq.next, HALF);
     if count.next != line.len() {
-        return s.answers(Answer::Bad);
+        return answers(stream, Answer::Bad);
     }
     let req = RetransmitRequest {
         seq: seq.n as u16,
         count: count.n as u16,
     };
-    let n = s.words(memory);
-    let stream = s.stream;
-    let requested = stream.on_retransmit_request(s.settings, &memory[..n], req);
+    let n = size(stream, memory);
+    let requested = stream.on_retransmit_request(cfg, &memory[..n], req);
     let outcome = requested.outcome;
-    s.with_stream(requested.stream)
-        .answers(Answer::Requested(outcome))
+    answers(requested.stream, Answer::Requested(outcome))
 }
 
 // data NOW NUMBER WORD..
-pub fn data(s: Session, line: &[u8], at: usize, words: &mut [u32], bytes: &mut [u8]) -> Answered {
+fn data(cfg: StreamConfig, stream: DataStream, line: &[u8], at: usize, bytes: &mut [u8]) -> Done {
+    let mut words = [0u32; HEARD];
     let time = fields::figure(line, at, WHOLE);
     let seq = fields::figure(line, time.next, HALF);
-    let read = fields::words(line, seq.next, words, HEARD);
+    let read = fields::words(line, seq.next, &mut words, HEARD);
     if read.next != line.len() {
-        return s.answers(Answer::Bad);
+        return answers(stream, Answer::Bad);
     }
     let n = read.n;
-    heard(s, time.n, seq.n as u16, &words[..n], bytes)
-}
-
-// A data command, laid out as it comes over the line.
-fn heard(s: Session, time: u64, seq: u16, words: &[u32], bytes: &mut [u8]) -> Answered {
-    let p = PayloadWriter { len: 0, max: 1400 };
-    p.command(bytes, 0xFF, 0, 0, words);
-    let stream = s.stream;
-    let heard = stream.on_ump_data(s.settings, time, UmpData { seq });
-    let next = s.with_stream(heard.stream);
+    laid(bytes, &words[..n]);
+    let heard = stream.on_ump_data(cfg, time.n, UmpData { seq: seq.n as u16 });
     let answer = heard.answer;
     match answer {
-        Hearing::Delivery(delivery) => next.answers(Answer::Heard(delivery, words.len())),
-        Hearing::Refused(why) => next.answers(Answer::Refused(why)),
+        Hearing::Delivery(delivery) => answers(heard.stream, Answer::Heard(delivery, n)),
+        Hearing::Refused(why) => answers(heard.stream, Answer::Refused(why)),
     }
 }
 
-fn told(s: Session, t: Told) -> Answered {
+// Words laid out as they come over the line, in a command of their own.
+fn laid(bytes: &mut [u8], words: &[u32]) {
+    let p = PayloadWriter { len: 0, max: 1400 };
+    p.command(bytes, 0xFF, 0, 0, words);
+}
+
+fn told(t: Told) -> Done {
     let event = t.event;
-    s.with_stream(t.stream).answers(Answer::Event(event))
+    answers(t.stream, Answer::Event(event))
 }
 
 // poll NOW
-pub fn poll(s: Session, line: &[u8], at: usize) -> Answered {
+fn poll(cfg: StreamConfig, stream: DataStream, line: &[u8], at: usize) -> Done {
     let time = fields::figure(line, at, WHOLE);
     if time.next != line.len() {
-        return s.answers(Answer::Bad);
+        return answers(stream, Answer::Bad);
     }
-    let stream = s.stream;
-    told(s, stream.poll(s.settings, time.n))
+    told(stream.poll(cfg, time.n))
 }
 
 // error REASON NUMBER
-pub fn error(s: Session, line: &[u8], at: usize) -> Answered {
+fn error(stream: DataStream, line: &[u8], at: usize) -> Done {
     let reason = fields::figure(line, at, BYTE);
     let seq = fields::figure(line, reason.next, HALF);
     if seq.next != line.len() {
-        return s.answers(Answer::Bad);
+        return answers(stream, Answer::Bad);
     }
-    let err = RetransmitError {
+    told(stream.on_retransmit_error(RetransmitError {
         reason: reason.n as u8,
         seq: seq.n as u16,
-    };
-    let stream = s.stream;
-    told(s, stream.on_retransmit_error(err))
+    }))
 }
 
 // nak
-pub fn nak(s: Session, line: &[u8], at: usize) -> Answered {
+fn nak(stream: DataStream, line: &[u8], at: usize) -> Done {
     if at != line.len() {
-        return s.answers(Answer::Bad);
+        return answers(stream, Answer::Bad);
     }
-    let stream = s.stream;
-    told(s, stream.on_retransmit_nak())
+    told(stream.on_retransmit_nak())
+}
+
+// reset
+fn reset(stream: DataStream, line: &[u8], at: usize, memory: &mut [u32]) -> Done {
+    if at != line.len() {
+        return answers(stream, Answer::Bad);
+    }
+    let n = size(stream, &memory[..]);
+    let was = stream.reset(&mut memory[..n]);
+    let answer = was.answer;
+    match answer {
+        Reset::Done => answers(was.stream, Answer::Done),
+        Reset::Refused(why) => answers(was.stream, Answer::Refused(why)),
+    }
+}
+
+// deadline
+fn deadline(stream: DataStream, line: &[u8], at: usize, memory: &[u32]) -> Done {
+    if at != line.len() {
+        return answers(stream, Answer::Bad);
+    }
+    let n = size(stream, memory);
+    answers(stream, Answer::Deadline(stream.next_deadline(&memory[..n])))
+}
+
+// wants NOW
+fn wants(stream: DataStream, line: &[u8], at: usize, memory: &[u32]) -> Done {
+    let time = fields::figure(line, at, WHOLE);
+    if time.next != line.len() {
+        return answers(stream, Answer::Bad);
+    }
+    let n = size(stream, memory);
+    answers(
+        stream,
+        Answer::Wants(stream.wants_write(&memory[..n], time.n)),
+    )
+}
+
+pub fn call(
+    cfg: StreamConfig,
+    stream: DataStream,
+    name: Stream,
+    line: &[u8],
+    at: usize,
+    bytes: &mut [u8],
+    memory: &mut [u32],
+) -> Done {
+    match name {
+        Stream::New => new(cfg, stream, line, at, memory),
+        Stream::Queue => queue(cfg, stream, line, at, memory),
+        Stream::Request => request(cfg, stream, line, at, &memory[..]),
+        Stream::Data => data(cfg, stream, line, at, bytes),
+        Stream::Poll => poll(cfg, stream, line, at),
+        Stream::Error => error(stream, line, at),
+        Stream::Nak => nak(stream, line, at),
+        Stream::Reset => reset(stream, line, at, memory),
+        Stream::Deadline => deadline(stream, line, at, &memory[..]),
+        Stream::Wants => wants(stream, line, at, &memory[..]),
+    }
+}
+
+fn pays(stream: DataStream, payload: PayloadWriter, answer: Answer) -> Paid {
+    Paid {
+        stream,
+        payload,
+        answer,
+    }
 }
 
 // write NOW
 pub fn write(
     s: Session,
+    stream: DataStream,
     line: &[u8],
     at: usize,
     memory: &mut [u32],
     buffer: &mut [u8],
-) -> Answered {
+) -> Paid {
     let time = fields::figure(line, at, WHOLE);
     if time.next != line.len() {
-        return s.answers(Answer::Bad);
+        return pays(stream, s.payload, Answer::Bad);
     }
-    written(s, time.n, memory, buffer)
-}
-
-// The stream's write into the payload.
-fn written(s: Session, time: u64, memory: &mut [u32], buffer: &mut [u8]) -> Answered {
-    let n = s.words(&memory[..]);
+    let n = size(stream, &memory[..]);
     let room = session::lent(&buffer[..], s.room);
-    let stream = s.stream;
     let wrote = stream.write_data(
         s.settings,
-        time,
+        time.n,
         s.payload,
         &mut buffer[..room],
         &mut memory[..n],
     );
+    let payload = wrote.payload;
     let answer = wrote.answer;
-    let next = s.with_stream(wrote.stream).with_payload(wrote.payload);
     match answer {
-        Writing::Written(w) => next.answers(Answer::Written(w)),
-        Writing::Refused(why) => next.answers(Answer::Refused(why)),
+        Writing::Written(w) => pays(wrote.stream, payload, Answer::Written(w, payload.len)),
+        Writing::Refused(why) => pays(wrote.stream, payload, Answer::Refused(why)),
     }
 }
 
 // take
-pub fn take(s: Session, line: &[u8], at: usize, buffer: &mut [u8]) -> Answered {
+pub fn take(s: Session, stream: DataStream, line: &[u8], at: usize, buffer: &mut [u8]) -> Paid {
     if at != line.len() {
-        return s.answers(Answer::Bad);
+        return pays(stream, s.payload, Answer::Bad);
     }
     let room = session::lent(&buffer[..], s.room);
-    let stream = s.stream;
     let taken = stream.write_request(s.settings, s.payload, &mut buffer[..room]);
     let answer = taken.answer;
-    let next = s.with_stream(taken.stream);
-    next.with_payload(taken.payload)
-        .answers(Answer::Taken(answer))
-}
-
-// reset
-pub fn reset(s: Session, line: &[u8], at: usize, memory: &mut [u32]) -> Answered {
-    if at != line.len() {
-        return s.answers(Answer::Bad);
-    }
-    let n = s.words(&memory[..]);
-    let stream = s.stream;
-    let was = stream.reset(&mut memory[..n]);
-    let next = s.with_stream(was.stream);
-    let answer = was.answer;
-    match answer {
-        Reset::Done => next.answers(Answer::Done),
-        Reset::Refused(why) => next.answers(Answer::Refused(why)),
-    }
-}
-
-// deadline
-pub fn deadline(s: Session, line: &[u8], at: usize, memory: &[u32]) -> Answered {
-    if at != line.len() {
-        return s.answers(Answer::Bad);
-    }
-    let n = s.words(memory);
-    let stream = s.stream;
-    s.answers(Answer::Deadline(stream.next_deadline(&memory[..n])))
-}
-
-// wants NOW
-pub fn wants(s: Session, line: &[u8], at: usize, memory: &[u32]) -> Answered {
-    let time = fields::figure(line, at, WHOLE);
-    if time.next != line.len() {
-        return s.answers(Answer::Bad);
-    }
-    let n = s.words(memory);
-    let stream = s.stream;
-    s.answers(Answer::Wants(stream.wants_write(&memory[..n], time.n)))
+    pays(taken.stream, taken.payload, Answer::Taken(answer))
 }

@@ -1,8 +1,8 @@
 -- The number was tested against the length.
 use borrow.Author.Needs.{needs}
 use Rattle.io.proofs.Counting.{counts}
-use Rattle.script.proofs.session.lent_words.Statement.{statement}
-use Rattle.script.proofs.session.lent_words.Tie as tie
+use Rattle.script.proofs.streams.lent.Statement.{statement}
+use Rattle.script.proofs.streams.lent.Tie as tie
 
 returns : tie.Need-returns
 returns c = counts _ _ (search needs)
@@ -10,5 +10,5 @@ returns c = counts _ _ (search needs)
 returns-2 : tie.Need-returns-2
 returns-2 c = counts _ _ (search needs)
 
-pub lent-words-spec : {M : Type 1} → statement M
-lent-words-spec = tie.close (tie.spec returns returns-2)
+pub lent-spec : {M : Type 1} → statement M
+lent-spec = tie.close (tie.spec returns returns-2)
