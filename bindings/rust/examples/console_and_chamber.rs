@@ -1,0 +1,217 @@
+//! A console plays notes to a chamber over a line that loses, doubles and delays payloads. At the end
+//! each note that was played was handed on once, or its command's number lies in a reported loss.
+//!
+//! Built and run by tools/run_rust_example; takes the generator's seed as an argument.
+use sirmjold::{
+    commands, Class, Command, Payload, RequestOutcome, SeqRange, Stream, StreamConfig, StreamEvent,
+};
+
+const NOTES: usize = 400;
+const LIMIT: usize = 1400;
+/// Words of the send history: 32 commands of one word.
+const RING: usize = 65;
+/// When the line is dead, in ms.
+const OUT: std::ops::Range<u64> = 700..1000;
+
+/// A generator of 32 bits (xorshift).
+struct Random(u32);
+
+impl Random {
+    fn next(&mut self) -> u32 {
+        self.0 ^= self.0 << 13;
+        self.0 ^= self.0 >> 17;
+        self.0 ^= self.0 << 5;
+        self.0
+    }
+}
+
+/// A payload on the way.
+struct Flying {
+    to_chamber: bool,
+    due: u64,
+    bytes: Vec<u8>,
+}
+
+/// The line, and what became of the payloads.
+struct Line {
+    random: Random,
+    flying: Vec<Flying>,
+    sent: usize,
+    dropped: usize,
+    doubled: usize,
+}
+
+impl Line {
+    fn put(&mut self, to_chamber: bool, now: u64, bytes: &[u8]) {
+        self.sent += 1;
+        let copies = match self.random.next() % 100 {
+            n if n < 25 || OUT.contains(&now) => {
+                self.dropped += 1;
+                0
+            }
+            25..=34 => {
+                self.doubled += 1;
+                2
+            }
+            _ => 1,
+        };
+        for _ in 0..copies {
+            let due = now + 1 + u64::from(self.random.next() % 8);
+            self.flying.push(Flying {
+                to_chamber,
+                due,
+                bytes: bytes.to_vec(),
+            });
+        }
+    }
+
+    /// Takes the payloads that have arrived.
+    fn arrived(&mut self, now: u64) -> Vec<Flying> {
+        let (there, on_the_way) = self.flying.drain(..).partition(|f| f.due <= now);
+        self.flying = on_the_way;
+        there
+    }
+}
+
+/// What the chamber has heard.
+struct Book {
+    handed: Vec<usize>,
+    lost: Vec<bool>,
+    reports: usize,
+}
+
+impl Book {
+    fn report(&mut self, range: SeqRange) {
+        self.reports += 1;
+        for k in 0..range.count {
+            self.lost[usize::from(range.first.wrapping_add(k))] = true;
+        }
+    }
+}
+
+/// Writes what an end has to write, payload by payload.
+fn flush(end: &mut Stream, cfg: &StreamConfig, to_chamber: bool, now: u64, line: &mut Line) {
+    while end.wants_write(now).unwrap() {
+        let mut buf = [0; LIMIT];
+        let mut payload = Payload::new(LIMIT, &mut buf).unwrap();
+        let written = end.write_data(cfg, now, &mut payload).unwrap();
+        if written.commands > 0 {
+            line.put(to_chamber, now, payload.bytes());
+        }
+        if !written.more {
+            break;
+        }
+    }
+}
+
+fn arrive(
+    end: &mut Stream,
+    cfg: &StreamConfig,
+    f: &Flying,
+    now: u64,
+    line: &mut Line,
+    book: &mut Book,
+) {
+    for command in commands(&f.bytes).unwrap() {
+        match command {
+            Command::UmpData(seq, messages) => {
+                let delivery = end.on_ump_data(cfg, now, seq).unwrap();
+                if let Some(range) = delivery.lost {
+                    book.report(range);
+                }
+                if delivery.class != Class::Duplicate {
+                    for m in messages {
+                        let note = m.words()[0] & 0xFFFF;
+                        assert_eq!(
+                            note,
+                            u32::from(seq),
+                            "a note in another command than its own"
+                        );
+                        book.handed[note as usize] += 1;
+                    }
+                }
+            }
+            Command::RetransmitRequest(req) => {
+                if let RequestOutcome::Error(err) = end.on_retransmit_request(cfg, req).unwrap() {
+                    let mut buf = [0; LIMIT];
+                    let mut payload = Payload::new(LIMIT, &mut buf).unwrap();
+                    payload.retransmit_error(err).unwrap();
+                    line.put(true, now, payload.bytes());
+                }
+            }
+            Command::RetransmitError(err) => match end.on_retransmit_error(err).unwrap() {
+                StreamEvent::DataLoss(range) | StreamEvent::ErrorLoss(range, _) => {
+                    book.report(range)
+                }
+                StreamEvent::Nothing | StreamEvent::RetransmitError(_) => (),
+            },
+            other => panic!("a command that nobody wrote: {other:?}"),
+        }
+    }
+}
+
+fn main() {
+    let seed = std::env::args()
+        .nth(1)
+        .map_or(2463534242, |s| s.parse().expect("a seed"));
+    println!("seed {seed}");
+    let cfg = StreamConfig::default();
+    let (mut there, mut here) = ([0; RING], [0; RING]);
+    let mut console = Stream::new(&cfg, 64, 16, &mut there).unwrap();
+    let mut chamber = Stream::new(&cfg, 64, 16, &mut here).unwrap();
+    let mut line = Line {
+        random: Random(if seed == 0 { 1 } else { seed }),
+        flying: Vec::new(),
+        sent: 0,
+        dropped: 0,
+        doubled: 0,
+    };
+    let mut book = Book {
+        handed: vec![0; NOTES],
+        lost: vec![false; 65536],
+        reports: 0,
+    };
+    let mut played = 0;
+    for now in 0..6000 {
+        if played < NOTES && now % 5 == 0 {
+            // each note is written before the next is played: its command has its number
+            console
+                .send_ump(&cfg, &[0x2000_0000 | played as u32])
+                .unwrap();
+            played += 1;
+        }
+        if let StreamEvent::DataLoss(range) = chamber.poll(&cfg, now).unwrap() {
+            book.report(range);
+        }
+        flush(&mut console, &cfg, true, now, &mut line);
+        flush(&mut chamber, &cfg, false, now, &mut line);
+        for f in line.arrived(now) {
+            let end = if f.to_chamber {
+                &mut chamber
+            } else {
+                &mut console
+            };
+            arrive(end, &cfg, &f, now, &mut line, &mut book);
+        }
+    }
+    let mut on = 0;
+    for note in 0..played {
+        match book.handed[note] {
+            0 => assert!(
+                book.lost[note],
+                "note {note} was neither handed on nor reported lost"
+            ),
+            1 => on += 1,
+            n => panic!("note {note} was handed on {n} times"),
+        }
+    }
+    println!(
+        "payloads {}, lost on the line {}, doubled {}",
+        line.sent, line.dropped, line.doubled
+    );
+    println!(
+        "notes played {played}, handed on {on}, in a reported loss {} ({} reports)",
+        played - on,
+        book.reports
+    );
+}

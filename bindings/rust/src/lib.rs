@@ -1,0 +1,815 @@
+//! The data stream of Network MIDI 2.0 over UDP: a thin safe wrapper of the library's C functions
+//! (`include/sirmjold.h`). All memory is the caller's; nothing is allocated.
+//!
+//! [`Stream`] has both ends of a stream, [`Payload`] writes payloads, [`commands`] reads them, and
+//! [`Window`] is a receive window alone. Times are the caller's, in ms.
+#![no_std]
+#![warn(missing_docs)]
+
+mod raw;
+
+/// Why a call is refused. A refused call has changed nothing, but where it is said.
+#[derive(Debug, Clone, Copy, PartialEq, Eq)]
+pub enum Refusal {
+    /// The payload does not begin with the signature.
+    BadSignature,
+    /// The command does not fit in what is left of the payload.
+    Overflow,
+    /// The command does not fit in an empty payload.
+    TooLarge,
+    /// A value out of its range: a payload limit, or the words of a raw command.
+    InvalidValue,
+    /// Words that end inside a message, or too many of them.
+    InvalidUmpData,
+    /// The send history has no room for the words.
+    Full,
+    /// The idle interval is not 1 to 300 ms.
+    IdleInterval,
+    /// The idle growth is 0.
+    IdleGrowth,
+    /// The command size is not 1 to 64 words.
+    CommandWords,
+    /// A Retransmit Request or Error without its word.
+    Malformed,
+    /// A reason that is not in the table of its command.
+    ReasonNotAllowed,
+    /// A window, history or request ring of a size that is not taken.
+    SizeNotAllowed,
+    /// A state that no call has left.
+    InvalidState,
+}
+
+impl Refusal {
+    fn check(number: u8) -> Result<(), Refusal> {
+        Err(match number {
+            0 => return Ok(()),
+            1 => Refusal::BadSignature,
+            2 => Refusal::Overflow,
+            3 => Refusal::TooLarge,
+            4 => Refusal::InvalidValue,
+            5 => Refusal::InvalidUmpData,
+            6 => Refusal::Full,
+            7 => Refusal::IdleInterval,
+            8 => Refusal::IdleGrowth,
+            9 => Refusal::CommandWords,
+            10 => Refusal::Malformed,
+            11 => Refusal::ReasonNotAllowed,
+            12 => Refusal::SizeNotAllowed,
+            _ => Refusal::InvalidState,
+        })
+    }
+}
+
+/// The settings of a stream. No state keeps them: each call that uses them is given them.
+#[derive(Debug, Clone, Copy, PartialEq, Eq)]
+pub struct StreamConfig {
+    /// T1: ms from the last command with words to the first idle command, 1 to 300.
+    pub idle_interval_ms: u32,
+    /// G: each further idle interval is this many times the one before, 1 or more.
+    pub idle_growth: u32,
+    /// K: how many further idle commands follow.
+    pub idle_further: u8,
+    /// R: how many written commands each payload repeats.
+    pub fec_repeats: u8,
+    /// Whether Retransmit Requests are served and sent.
+    pub retransmit: bool,
+    /// D: ms before the first Retransmit Request.
+    pub request_delay_ms: u32,
+    /// M: how many requests are made for a gap.
+    pub max_requests: u8,
+    /// The most words of one data command, 1 to 64.
+    pub max_command_words: u32,
+}
+
+impl Default for StreamConfig {
+    fn default() -> Self {
+        StreamConfig {
+            idle_interval_ms: 100,
+            idle_growth: 2,
+            idle_further: 5,
+            fec_repeats: 2,
+            retransmit: true,
+            request_delay_ms: 10,
+            max_requests: 3,
+            max_command_words: 64,
+        }
+    }
+}
+
+impl StreamConfig {
+    fn words(&self) -> [u32; 8] {
+        [
+            self.idle_interval_ms,
+            self.idle_growth,
+            self.idle_further.into(),
+            self.fec_repeats.into(),
+            self.retransmit.into(),
+            self.request_delay_ms,
+            self.max_requests.into(),
+            self.max_command_words,
+        ]
+    }
+}
+
+/// `count` numbers from `first` on, going up and round.
+#[derive(Debug, Clone, Copy, PartialEq, Eq)]
+pub struct SeqRange {
+    /// The oldest number.
+    pub first: u16,
+    /// How many numbers there are.
+    pub count: u16,
+}
+
+impl SeqRange {
+    fn some(first: u16, count: u16) -> Option<SeqRange> {
+        (count != 0).then_some(SeqRange { first, count })
+    }
+
+    /// Whether `seq` is one of the numbers.
+    pub fn contains(&self, seq: u16) -> bool {
+        seq.wrapping_sub(self.first) < self.count
+    }
+}
+
+/// What a number is to a receive window.
+#[derive(Debug, Clone, Copy, PartialEq, Eq)]
+pub enum Class {
+    /// Ahead of the highest, with this many numbers skipped in between.
+    New(u16),
+    /// In the window, and not processed before.
+    Late,
+    /// Processed before, or too far behind to tell.
+    Duplicate,
+}
+
+/// What a data command was.
+#[derive(Debug, Clone, Copy, PartialEq, Eq)]
+pub struct Delivery {
+    /// What its number was: hand its messages on unless it is a duplicate.
+    pub class: Class,
+    /// The numbers that were skipped before it.
+    pub gap: Option<SeqRange>,
+    /// From the oldest to the newest number that left the window unprocessed.
+    pub lost: Option<SeqRange>,
+}
+
+impl Delivery {
+    fn of(d: raw::Delivery) -> Result<Delivery, Refusal> {
+        Refusal::check(d.refusal)?;
+        Ok(Delivery {
+            class: match d.class {
+                0 => Class::New(d.skipped),
+                1 => Class::Late,
+                _ => Class::Duplicate,
+            },
+            gap: SeqRange::some(d.gap_first, d.gap_count),
+            lost: SeqRange::some(d.lost_first, d.lost_count),
+        })
+    }
+}
+
+/// A Retransmit Error.
+#[derive(Debug, Clone, Copy, PartialEq, Eq)]
+pub struct RetransmitError {
+    /// 0 unknown, 1 not in the buffer.
+    pub reason: u8,
+    /// The number that was asked for.
+    pub seq: u16,
+}
+
+/// A Retransmit Request.
+#[derive(Debug, Clone, Copy, PartialEq, Eq)]
+pub struct RetransmitRequest {
+    /// The first number that is asked for.
+    pub seq: u16,
+    /// How many; 0 for all from `seq` on.
+    pub count: u16,
+}
+
+/// What became of a Retransmit Request.
+#[derive(Debug, Clone, Copy, PartialEq, Eq)]
+pub enum RequestOutcome {
+    /// It waits to be served.
+    Queued,
+    /// Ignored: one with the same number waits already.
+    Pending,
+    /// Ignored: every place is taken.
+    Full,
+    /// The number is not in the written history: the caller writes this error.
+    Error(RetransmitError),
+    /// Retransmits are off.
+    NotSupported,
+}
+
+/// What a timer or an answer of the peer has told.
+#[derive(Debug, Clone, Copy, PartialEq, Eq)]
+pub enum StreamEvent {
+    /// Nothing.
+    Nothing,
+    /// The numbers of the range that were not processed before are lost.
+    DataLoss(SeqRange),
+    /// The same, told by a Retransmit Error.
+    ErrorLoss(SeqRange, RetransmitError),
+    /// A Retransmit Error by which nothing was lost.
+    RetransmitError(RetransmitError),
+}
+
+impl StreamEvent {
+    fn of(e: raw::Event) -> Result<StreamEvent, Refusal> {
+        Refusal::check(e.refusal)?;
+        let range = SeqRange {
+            first: e.first,
+            count: e.count,
+        };
+        let error = RetransmitError {
+            reason: e.reason,
+            seq: e.seq,
+        };
+        Ok(match e.kind {
+            0 => StreamEvent::Nothing,
+            1 => StreamEvent::DataLoss(range),
+            2 => StreamEvent::ErrorLoss(range, error),
+            _ => StreamEvent::RetransmitError(error),
+        })
+    }
+}
+
+/// Whether a due request was taken into a payload.
+#[derive(Debug, Clone, Copy, PartialEq, Eq)]
+pub enum Request {
+    /// Nothing was due.
+    Nothing,
+    /// It was written.
+    Written,
+    /// It does not fit in what is left of the payload.
+    More,
+}
+
+/// What a write has written into the payload.
+#[derive(Debug, Clone, Copy, PartialEq, Eq)]
+pub struct Written {
+    /// How many commands.
+    pub commands: u64,
+    /// The next command in order did not fit: send the payload, and write again into a new one.
+    pub more: bool,
+}
+
+/// Both ends of a data stream, with a send history that the caller lends.
+#[derive(Debug)]
+pub struct Stream<'a> {
+    words: [u64; raw::STREAM_WORDS],
+    ring: &'a mut [u32],
+}
+
+impl<'a> Stream<'a> {
+    /// A fresh stream: a receive window of `window` numbers (1 to 128), a request ring of `places`
+    /// places (1 to 16), and a history of 65 to 32768 words, which is zeroed.
+    pub fn new(
+        cfg: &StreamConfig,
+        window: u32,
+        places: usize,
+        ring: &'a mut [u32],
+    ) -> Result<Stream<'a>, Refusal> {
+        let mut s = Stream {
+            words: [0; raw::STREAM_WORDS],
+            ring,
+        };
+        let cfg = cfg.words();
+        // SAFETY: each pointer is a slice's own, with its length, and they do not overlap. So below.
+        Refusal::check(unsafe {
+            raw::sirmjold_stream_new(
+                s.words.as_mut_ptr(),
+                s.words.len(),
+                cfg.as_ptr(),
+                cfg.len(),
+                window,
+                places,
+                s.ring.as_mut_ptr(),
+                s.ring.len(),
+            )
+        })?;
+        Ok(s)
+    }
+
+    /// Back to the fresh stream of the same sizes; the history is zeroed.
+    pub fn reset(&mut self) -> Result<(), Refusal> {
+        // SAFETY: as in `new`.
+        Refusal::check(unsafe {
+            raw::sirmjold_stream_reset(
+                self.words.as_mut_ptr(),
+                self.words.len(),
+                self.ring.as_mut_ptr(),
+                self.ring.len(),
+            )
+        })
+    }
+
+    /// Queues whole messages to send.
+    pub fn send_ump(&mut self, cfg: &StreamConfig, words: &[u32]) -> Result<(), Refusal> {
+        let cfg = cfg.words();
+        // SAFETY: as in `new`.
+        Refusal::check(unsafe {
+            raw::sirmjold_stream_send_ump(
+                self.words.as_mut_ptr(),
+                self.words.len(),
+                cfg.as_ptr(),
+                cfg.len(),
+                self.ring.as_mut_ptr(),
+                self.ring.len(),
+                words.as_ptr(),
+                words.len(),
+            )
+        })
+    }
+
+    /// A Retransmit Request arrives.
+    pub fn on_retransmit_request(
+        &mut self,
+        cfg: &StreamConfig,
+        req: RetransmitRequest,
+    ) -> Result<RequestOutcome, Refusal> {
+        let cfg = cfg.words();
+        // SAFETY: as in `new`.
+        let o = unsafe {
+            raw::sirmjold_stream_on_retransmit_request(
+                self.words.as_mut_ptr(),
+                self.words.len(),
+                cfg.as_ptr(),
+                cfg.len(),
+                self.ring.as_ptr(),
+                self.ring.len(),
+                req.seq,
+                req.count,
+            )
+        };
+        Refusal::check(o.refusal)?;
+        Ok(match o.kind {
+            0 => RequestOutcome::Queued,
+            1 => RequestOutcome::Pending,
+            2 => RequestOutcome::Full,
+            3 => RequestOutcome::Error(RetransmitError {
+                reason: o.reason,
+                seq: o.seq,
+            }),
+            _ => RequestOutcome::NotSupported,
+        })
+    }
+
+    /// A data command arrives.
+    pub fn on_ump_data(
+        &mut self,
+        cfg: &StreamConfig,
+        time: u64,
+        seq: u16,
+    ) -> Result<Delivery, Refusal> {
+        let cfg = cfg.words();
+        // SAFETY: as in `new`.
+        Delivery::of(unsafe {
+            raw::sirmjold_stream_on_ump_data(
+                self.words.as_mut_ptr(),
+                self.words.len(),
+                cfg.as_ptr(),
+                cfg.len(),
+                time,
+                seq,
+            )
+        })
+    }
+
+    /// A Retransmit Error arrives.
+    pub fn on_retransmit_error(&mut self, err: RetransmitError) -> Result<StreamEvent, Refusal> {
+        // SAFETY: as in `new`.
+        StreamEvent::of(unsafe {
+            raw::sirmjold_stream_on_retransmit_error(
+                self.words.as_mut_ptr(),
+                self.words.len(),
+                err.reason,
+                err.seq,
+            )
+        })
+    }
+
+    /// A NAK to a Retransmit Request arrives.
+    pub fn on_retransmit_nak(&mut self) -> Result<StreamEvent, Refusal> {
+        // SAFETY: as in `new`.
+        StreamEvent::of(unsafe {
+            raw::sirmjold_stream_on_retransmit_nak(self.words.as_mut_ptr(), self.words.len())
+        })
+    }
+
+    /// Runs the receiver's timer.
+    pub fn poll(&mut self, cfg: &StreamConfig, time: u64) -> Result<StreamEvent, Refusal> {
+        let cfg = cfg.words();
+        // SAFETY: as in `new`.
+        StreamEvent::of(unsafe {
+            raw::sirmjold_stream_poll(
+                self.words.as_mut_ptr(),
+                self.words.len(),
+                cfg.as_ptr(),
+                cfg.len(),
+                time,
+            )
+        })
+    }
+
+    /// Takes a due request into a payload, and writes nothing else.
+    pub fn write_request(
+        &mut self,
+        cfg: &StreamConfig,
+        payload: &mut Payload<'_>,
+    ) -> Result<Request, Refusal> {
+        let cfg = cfg.words();
+        // SAFETY: as in `new`.
+        let r = unsafe {
+            raw::sirmjold_stream_write_request(
+                self.words.as_mut_ptr(),
+                self.words.len(),
+                cfg.as_ptr(),
+                cfg.len(),
+                payload.words.as_mut_ptr(),
+                payload.words.len(),
+                payload.buf.as_mut_ptr(),
+                payload.buf.len(),
+            )
+        };
+        Refusal::check(r.refusal)?;
+        Ok(match r.kind {
+            0 => Request::Nothing,
+            1 => Request::Written,
+            _ => Request::More,
+        })
+    }
+
+    /// The earliest time at which `poll` or `write_data` has timed work.
+    pub fn next_deadline(&self) -> Result<Option<u64>, Refusal> {
+        // SAFETY: as in `new`.
+        let d = unsafe {
+            raw::sirmjold_stream_next_deadline(
+                self.words.as_ptr(),
+                self.words.len(),
+                self.ring.as_ptr(),
+                self.ring.len(),
+            )
+        };
+        Refusal::check(d.refusal)?;
+        Ok((d.kind == 1).then_some(d.time))
+    }
+
+    /// Whether `write_data` at this time has something to write.
+    pub fn wants_write(&self, time: u64) -> Result<bool, Refusal> {
+        // SAFETY: as in `new`.
+        let w = unsafe {
+            raw::sirmjold_stream_wants_write(
+                self.words.as_ptr(),
+                self.words.len(),
+                self.ring.as_ptr(),
+                self.ring.len(),
+                time,
+            )
+        };
+        Refusal::check(w.refusal)?;
+        Ok(w.wants != 0)
+    }
+
+    /// Writes into a payload: a due request, then the sender's commands. [`Refusal::TooLarge`] when the
+    /// payload is empty and the first of them does not fit: the one refusal that changes something,
+    /// since a due idle command is then queued, waiting requests that fit no payload are gone, and so
+    /// is a due request that is no longer needed.
+    pub fn write_data(
+        &mut self,
+        cfg: &StreamConfig,
+        time: u64,
+        payload: &mut Payload<'_>,
+    ) -> Result<Written, Refusal> {
+        let cfg = cfg.words();
+        // SAFETY: as in `new`.
+        let w = unsafe {
+            raw::sirmjold_stream_write_data(
+                self.words.as_mut_ptr(),
+                self.words.len(),
+                cfg.as_ptr(),
+                cfg.len(),
+                time,
+                payload.words.as_mut_ptr(),
+                payload.words.len(),
+                payload.buf.as_mut_ptr(),
+                payload.buf.len(),
+                self.ring.as_mut_ptr(),
+                self.ring.len(),
+            )
+        };
+        Refusal::check(w.refusal)?;
+        Ok(Written {
+            commands: w.commands,
+            more: w.more != 0,
+        })
+    }
+}
+
+/// A payload that is being written into a lent buffer.
+#[derive(Debug)]
+pub struct Payload<'a> {
+    words: [u64; 2],
+    buf: &'a mut [u8],
+}
+
+impl<'a> Payload<'a> {
+    /// An empty payload of at most `max` bytes, 8 to 1400. A shorter buffer lowers the limit.
+    pub fn new(max: usize, buf: &'a mut [u8]) -> Result<Payload<'a>, Refusal> {
+        let mut p = Payload { words: [0; 2], buf };
+        // SAFETY: the pointer is an array's own, with its length.
+        Refusal::check(unsafe {
+            raw::sirmjold_payload_new(p.words.as_mut_ptr(), p.words.len(), max)
+        })?;
+        Ok(p)
+    }
+
+    /// The bytes that were written.
+    pub fn bytes(&self) -> &[u8] {
+        &self.buf[..self.words[0] as usize]
+    }
+
+    /// Writes one raw command.
+    pub fn command(&mut self, code: u8, csd1: u8, csd2: u8, words: &[u32]) -> Result<(), Refusal> {
+        // SAFETY: each pointer is a slice's own, with its length, and they do not overlap. So below.
+        Refusal::check(unsafe {
+            raw::sirmjold_payload_command(
+                self.words.as_mut_ptr(),
+                self.words.len(),
+                self.buf.as_mut_ptr(),
+                self.buf.len(),
+                code,
+                csd1,
+                csd2,
+                words.as_ptr(),
+                words.len(),
+            )
+        })
+    }
+
+    /// Writes UMP Data.
+    pub fn ump_data(&mut self, seq: u16, words: &[u32]) -> Result<(), Refusal> {
+        // SAFETY: as in `command`.
+        Refusal::check(unsafe {
+            raw::sirmjold_ump_data_write(
+                self.words.as_mut_ptr(),
+                self.words.len(),
+                self.buf.as_mut_ptr(),
+                self.buf.len(),
+                seq,
+                words.as_ptr(),
+                words.len(),
+            )
+        })
+    }
+
+    /// Writes a Retransmit Request.
+    pub fn retransmit_request(&mut self, req: RetransmitRequest) -> Result<(), Refusal> {
+        // SAFETY: as in `command`.
+        Refusal::check(unsafe {
+            raw::sirmjold_retransmit_request_write(
+                self.words.as_mut_ptr(),
+                self.words.len(),
+                self.buf.as_mut_ptr(),
+                self.buf.len(),
+                req.seq,
+                req.count,
+            )
+        })
+    }
+
+    /// Writes a Retransmit Error.
+    pub fn retransmit_error(&mut self, err: RetransmitError) -> Result<(), Refusal> {
+        // SAFETY: as in `command`.
+        Refusal::check(unsafe {
+            raw::sirmjold_retransmit_error_write(
+                self.words.as_mut_ptr(),
+                self.words.len(),
+                self.buf.as_mut_ptr(),
+                self.buf.len(),
+                err.reason,
+                err.seq,
+            )
+        })
+    }
+}
+
+/// A command of a received payload.
+#[derive(Debug, Clone, Copy, PartialEq, Eq)]
+pub enum Command<'a> {
+    /// A data command: its number and its messages.
+    UmpData(u16, Messages<'a>),
+    /// A Retransmit Request.
+    RetransmitRequest(RetransmitRequest),
+    /// A Retransmit Error.
+    RetransmitError(RetransmitError),
+    /// Any other code, with its specific data and the bytes of its words.
+    Raw(u8, u8, u8, &'a [u8]),
+    /// A command that is longer than the rest of the payload; it is the last.
+    Truncated,
+    /// A request or an error without its word.
+    Malformed,
+}
+
+/// The commands of a received payload, one after the other.
+#[derive(Debug, Clone)]
+pub struct Commands<'a> {
+    payload: &'a [u8],
+    at: Option<usize>,
+}
+
+/// The commands of a payload; [`Refusal::BadSignature`] when it does not begin with the signature.
+pub fn commands(payload: &[u8]) -> Result<Commands<'_>, Refusal> {
+    // SAFETY: the pointer is the slice's own, with its length. So below.
+    let place = unsafe { raw::sirmjold_packet_open(payload.as_ptr(), payload.len()) };
+    Refusal::check(place.refusal)?;
+    Ok(Commands {
+        payload,
+        at: Some(place.at as usize),
+    })
+}
+
+impl<'a> Iterator for Commands<'a> {
+    type Item = Command<'a>;
+
+    fn next(&mut self) -> Option<Command<'a>> {
+        let at = self.at.take()?;
+        // SAFETY: as in `commands`.
+        let item =
+            unsafe { raw::sirmjold_packet_next(self.payload.as_ptr(), self.payload.len(), at) };
+        match item.kind {
+            0 => return None,
+            1 => return Some(Command::Truncated),
+            _ => (),
+        }
+        self.at = Some(item.next as usize);
+        let body = &self.payload[at + 4..item.next as usize];
+        // SAFETY: as in `commands`.
+        let c = unsafe {
+            raw::sirmjold_command_parse(
+                item.code,
+                item.len,
+                item.csd1,
+                item.csd2,
+                body.as_ptr(),
+                body.len(),
+            )
+        };
+        if c.refusal != 0 {
+            return Some(Command::Malformed);
+        }
+        Some(match c.kind {
+            1 => Command::UmpData(c.seq, Messages { body, at: 0 }),
+            2 => Command::RetransmitRequest(RetransmitRequest {
+                seq: c.seq,
+                count: c.count,
+            }),
+            3 => Command::RetransmitError(RetransmitError {
+                reason: c.reason,
+                seq: c.seq,
+            }),
+            _ => Command::Raw(item.code, item.csd1, item.csd2, body),
+        })
+    }
+}
+
+/// A message of 1 to 4 words.
+#[derive(Debug, Clone, Copy, PartialEq, Eq)]
+pub struct Message {
+    words: [u32; 4],
+    len: usize,
+}
+
+impl Message {
+    /// Its words.
+    pub fn words(&self) -> &[u32] {
+        &self.words[..self.len]
+    }
+}
+
+/// The whole messages of a data command; words that end inside a message end the walk.
+#[derive(Debug, Clone, Copy, PartialEq, Eq)]
+pub struct Messages<'a> {
+    body: &'a [u8],
+    at: usize,
+}
+
+impl Iterator for Messages<'_> {
+    type Item = Message;
+
+    fn next(&mut self) -> Option<Message> {
+        // SAFETY: as in `commands`.
+        let m =
+            unsafe { raw::sirmjold_messages_next(self.body.as_ptr(), self.body.len(), self.at) };
+        if m.kind != 2 {
+            return None;
+        }
+        let mut words = [0; 4];
+        let len = usize::from(m.len).min(4);
+        for (k, w) in words[..len].iter_mut().enumerate() {
+            // SAFETY: as in `commands`.
+            *w = unsafe {
+                raw::sirmjold_word(self.body.as_ptr(), self.body.len(), self.at + k).word
+            };
+        }
+        self.at = m.next as usize;
+        Some(Message { words, len })
+    }
+}
+
+/// A receive window alone.
+#[derive(Debug, Clone, PartialEq, Eq)]
+pub struct Window {
+    words: [u64; 4],
+}
+
+impl Window {
+    /// A fresh window of 1 to 128 numbers: 0 is the next.
+    pub fn new(size: u32) -> Result<Window, Refusal> {
+        Window::starting_at(size, 0xFFFF)
+    }
+
+    /// The highest and all before it processed.
+    pub fn starting_at(size: u32, highest: u16) -> Result<Window, Refusal> {
+        let mut w = Window { words: [0; 4] };
+        // SAFETY: the pointer is the array's own, with its length. So below.
+        Refusal::check(unsafe {
+            raw::sirmjold_window_starting_at(w.words.as_mut_ptr(), w.words.len(), size, highest)
+        })?;
+        Ok(w)
+    }
+
+    /// Back to the fresh window of the same size.
+    pub fn reset(&mut self) -> Result<(), Refusal> {
+        // SAFETY: as in `starting_at`.
+        Refusal::check(unsafe {
+            raw::sirmjold_window_reset(self.words.as_mut_ptr(), self.words.len())
+        })
+    }
+
+    /// What a number is to the window.
+    pub fn classify(&self, seq: u16) -> Result<Class, Refusal> {
+        // SAFETY: as in `starting_at`.
+        let d =
+            unsafe { raw::sirmjold_window_classify(self.words.as_ptr(), self.words.len(), seq) };
+        Ok(Delivery::of(d)?.class)
+    }
+
+    /// A number arrives: it is processed now, unless it is a duplicate. The second answer spans the
+    /// numbers that left the window unprocessed.
+    pub fn accept(&mut self, seq: u16) -> Result<(Class, Option<SeqRange>), Refusal> {
+        // SAFETY: as in `starting_at`.
+        let d =
+            unsafe { raw::sirmjold_window_accept(self.words.as_mut_ptr(), self.words.len(), seq) };
+        let d = Delivery::of(d)?;
+        Ok((d.class, d.lost))
+    }
+
+    /// Whether the number is the highest, or one of the window's numbers that was processed.
+    pub fn is_processed(&self, seq: u16) -> Result<bool, Refusal> {
+        // SAFETY: as in `starting_at`.
+        let k = unsafe {
+            raw::sirmjold_window_is_processed(self.words.as_ptr(), self.words.len(), seq)
+        };
+        Refusal::check(k.refusal)?;
+        Ok(k.processed != 0)
+    }
+
+    fn span(s: raw::Span) -> Result<Option<SeqRange>, Refusal> {
+        Refusal::check(s.refusal)?;
+        Ok(SeqRange::some(s.first, s.count))
+    }
+
+    /// From the oldest to the newest missing number.
+    pub fn missing(&self) -> Result<Option<SeqRange>, Refusal> {
+        // SAFETY: as in `starting_at`.
+        Window::span(unsafe { raw::sirmjold_window_missing(self.words.as_ptr(), self.words.len()) })
+    }
+
+    /// What a Retransmit Request asks for: from the oldest missing number to just before the highest.
+    pub fn request(&self) -> Result<Option<SeqRange>, Refusal> {
+        // SAFETY: as in `starting_at`.
+        Window::span(unsafe { raw::sirmjold_window_request(self.words.as_ptr(), self.words.len()) })
+    }
+
+    /// All numbers of the window are processed now.
+    pub fn mark_all(&mut self) -> Result<(), Refusal> {
+        // SAFETY: as in `starting_at`.
+        Refusal::check(unsafe {
+            raw::sirmjold_window_mark_all(self.words.as_mut_ptr(), self.words.len())
+        })
+    }
+
+    /// The missing numbers that are in the range are processed now; the answer spans them.
+    pub fn mark_range(&mut self, range: SeqRange) -> Result<Option<SeqRange>, Refusal> {
+        // SAFETY: as in `starting_at`.
+        Window::span(unsafe {
+            raw::sirmjold_window_mark_range(
+                self.words.as_mut_ptr(),
+                self.words.len(),
+                range.first,
+                range.count,
+            )
+        })
+    }
+}

@@ -1,0 +1,258 @@
+//! The C functions, as `include/sirmjold.h` declares them.
+pub const STREAM_WORDS: usize = 59;
+
+#[repr(C)]
+pub struct Outcome {
+    pub refusal: u8,
+    pub kind: u8,
+    pub reason: u8,
+    pub seq: u16,
+}
+
+#[repr(C)]
+pub struct Delivery {
+    pub refusal: u8,
+    pub class: u8,
+    pub skipped: u16,
+    pub gap_first: u16,
+    pub gap_count: u16,
+    pub lost_first: u16,
+    pub lost_count: u16,
+}
+
+#[repr(C)]
+pub struct Event {
+    pub refusal: u8,
+    pub kind: u8,
+    pub reason: u8,
+    pub seq: u16,
+    pub first: u16,
+    pub count: u16,
+}
+
+#[repr(C)]
+pub struct Request {
+    pub refusal: u8,
+    pub kind: u8,
+}
+
+#[repr(C)]
+pub struct Deadline {
+    pub time: u64,
+    pub refusal: u8,
+    pub kind: u8,
+}
+
+#[repr(C)]
+pub struct Wants {
+    pub refusal: u8,
+    pub wants: u8,
+}
+
+#[repr(C)]
+pub struct Written {
+    pub commands: u64,
+    pub refusal: u8,
+    pub more: u8,
+}
+
+#[repr(C)]
+pub struct Place {
+    pub at: u64,
+    pub refusal: u8,
+}
+
+#[repr(C)]
+pub struct Item {
+    pub next: u64,
+    pub kind: u8,
+    pub code: u8,
+    pub len: u8,
+    pub csd1: u8,
+    pub csd2: u8,
+}
+
+#[repr(C)]
+pub struct Command {
+    pub refusal: u8,
+    pub kind: u8,
+    pub reason: u8,
+    pub seq: u16,
+    pub count: u16,
+}
+
+#[repr(C)]
+pub struct Message {
+    pub next: u64,
+    pub kind: u8,
+    pub len: u8,
+}
+
+#[repr(C)]
+pub struct Word {
+    pub word: u32,
+    pub found: u8,
+}
+
+#[repr(C)]
+pub struct Span {
+    pub refusal: u8,
+    pub first: u16,
+    pub count: u16,
+}
+
+#[repr(C)]
+pub struct Known {
+    pub refusal: u8,
+    pub processed: u8,
+}
+
+extern "C" {
+    pub fn sirmjold_stream_new(
+        s: *mut u64,
+        s_len: usize,
+        cfg: *const u32,
+        cfg_len: usize,
+        window: u32,
+        places: usize,
+        ring: *mut u32,
+        ring_len: usize,
+    ) -> u8;
+    pub fn sirmjold_stream_reset(s: *mut u64, s_len: usize, ring: *mut u32, ring_len: usize) -> u8;
+    pub fn sirmjold_stream_send_ump(
+        s: *mut u64,
+        s_len: usize,
+        cfg: *const u32,
+        cfg_len: usize,
+        ring: *mut u32,
+        ring_len: usize,
+        words: *const u32,
+        words_len: usize,
+    ) -> u8;
+    pub fn sirmjold_stream_on_retransmit_request(
+        s: *mut u64,
+        s_len: usize,
+        cfg: *const u32,
+        cfg_len: usize,
+        ring: *const u32,
+        ring_len: usize,
+        seq: u16,
+        count: u16,
+    ) -> Outcome;
+    pub fn sirmjold_stream_on_ump_data(
+        s: *mut u64,
+        s_len: usize,
+        cfg: *const u32,
+        cfg_len: usize,
+        time: u64,
+        seq: u16,
+    ) -> Delivery;
+    pub fn sirmjold_stream_on_retransmit_error(
+        s: *mut u64,
+        s_len: usize,
+        reason: u8,
+        seq: u16,
+    ) -> Event;
+    pub fn sirmjold_stream_on_retransmit_nak(s: *mut u64, s_len: usize) -> Event;
+    pub fn sirmjold_stream_poll(
+        s: *mut u64,
+        s_len: usize,
+        cfg: *const u32,
+        cfg_len: usize,
+        time: u64,
+    ) -> Event;
+    pub fn sirmjold_stream_write_request(
+        s: *mut u64,
+        s_len: usize,
+        cfg: *const u32,
+        cfg_len: usize,
+        p: *mut u64,
+        p_len: usize,
+        buf: *mut u8,
+        buf_len: usize,
+    ) -> Request;
+    pub fn sirmjold_stream_next_deadline(
+        s: *const u64,
+        s_len: usize,
+        ring: *const u32,
+        ring_len: usize,
+    ) -> Deadline;
+    pub fn sirmjold_stream_wants_write(
+        s: *const u64,
+        s_len: usize,
+        ring: *const u32,
+        ring_len: usize,
+        time: u64,
+    ) -> Wants;
+    pub fn sirmjold_stream_write_data(
+        s: *mut u64,
+        s_len: usize,
+        cfg: *const u32,
+        cfg_len: usize,
+        time: u64,
+        p: *mut u64,
+        p_len: usize,
+        buf: *mut u8,
+        buf_len: usize,
+        ring: *mut u32,
+        ring_len: usize,
+    ) -> Written;
+    pub fn sirmjold_payload_new(p: *mut u64, p_len: usize, max: usize) -> u8;
+    pub fn sirmjold_payload_command(
+        p: *mut u64,
+        p_len: usize,
+        buf: *mut u8,
+        buf_len: usize,
+        code: u8,
+        csd1: u8,
+        csd2: u8,
+        words: *const u32,
+        words_len: usize,
+    ) -> u8;
+    pub fn sirmjold_ump_data_write(
+        p: *mut u64,
+        p_len: usize,
+        buf: *mut u8,
+        buf_len: usize,
+        seq: u16,
+        words: *const u32,
+        words_len: usize,
+    ) -> u8;
+    pub fn sirmjold_retransmit_request_write(
+        p: *mut u64,
+        p_len: usize,
+        buf: *mut u8,
+        buf_len: usize,
+        seq: u16,
+        count: u16,
+    ) -> u8;
+    pub fn sirmjold_retransmit_error_write(
+        p: *mut u64,
+        p_len: usize,
+        buf: *mut u8,
+        buf_len: usize,
+        reason: u8,
+        seq: u16,
+    ) -> u8;
+    pub fn sirmjold_packet_open(payload: *const u8, payload_len: usize) -> Place;
+    pub fn sirmjold_packet_next(payload: *const u8, payload_len: usize, at: usize) -> Item;
+    pub fn sirmjold_command_parse(
+        code: u8,
+        len: u8,
+        csd1: u8,
+        csd2: u8,
+        body: *const u8,
+        body_len: usize,
+    ) -> Command;
+    pub fn sirmjold_messages_next(body: *const u8, body_len: usize, at: usize) -> Message;
+    pub fn sirmjold_word(body: *const u8, body_len: usize, index: usize) -> Word;
+    pub fn sirmjold_window_starting_at(w: *mut u64, w_len: usize, size: u32, highest: u16) -> u8;
+    pub fn sirmjold_window_reset(w: *mut u64, w_len: usize) -> u8;
+    pub fn sirmjold_window_classify(w: *const u64, w_len: usize, seq: u16) -> Delivery;
+    pub fn sirmjold_window_accept(w: *mut u64, w_len: usize, seq: u16) -> Delivery;
+    pub fn sirmjold_window_is_processed(w: *const u64, w_len: usize, seq: u16) -> Known;
+    pub fn sirmjold_window_missing(w: *const u64, w_len: usize) -> Span;
+    pub fn sirmjold_window_request(w: *const u64, w_len: usize) -> Span;
+    pub fn sirmjold_window_mark_all(w: *mut u64, w_len: usize) -> u8;
+    pub fn sirmjold_window_mark_range(w: *mut u64, w_len: usize, first: u16, count: u16) -> Span;
+}

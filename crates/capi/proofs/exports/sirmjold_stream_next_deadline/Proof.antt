@@ -1,0 +1,39 @@
+-- The words are loaded, and the call is made.
+use Rattle.capi.proofs.Calls.{deadline-told, deadline-state}
+use borrow.Author.Needs.{needs}
+use mathlib.Core.Path.{sym, _∙_}
+use Rattle.capi.proofs.exports.sirmjold_stream_next_deadline.Statement.{statement}
+use Rattle.capi.proofs.exports.sirmjold_stream_next_deadline.Tie as tie
+
+fits-requires : tie.Need-fits-requires
+fits-requires c κs = search needs
+
+load-requires : tie.Need-load-requires
+load-requires c κs = (sym (c .before .fits2 .ensures) ∙ c .if1 .taken)
+
+next-deadline-requires : tie.Need-next-deadline-requires
+next-deadline-requires c κs = search needs
+
+of-deadline-requires : tie.Need-of-deadline-requires
+of-deadline-requires c κs = search needs
+
+returns : tie.Need-returns
+returns c = deadline-told _ _ (sym (c .before .before .before .before .fits2 .ensures) ∙ c .before .before .before .if1 .taken) _ (c .before .before .load .ensures) _ (c .before .next-deadline .ensures) _ (c .of-deadline .ensures)
+
+refused-deadline-requires : tie.Need-refused-deadline-requires
+refused-deadline-requires c κs = search needs
+
+returns-2 : tie.Need-returns-2
+returns-2 c = deadline-state _ _ (sym (c .before .before .fits2 .ensures) ∙ c .before .if1 .left) _ (c .refused-deadline .ensures)
+
+pub sirmjold-stream-next-deadline-spec : {M : Type 1} → statement M
+sirmjold-stream-next-deadline-spec =
+    tie.close
+    (tie.spec
+    fits-requires
+    load-requires
+    next-deadline-requires
+    of-deadline-requires
+    returns
+    refused-deadline-requires
+    returns-2)

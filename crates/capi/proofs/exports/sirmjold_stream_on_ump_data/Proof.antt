@@ -1,0 +1,73 @@
+-- The words are loaded, the call is made, and the words are stored.
+use Rattle.capi.proofs.Calls.{data-done, data-settings, data-state}
+use Rattle.capi.proofs.Words.{fits-known}
+use borrow.Author.Needs.{needs}
+use mathlib.Core.Path.{sym, _∙_}
+use Rattle.capi.proofs.exports.sirmjold_stream_on_ump_data.Statement.{statement}
+use Rattle.capi.proofs.exports.sirmjold_stream_on_ump_data.Tie as tie
+
+fits-requires : tie.Need-fits-requires
+fits-requires c κs = search needs
+
+fits-requires-2 : tie.Need-fits-requires-2
+fits-requires-2 c κs = search needs
+
+load-requires : tie.Need-load-requires
+load-requires c κs = (sym (c .before .before .before .before .fits2 .ensures) ∙ c .before .before .before .if1 .taken)
+
+load-requires-2 : tie.Need-load-requires-2
+load-requires-2 c κs = (sym (c .before .before .before .fits3 .ensures) ∙ c .before .before .if2 .taken)
+
+on-ump-data-requires : tie.Need-on-ump-data-requires
+on-ump-data-requires c κs = search needs
+
+store-requires : tie.Need-store-requires
+store-requires c κs = (fits-known _ (sym (c .before .before .before .before .before .before .before .before .before .fits2 .ensures) ∙ c .before .before .before .before .before .before .before .before .if1 .taken)) .whole
+
+of-hearing-requires : tie.Need-of-hearing-requires
+of-hearing-requires c κs = search needs
+
+same-length : tie.Need-same-length
+same-length c = search needs
+
+returns : tie.Need-returns
+returns c =
+    data-done _ _ _ _ (sym (c .before .before .before .before .before .before .before .before .before .before .before .before .before .fits2 .ensures) ∙ c .before .before .before .before .before .before .before .before .before .before .before .before .if1 .taken) (sym (c .before .before .before .before .before .before .before .before .before .before .before .fits3 .ensures) ∙ c .before .before .before .before .before .before .before .before .before .before .if2 .taken) _ _ (c .before .before .before .before .before .before .before .before .load .ensures) (c .before .before .before .before .before .before .before .load2 .ensures) _ (c .before .before .before .before .before .before .on-ump-data .ensures) _ (c .before .before .before .store .ensures) _ (c .of-hearing .ensures)
+
+refused-delivery-requires : tie.Need-refused-delivery-requires
+refused-delivery-requires c κs = search needs
+
+same-length-2 : tie.Need-same-length-2
+same-length-2 c = search needs
+
+returns-2 : tie.Need-returns-2
+returns-2 c = data-settings _ _ _ _ (sym (c .before .before .before .before .fits2 .ensures) ∙ c .before .before .before .if1 .taken) (sym (c .before .before .fits3 .ensures) ∙ c .before .if2 .left) _ (c .refused-delivery .ensures)
+
+refused-delivery-requires-2 : tie.Need-refused-delivery-requires-2
+refused-delivery-requires-2 c κs = search needs
+
+same-length-3 : tie.Need-same-length-3
+same-length-3 c = search needs
+
+returns-3 : tie.Need-returns-3
+returns-3 c = data-state _ _ _ _ (sym (c .before .before .fits2 .ensures) ∙ c .before .if1 .left) _ (c .refused-delivery2 .ensures)
+
+pub sirmjold-stream-on-ump-data-spec : {M : Type 1} → statement M
+sirmjold-stream-on-ump-data-spec =
+    tie.close
+    (tie.spec
+    fits-requires
+    fits-requires-2
+    load-requires
+    load-requires-2
+    on-ump-data-requires
+    store-requires
+    of-hearing-requires
+    same-length
+    returns
+    refused-delivery-requires
+    same-length-2
+    returns-2
+    refused-delivery-requires-2
+    same-length-3
+    returns-3)

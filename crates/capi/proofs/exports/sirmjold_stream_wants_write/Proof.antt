@@ -1,0 +1,39 @@
+-- The words are loaded, and the call is made.
+use Rattle.capi.proofs.Calls.{wants-told, wants-state}
+use borrow.Author.Needs.{needs}
+use mathlib.Core.Path.{sym, _∙_}
+use Rattle.capi.proofs.exports.sirmjold_stream_wants_write.Statement.{statement}
+use Rattle.capi.proofs.exports.sirmjold_stream_wants_write.Tie as tie
+
+fits-requires : tie.Need-fits-requires
+fits-requires c κs = search needs
+
+load-requires : tie.Need-load-requires
+load-requires c κs = (sym (c .before .fits2 .ensures) ∙ c .if1 .taken)
+
+wants-write-requires : tie.Need-wants-write-requires
+wants-write-requires c κs = search needs
+
+of-wants-requires : tie.Need-of-wants-requires
+of-wants-requires c κs = search needs
+
+returns : tie.Need-returns
+returns c = wants-told _ _ _ (sym (c .before .before .before .before .fits2 .ensures) ∙ c .before .before .before .if1 .taken) _ (c .before .before .load .ensures) _ (c .before .wants-write .ensures) _ (c .of-wants .ensures)
+
+refused-wants-requires : tie.Need-refused-wants-requires
+refused-wants-requires c κs = search needs
+
+returns-2 : tie.Need-returns-2
+returns-2 c = wants-state _ _ _ (sym (c .before .before .fits2 .ensures) ∙ c .before .if1 .left) _ (c .refused-wants .ensures)
+
+pub sirmjold-stream-wants-write-spec : {M : Type 1} → statement M
+sirmjold-stream-wants-write-spec =
+    tie.close
+    (tie.spec
+    fits-requires
+    load-requires
+    wants-write-requires
+    of-wants-requires
+    returns
+    refused-wants-requires
+    returns-2)

@@ -1,0 +1,39 @@
+-- The words are loaded, and the call is made.
+use Rattle.capi.proofs.Calls.{span-told, span-state}
+use borrow.Author.Needs.{needs}
+use mathlib.Core.Path.{sym, _∙_}
+use Rattle.capi.proofs.window_exports.sirmjold_window_request.Statement.{statement}
+use Rattle.capi.proofs.window_exports.sirmjold_window_request.Tie as tie
+
+fits-requires : tie.Need-fits-requires
+fits-requires c κs = search needs
+
+load-requires : tie.Need-load-requires
+load-requires c κs = (sym (c .before .fits2 .ensures) ∙ c .if1 .taken)
+
+request-requires : tie.Need-request-requires
+request-requires c κs = search needs
+
+of-extent-requires : tie.Need-of-extent-requires
+of-extent-requires c κs = search needs
+
+returns : tie.Need-returns
+returns c = span-told _ _ (sym (c .before .before .before .before .fits2 .ensures) ∙ c .before .before .before .if1 .taken) _ (c .before .before .load .ensures) _ (c .before .request .ensures) _ (c .of-extent .ensures)
+
+refused-span-requires : tie.Need-refused-span-requires
+refused-span-requires c κs = search needs
+
+returns-2 : tie.Need-returns-2
+returns-2 c = span-state _ _ (sym (c .before .before .fits2 .ensures) ∙ c .before .if1 .left) _ (c .refused-span .ensures)
+
+pub sirmjold-window-request-spec : {M : Type 1} → statement M
+sirmjold-window-request-spec =
+    tie.close
+    (tie.spec
+    fits-requires
+    load-requires
+    request-requires
+    of-extent-requires
+    returns
+    refused-span-requires
+    returns-2)

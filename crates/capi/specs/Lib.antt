@@ -1,0 +1,10 @@
+-- The definitions that this crate's contracts cite.
+pub mod Limits
+pub mod Stream
+pub mod Settings
+pub mod Payload
+pub mod Answers
+pub mod Exports
+pub mod Window
+pub mod Theorems
+pub mod Reading

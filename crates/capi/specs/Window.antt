@@ -1,0 +1,78 @@
+-- 01, "Position, window, loss": a window's size, highest, bits low and high, as four words; 13 for words that are no window's.
+use mathlib.Core.Path.{_≡_}
+use Prim.Native.Nat.{ℕ, _≤_}
+use mathlib.Core.Bool.{Bool, cond}
+use mathlib.Core.List.{List, [], _∷_}
+use lib.ListN.{length, getD}
+use Rattle.window.specs.Answers.{acceptAnswer, classAnswer, processedAnswer, startAnswer}
+use Rattle.window.specs.declared.window.ReceiveWindow.{ReceiveWindow}
+use Rattle.window.specs.declared.window.Accepted.{Accepted}
+use Rattle.window.specs.declared.window.Started.{Started}
+use Rattle.window.specs.declared.window.Started.the-variants.{Window, Refused}
+use Rattle.window.specs.declared.window.Changed.{Changed}
+use Rattle.config.specs.Refusals.{numberOf}
+use lib.Dec.{eqb}
+use Rattle.window.specs.declared.window.Extended.{Extended}
+use Rattle.capi.specs.Limits.{allWithin}
+use Rattle.capi.specs.Answers.{acceptanceOf, deliveryRefused, changeNumber, extentOf, spanRefused, classificationOf, knowledgeOf, knownRefused}
+use Rattle.capi.specs.declared.answers.CDelivery.{CDelivery}
+use Rattle.capi.specs.declared.answers.CSpan.{CSpan}
+use Rattle.capi.specs.declared.answers.CKnown.{CKnown}
+
+abbrev at : List ℕ → ℕ → ℕ
+at ws k = getD ws k 0
+
+-- the largest value of each word
+abbrev pub windowLimits : List ℕ
+windowLimits = 4294967295 ∷ 65535 ∷ 18446744073709551615 ∷ 18446744073709551615 ∷ []
+
+unfoldable pub windowFits : List ℕ → Bool
+windowFits ws = allWithin windowLimits ws
+
+-- words that fit
+pub record Narrow (ws : List ℕ) : Type 0 where
+  pub whole : length ws ≡ 4
+  pub size : at ws 0 ≤ 4294967295
+  pub highest : at ws 1 ≤ 65535
+
+abbrev pub windowAt : List ℕ → ReceiveWindow
+windowAt ws = record { size = at ws 0; highest = at ws 1; bits = record { low = at ws 2; high = at ws 3 } }
+
+abbrev pub windowWords : ReceiveWindow → List ℕ
+windowWords w = w .size ∷ w .highest ∷ w .bits .low ∷ w .bits .high ∷ []
+
+abbrev acceptedInto : Accepted → CDelivery × List ℕ
+acceptedInto e = (acceptanceOf (e .answer), windowWords (e .window))
+
+unfoldable pub acceptExport : List ℕ → ℕ → CDelivery × List ℕ
+acceptExport ws seq = cond (windowFits ws) (acceptedInto (acceptAnswer (windowAt ws) seq)) (deliveryRefused 13, ws)
+
+-- ---- the other calls: a change, a mark, and questions, by the definition of each
+abbrev changedInto : Changed → ℕ × List ℕ
+changedInto e = (changeNumber (e .answer), windowWords (e .window))
+
+unfoldable pub changeExport : (ReceiveWindow → Changed) → List ℕ → ℕ × List ℕ
+changeExport change ws = cond (windowFits ws) (changedInto (change (windowAt ws))) (13, ws)
+
+abbrev markedInto : Extended → CSpan × List ℕ
+markedInto e = (extentOf (e .answer), windowWords (e .window))
+
+unfoldable pub markExport : (ReceiveWindow → Extended) → List ℕ → CSpan × List ℕ
+markExport mark ws = cond (windowFits ws) (markedInto (mark (windowAt ws))) (spanRefused 13, ws)
+
+unfoldable pub spanExport : (ReceiveWindow → Extended) → List ℕ → CSpan
+spanExport ask ws = cond (windowFits ws) (extentOf (ask (windowAt ws) .answer)) (spanRefused 13)
+
+unfoldable pub classExport : List ℕ → ℕ → CDelivery
+classExport ws seq = cond (windowFits ws) (classificationOf (classAnswer (windowAt ws) seq .answer)) (deliveryRefused 13)
+
+unfoldable pub knownExport : List ℕ → ℕ → CKnown
+knownExport ws seq = cond (windowFits ws) (knowledgeOf (processedAnswer (windowAt ws) seq .answer)) (knownRefused 13)
+
+-- ---- a start: a window that is not started leaves the words as they were
+abbrev pub startedInto : Started → List ℕ → ℕ × List ℕ
+startedInto (Window w) ws = (0, windowWords w)
+startedInto (Refused why) ws = (numberOf why, ws)
+
+unfoldable pub startExport : List ℕ → ℕ → ℕ → ℕ × List ℕ
+startExport ws size highest = cond (eqb (length ws) 4) (startedInto (startAnswer size highest) ws) (13, ws)

@@ -1,0 +1,275 @@
+// The calls of a stream whose words the caller lends in `s`. Each tests its words first: 13 for words
+// that are no stream's, for settings that do not fit, and for a payload that is not two words.
+ghost use mathlib.Core.Path.{_≡_};
+ghost use Rattle.capi.specs.Exports.{newExport, resetExport, sendExport, dataExport, writeExport, requestExport, errorExport, nakExport, pollExport, takeExport, deadlineExport, wantsExport};
+use super::answers;
+use super::answers::CDeadline;
+use super::answers::CDelivery;
+use super::answers::CEvent;
+use super::answers::COutcome;
+use super::answers::CRequest;
+use super::answers::CWants;
+use super::answers::CWritten;
+use super::payload;
+use super::settings;
+use super::state;
+use command::data::UmpData;
+use command::retransmit::RetransmitError;
+use command::retransmit::RetransmitRequest;
+use stream::stream::DataStream;
+
+// A fresh stream: a receive window of `window` numbers, the lent history, which is zeroed, and a
+// request ring of `places` places.
+#[no_mangle]
+pub extern "C" fn sirmjold_stream_new(
+    s: &mut [u64],
+    cfg: &[u32],
+    window: u32,
+    places: usize,
+    ring: &mut [u32],
+) -> u8
+    ensures { λ r. ⌜ (r, now (s .exit), now (ring .exit)) ≡ newExport (now (s .entry)) (now (cfg .entry)) window places (now (ring .entry)) ⌝ }
+{
+    if s.len() == state::WORDS {
+        if settings::fits(cfg) {
+            let started = DataStream::new(settings::load(cfg), window, ring.len(), places, ring);
+            let stream = started.stream;
+            let answer = started.answer;
+            state::store(stream, s);
+            return answers::of_start(answer);
+        }
+        return 13;
+    }
+    13
+}
+
+// Back to the fresh stream of the same sizes.
+#[no_mangle]
+pub extern "C" fn sirmjold_stream_reset(s: &mut [u64], ring: &mut [u32]) -> u8
+    ensures { λ r. ⌜ (r, now (s .exit), now (ring .exit)) ≡ resetExport (now (s .entry)) (now (ring .entry)) ⌝ }
+{
+    if state::fits(&s[..]) {
+        let before = state::load(&s[..]);
+        let done = before.reset(ring);
+        let stream = done.stream;
+        let answer = done.answer;
+        state::store(stream, s);
+        return answers::of_reset(answer);
+    }
+    13
+}
+
+// Queues whole messages to send.
+#[no_mangle]
+pub extern "C" fn sirmjold_stream_send_ump(
+    s: &mut [u64],
+    cfg: &[u32],
+    ring: &mut [u32],
+    words: &[u32],
+) -> u8
+    ensures { λ r. ⌜ (r, now (s .exit), now (ring .exit)) ≡ sendExport (now (s .entry)) (now (cfg .entry)) (now (ring .entry)) (now (words .entry)) ⌝ }
+{
+    if state::fits(&s[..]) {
+        if settings::fits(cfg) {
+            let before = state::load(&s[..]);
+            let done = before.send_ump(settings::load(cfg), ring, words);
+            let stream = done.stream;
+            let answer = done.answer;
+            state::store(stream, s);
+            return answers::of_send(answer);
+        }
+        return 13;
+    }
+    13
+}
+
+// A Retransmit Request arrives.
+#[no_mangle]
+pub extern "C" fn sirmjold_stream_on_retransmit_request(
+    s: &mut [u64],
+    cfg: &[u32],
+    ring: &[u32],
+    seq: u16,
+    count: u16,
+) -> COutcome
+    ensures { λ r. ⌜ (r, now (s .exit)) ≡ requestExport (now (s .entry)) (now (cfg .entry)) (now (ring .entry)) seq count ⌝ }
+{
+    if state::fits(&s[..]) {
+        if settings::fits(cfg) {
+            let before = state::load(&s[..]);
+            let req = RetransmitRequest { seq, count };
+            let done = before.on_retransmit_request(settings::load(cfg), ring, req);
+            let stream = done.stream;
+            let outcome = done.outcome;
+            state::store(stream, s);
+            return answers::of_outcome(outcome);
+        }
+        return answers::refused_outcome(13);
+    }
+    answers::refused_outcome(13)
+}
+
+// A data command arrives.
+#[no_mangle]
+pub extern "C" fn sirmjold_stream_on_ump_data(
+    s: &mut [u64],
+    cfg: &[u32],
+    time: u64,
+    seq: u16,
+) -> CDelivery
+    ensures { λ r. ⌜ (r, now (s .exit)) ≡ dataExport (now (s .entry)) (now (cfg .entry)) time seq ⌝ }
+{
+    if state::fits(&s[..]) {
+        if settings::fits(cfg) {
+            let before = state::load(&s[..]);
+            let done = before.on_ump_data(settings::load(cfg), time, UmpData { seq });
+            let stream = done.stream;
+            let answer = done.answer;
+            state::store(stream, s);
+            return answers::of_hearing(answer);
+        }
+        return answers::refused_delivery(13);
+    }
+    answers::refused_delivery(13)
+}
+
+// A Retransmit Error arrives.
+#[no_mangle]
+pub extern "C" fn sirmjold_stream_on_retransmit_error(s: &mut [u64], reason: u8, seq: u16) -> CEvent
+    ensures { λ r. ⌜ (r, now (s .exit)) ≡ errorExport (now (s .entry)) reason seq ⌝ }
+{
+    if state::fits(&s[..]) {
+        let before = state::load(&s[..]);
+        let done = before.on_retransmit_error(RetransmitError { reason, seq });
+        let stream = done.stream;
+        let event = done.event;
+        state::store(stream, s);
+        return answers::of_event(event);
+    }
+    answers::refused_event(13)
+}
+
+// A NAK to a Retransmit Request arrives.
+#[no_mangle]
+pub extern "C" fn sirmjold_stream_on_retransmit_nak(s: &mut [u64]) -> CEvent
+    ensures { λ r. ⌜ (r, now (s .exit)) ≡ nakExport (now (s .entry)) ⌝ }
+{
+    if state::fits(&s[..]) {
+        let before = state::load(&s[..]);
+        let done = before.on_retransmit_nak();
+        let stream = done.stream;
+        let event = done.event;
+        state::store(stream, s);
+        return answers::of_event(event);
+    }
+    answers::refused_event(13)
+}
+
+// Runs the receiver's timer.
+#[no_mangle]
+pub extern "C" fn sirmjold_stream_poll(s: &mut [u64], cfg: &[u32], time: u64) -> CEvent
+    ensures { λ r. ⌜ (r, now (s .exit)) ≡ pollExport (now (s .entry)) (now (cfg .entry)) time ⌝ }
+{
+    if state::fits(&s[..]) {
+        if settings::fits(cfg) {
+            let before = state::load(&s[..]);
+            let done = before.poll(settings::load(cfg), time);
+            let stream = done.stream;
+            let event = done.event;
+            state::store(stream, s);
+            return answers::of_event(event);
+        }
+        return answers::refused_event(13);
+    }
+    answers::refused_event(13)
+}
+
+// Takes a due request into a payload, and writes nothing else.
+#[no_mangle]
+pub extern "C" fn sirmjold_stream_write_request(
+    s: &mut [u64],
+    cfg: &[u32],
+    p: &mut [u64],
+    buf: &mut [u8],
+) -> CRequest
+    ensures { λ r. ⌜ (r, now (s .exit), now (p .exit), now (buf .exit)) ≡ takeExport (now (s .entry)) (now (cfg .entry)) (now (p .entry)) (now (buf .entry)) ⌝ }
+{
+    if state::fits(&s[..]) {
+        if settings::fits(cfg) {
+            if p.len() == 2 {
+                let before = state::load(&s[..]);
+                let done = before.write_request(settings::load(cfg), payload::load(&p[..]), buf);
+                let stream = done.stream;
+                let written = done.payload;
+                let answer = done.answer;
+                state::store(stream, s);
+                payload::store(written, p);
+                return answers::of_request(answer);
+            }
+            return answers::refused_request(13);
+        }
+        return answers::refused_request(13);
+    }
+    answers::refused_request(13)
+}
+
+// The earliest time at which `poll` or `write_data` has timed work.
+#[no_mangle]
+pub extern "C" fn sirmjold_stream_next_deadline(s: &[u64], ring: &[u32]) -> CDeadline
+    ensures { λ r. ⌜ r ≡ deadlineExport (now (s .entry)) (now (ring .entry)) ⌝ }
+{
+    if state::fits(s) {
+        let stream = state::load(s);
+        return answers::of_deadline(stream.next_deadline(ring));
+    }
+    answers::refused_deadline(13)
+}
+
+// Whether `write_data` at this time has something to write.
+#[no_mangle]
+pub extern "C" fn sirmjold_stream_wants_write(s: &[u64], ring: &[u32], time: u64) -> CWants
+    ensures { λ r. ⌜ r ≡ wantsExport (now (s .entry)) (now (ring .entry)) time ⌝ }
+{
+    if state::fits(s) {
+        let stream = state::load(s);
+        return answers::of_wants(stream.wants_write(ring, time));
+    }
+    answers::refused_wants(13)
+}
+
+// Writes into a payload: a due request, then the sender's commands.
+#[no_mangle]
+pub extern "C" fn sirmjold_stream_write_data(
+    s: &mut [u64],
+    cfg: &[u32],
+    time: u64,
+    p: &mut [u64],
+    buf: &mut [u8],
+    ring: &mut [u32],
+) -> CWritten
+    ensures { λ r. ⌜ (r, now (s .exit), now (p .exit), now (buf .exit), now (ring .exit)) ≡ writeExport (now (s .entry)) (now (cfg .entry)) time (now (p .entry)) (now (buf .entry)) (now (ring .entry)) ⌝ }
+{
+    if state::fits(&s[..]) {
+        if settings::fits(cfg) {
+            if p.len() == 2 {
+                let before = state::load(&s[..]);
+                let done = before.write_data(
+                    settings::load(cfg),
+                    time,
+                    payload::load(&p[..]),
+                    buf,
+                    ring,
+                );
+                let stream = done.stream;
+                let written = done.payload;
+                let answer = done.answer;
+                state::store(stream, s);
+                payload::store(written, p);
+                return answers::of_writing(answer);
+            }
+            return answers::refused_written(13);
+        }
+        return answers::refused_written(13);
+    }
+    answers::refused_written(13)
+}

@@ -1,0 +1,23 @@
+// The library as C functions, all named `sirmjold_..`; include/sirmjold.h declares them.
+//
+//   exports          a stream: new, reset, send_ump, what arrives, poll, questions, write_data
+//   codec_exports    payloads: writing commands, reading them, parsing, a walk over messages
+//   window_exports   a receive window alone
+//
+// A state is words in an array that the caller lends: it is loaded, the library's call is made, and
+// what that leaves is stored. No function asks anything of its caller but pointers to arrays that do
+// not overlap: words that no state has are refused as 13, and nothing is changed.
+//
+//   state, settings, payload   the words of a stream (59), of the settings (8), of a payload (2)
+//   limits                     words and the largest values that their places take
+//   answers                    answers as numbers, of at most 16 bytes
+//   theorems                   a stream that is stored and loaded is the same
+pub mod answers;
+pub mod codec_exports;
+pub mod exports;
+pub mod limits;
+pub mod payload;
+pub mod settings;
+pub mod state;
+pub mod theorems;
+pub mod window_exports;

@@ -1,0 +1,209 @@
+// The calls of a receive window whose four words the caller lends in `w`: size, highest, bits low,
+// bits high. 13 for words that are no window's.
+ghost use mathlib.Core.Path.{_≡_};
+ghost use mathlib.Core.Bool.{true};
+ghost use lib.ListN.{length};
+ghost use Rattle.capi.specs.Window.{windowFits, Narrow, windowAt, windowWords, startedInto, startExport, acceptExport, changeExport, markExport, spanExport, classExport, knownExport};
+ghost use Rattle.window.specs.Answers.{resetAnswer, missingAnswer, requestAnswer, markAllAnswer, markAnswer};
+use super::answers;
+use super::answers::CDelivery;
+use super::answers::CKnown;
+use super::answers::CSpan;
+use super::limits::all_within;
+use super::limits::copy;
+use window::set::Bits;
+use window::window::ReceiveWindow;
+use window::window::SeqRange;
+use window::window::Span;
+use window::window::Started;
+
+// Whether there are four words, each within its field.
+pub fn fits(words: &[u64]) -> bool
+    ensures { λ r. ⌜ r ≡ windowFits (now (words .entry)) ⌝ }
+{
+    let limits = [0xFFFF_FFFF, 0xFFFF, u64::MAX, u64::MAX];
+    all_within(&limits, words)
+}
+
+fn known(words: &[u64]) -> ReceiveWindow
+    requires { ⌜ Narrow (now words) ⌝ }
+    ensures { λ r. ⌜ r ≡ windowAt (now (words .entry)) ⌝ }
+{
+    ReceiveWindow {
+        size: words[0] as u32,
+        highest: words[1] as u16,
+        bits: Bits {
+            low: words[2],
+            high: words[3],
+        },
+    }
+}
+
+// The window.
+pub fn load(words: &[u64]) -> ReceiveWindow
+    requires { ⌜ windowFits (now words) ≡ true ⌝ }
+    ensures { λ r. ⌜ r ≡ windowAt (now (words .entry)) ⌝ }
+{
+    known(words)
+}
+
+// Stores the window into the words.
+pub fn store(window: ReceiveWindow, words: &mut [u64])
+    requires { ⌜ length (now words) ≡ 4 ⌝ }
+    ensures { λ _. ⌜ now (words .exit) ≡ windowWords window ⌝ }
+{
+    let bits = window.bits;
+    let new = [
+        window.size as u64,
+        window.highest as u64,
+        bits.low,
+        bits.high,
+    ];
+    copy(&new, words);
+}
+
+// Stores a window that was started.
+fn start(w: &mut [u64], started: Started) -> u8
+    requires { ⌜ length (now w) ≡ 4 ⌝ }
+    ensures { λ r. ⌜ (r, now (w .exit)) ≡ startedInto started (now (w .entry)) ⌝ }
+{
+    match started {
+        Started::Window(window) => {
+            store(window, w);
+            0
+        }
+        Started::Refused(why) => why.number(),
+    }
+}
+
+// A window of `size` numbers, 1 to 128; `highest` and all before it are processed. A fresh window
+// has the highest 65535.
+#[no_mangle]
+pub extern "C" fn sirmjold_window_starting_at(w: &mut [u64], size: u32, highest: u16) -> u8
+    ensures { λ r. ⌜ (r, now (w .exit)) ≡ startExport (now (w .entry)) size highest ⌝ }
+{
+    if w.len() == 4 {
+        return start(w, ReceiveWindow::starting_at(size, highest));
+    }
+    13
+}
+
+// Back to the fresh window of the same size.
+#[no_mangle]
+pub extern "C" fn sirmjold_window_reset(w: &mut [u64]) -> u8
+    ensures { λ r. ⌜ (r, now (w .exit)) ≡ changeExport resetAnswer (now (w .entry)) ⌝ }
+{
+    if fits(&w[..]) {
+        let before = load(&w[..]);
+        let done = before.reset();
+        let window = done.window;
+        let answer = done.answer;
+        store(window, w);
+        return answers::of_change(answer);
+    }
+    13
+}
+
+// What a number is to the window, which stays as it is.
+#[no_mangle]
+pub extern "C" fn sirmjold_window_classify(w: &[u64], seq: u16) -> CDelivery
+    ensures { λ r. ⌜ r ≡ classExport (now (w .entry)) seq ⌝ }
+{
+    if fits(w) {
+        let window = load(w);
+        let done = window.classify(seq);
+        let answer = done.answer;
+        return answers::of_classification(answer);
+    }
+    answers::refused_delivery(13)
+}
+
+// A number arrives: it is processed now, unless it is a duplicate.
+#[no_mangle]
+pub extern "C" fn sirmjold_window_accept(w: &mut [u64], seq: u16) -> CDelivery
+    ensures { λ r. ⌜ (r, now (w .exit)) ≡ acceptExport (now (w .entry)) seq ⌝ }
+{
+    if fits(&w[..]) {
+        let before = load(&w[..]);
+        let done = before.accept(seq);
+        let window = done.window;
+        let answer = done.answer;
+        store(window, w);
+        return answers::of_acceptance(answer);
+    }
+    answers::refused_delivery(13)
+}
+
+// Whether the number is the highest, or one of the window's numbers that was processed.
+#[no_mangle]
+pub extern "C" fn sirmjold_window_is_processed(w: &[u64], seq: u16) -> CKnown
+    ensures { λ r. ⌜ r ≡ knownExport (now (w .entry)) seq ⌝ }
+{
+    if fits(w) {
+        let window = load(w);
+        let done = window.is_processed(seq);
+        let answer = done.answer;
+        return answers::of_knowledge(answer);
+    }
+    answers::refused_known(13)
+}
+
+// From the oldest to the newest missing number.
+#[no_mangle]
+pub extern "C" fn sirmjold_window_missing(w: &[u64]) -> CSpan
+    ensures { λ r. ⌜ r ≡ spanExport missingAnswer (now (w .entry)) ⌝ }
+{
+    if fits(w) {
+        let window = load(w);
+        let done = window.missing();
+        let answer = done.answer;
+        return answers::of_extent(answer);
+    }
+    answers::refused_span(13)
+}
+
+// What a Retransmit Request asks for: from the oldest missing number to just before the highest.
+#[no_mangle]
+pub extern "C" fn sirmjold_window_request(w: &[u64]) -> CSpan
+    ensures { λ r. ⌜ r ≡ spanExport requestAnswer (now (w .entry)) ⌝ }
+{
+    if fits(w) {
+        let window = load(w);
+        let done = window.request();
+        let answer = done.answer;
+        return answers::of_extent(answer);
+    }
+    answers::refused_span(13)
+}
+
+// All numbers of the window are processed now.
+#[no_mangle]
+pub extern "C" fn sirmjold_window_mark_all(w: &mut [u64]) -> u8
+    ensures { λ r. ⌜ (r, now (w .exit)) ≡ changeExport markAllAnswer (now (w .entry)) ⌝ }
+{
+    if fits(&w[..]) {
+        let before = load(&w[..]);
+        let done = before.mark_all();
+        let window = done.window;
+        let answer = done.answer;
+        store(window, w);
+        return answers::of_change(answer);
+    }
+    13
+}
+
+// The missing numbers that are in the range are processed now; the answer spans them.
+#[no_mangle]
+pub extern "C" fn sirmjold_window_mark_range(w: &mut [u64], first: u16, count: u16) -> CSpan
+    ensures { λ r. ⌜ (r, now (w .exit)) ≡ markExport (λ x. markAnswer x record { first = first; count = count }) (now (w .entry)) ⌝ }
+{
+    if fits(&w[..]) {
+        let before = load(&w[..]);
+        let done = before.mark_range(SeqRange { first, count });
+        let window = done.window;
+        let answer = done.answer;
+        store(window, w);
+        return answers::of_extent(answer);
+    }
+    answers::refused_span(13)
+}

@@ -1,0 +1,282 @@
+/* A console plays notes to a chamber over a line that loses, doubles and delays payloads. Both are
+ * streams of the library; at the end each note that was played was handed on once, or its command's
+ * number lies in a reported loss.
+ *
+ * Built and run by tools/run_c_example; takes the generator's seed as an argument.
+ */
+#include <inttypes.h>
+#include <stdio.h>
+#include <stdlib.h>
+#include <string.h>
+
+#include "sirmjold.h"
+
+#define NOTES 400
+#define RING 65 /* words of the send history: 32 commands of one word */
+#define OUT_FROM 700 /* ms at which the line goes dead, and comes back */
+#define OUT_TO 1000
+#define WINDOW 64
+#define PLACES 16
+#define LIMIT 1400
+#define FLIGHT 64 /* payloads on the way at once */
+
+static const uint32_t cfg[SIRMJOLD_SETTINGS] = {
+    [SIRMJOLD_T1] = 100, [SIRMJOLD_G] = 2,  [SIRMJOLD_K] = 5, [SIRMJOLD_R] = 2,
+    [SIRMJOLD_X] = 1,    [SIRMJOLD_D] = 10, [SIRMJOLD_M] = 3, [SIRMJOLD_SIZE] = 64,
+};
+
+struct end {
+    uint64_t words[SIRMJOLD_STREAM_WORDS];
+    uint32_t ring[RING];
+};
+
+struct flying {
+    int used;
+    int to_chamber;
+    uint64_t due;
+    size_t len;
+    uint8_t bytes[LIMIT];
+};
+
+static struct end console, chamber;
+static struct flying line[FLIGHT];
+static uint32_t random_state;
+static unsigned handed[NOTES];     /* how often each note was handed on */
+static uint8_t lost[65536];        /* numbers in a reported loss */
+static unsigned sent_payloads, dropped_payloads, doubled_payloads, losses;
+
+static void fail(const char *what, unsigned n)
+{
+    fprintf(stderr, "failed: %s (%u)\n", what, n);
+    exit(1);
+}
+
+/* A generator of 32 bits (xorshift). */
+static uint32_t next_random(void)
+{
+    random_state ^= random_state << 13;
+    random_state ^= random_state >> 17;
+    random_state ^= random_state << 5;
+    return random_state;
+}
+
+static void put(int to_chamber, uint64_t now, const uint8_t *bytes, size_t len)
+{
+    unsigned copies = 1;
+    uint32_t r = next_random() % 100;
+    sent_payloads++;
+    if (r < 25 || (now >= OUT_FROM && now < OUT_TO)) {
+        dropped_payloads++;
+        copies = 0;
+    } else if (r < 35) {
+        doubled_payloads++;
+        copies = 2;
+    }
+    for (size_t i = 0; i < FLIGHT && copies; i++) {
+        if (!line[i].used) {
+            line[i].used = 1;
+            line[i].to_chamber = to_chamber;
+            line[i].due = now + 1 + next_random() % 8;
+            line[i].len = len;
+            memcpy(line[i].bytes, bytes, len);
+            copies--;
+        }
+    }
+}
+
+static void report(uint16_t first, uint16_t count)
+{
+    if (count)
+        losses++;
+    for (unsigned k = 0; k < count; k++)
+        lost[(uint16_t)(first + k)] = 1;
+}
+
+/* The chamber hands on the messages of a data command. */
+static void hand_on(const uint8_t *body, size_t len, uint16_t seq)
+{
+    size_t at = 0;
+    for (;;) {
+        struct sirmjold_message m = sirmjold_messages_next(body, len, at);
+        if (m.kind != SIRMJOLD_WHOLE)
+            return;
+        uint32_t note = sirmjold_word(body, len, at).word & 0xFFFF;
+        if (note >= NOTES)
+            fail("a note that nobody played", note);
+        handed[note]++;
+        if (note != seq)
+            fail("a note in another command than its own", note);
+        at = (size_t)m.next;
+    }
+}
+
+static void error_back(uint64_t now, uint8_t reason, uint16_t seq)
+{
+    uint64_t p[SIRMJOLD_PAYLOAD_WORDS];
+    uint8_t buf[LIMIT];
+    if (sirmjold_payload_new(p, SIRMJOLD_PAYLOAD_WORDS, LIMIT) ||
+        sirmjold_retransmit_error_write(p, SIRMJOLD_PAYLOAD_WORDS, buf, sizeof buf, reason, seq))
+        fail("writing an error", seq);
+    put(1, now, buf, (size_t)p[0]);
+}
+
+static void arrive(struct flying *f, uint64_t now)
+{
+    struct end *e = f->to_chamber ? &chamber : &console;
+    struct sirmjold_place place = sirmjold_packet_open(f->bytes, f->len);
+    if (place.refusal)
+        fail("a payload without its signature", place.refusal);
+    size_t at = (size_t)place.at;
+    for (;;) {
+        struct sirmjold_item item = sirmjold_packet_next(f->bytes, f->len, at);
+        if (item.kind != SIRMJOLD_WHOLE)
+            return;
+        const uint8_t *body = f->bytes + at + 4;
+        size_t len = 4 * (size_t)item.len;
+        struct sirmjold_command c =
+            sirmjold_command_parse(item.code, item.len, item.csd1, item.csd2, body, len);
+        if (c.refusal)
+            fail("a command that does not parse", c.refusal);
+        if (c.kind == SIRMJOLD_UMP_DATA) {
+            struct sirmjold_delivery d = sirmjold_stream_on_ump_data(
+                e->words, SIRMJOLD_STREAM_WORDS, cfg, SIRMJOLD_SETTINGS, now, c.seq);
+            if (d.refusal)
+                fail("on_ump_data", d.refusal);
+            report(d.lost_first, d.lost_count);
+            if (d.class_ != SIRMJOLD_DUPLICATE)
+                hand_on(body, len, c.seq);
+        } else if (c.kind == SIRMJOLD_REQUEST) {
+            struct sirmjold_outcome o = sirmjold_stream_on_retransmit_request(
+                e->words, SIRMJOLD_STREAM_WORDS, cfg, SIRMJOLD_SETTINGS, e->ring, RING, c.seq,
+                c.count);
+            if (o.refusal)
+                fail("on_retransmit_request", o.refusal);
+            if (o.kind == SIRMJOLD_ERROR)
+                error_back(now, o.reason, o.seq);
+        } else if (c.kind == SIRMJOLD_REQUEST_ERROR) {
+            struct sirmjold_event v = sirmjold_stream_on_retransmit_error(
+                e->words, SIRMJOLD_STREAM_WORDS, c.reason, c.seq);
+            if (v.refusal)
+                fail("on_retransmit_error", v.refusal);
+            report(v.first, v.count);
+        }
+        at = (size_t)item.next;
+    }
+}
+
+/* Writes what an end has to write, payload by payload. */
+static void flush(struct end *e, int to_chamber, uint64_t now)
+{
+    for (;;) {
+        uint64_t p[SIRMJOLD_PAYLOAD_WORDS];
+        uint8_t buf[LIMIT];
+        if (!sirmjold_stream_wants_write(e->words, SIRMJOLD_STREAM_WORDS, e->ring, RING, now).wants)
+            return;
+        if (sirmjold_payload_new(p, SIRMJOLD_PAYLOAD_WORDS, LIMIT))
+            fail("payload_new", 0);
+        struct sirmjold_written w =
+            sirmjold_stream_write_data(e->words, SIRMJOLD_STREAM_WORDS, cfg, SIRMJOLD_SETTINGS, now,
+                                       p, SIRMJOLD_PAYLOAD_WORDS, buf, sizeof buf, e->ring, RING);
+        if (w.refusal)
+            fail("write_data", w.refusal);
+        if (w.commands)
+            put(to_chamber, now, buf, (size_t)p[0]);
+        if (!w.more)
+            return;
+    }
+}
+
+static void start(struct end *e)
+{
+    uint8_t n = sirmjold_stream_new(e->words, SIRMJOLD_STREAM_WORDS, cfg, SIRMJOLD_SETTINGS, WINDOW,
+                                    PLACES, e->ring, RING);
+    if (n)
+        fail("stream_new", n);
+}
+
+/* Words that no call has left are refused, and nothing is changed. */
+static void refusals(void)
+{
+    struct end e = console;
+    uint32_t wide[SIRMJOLD_SETTINGS];
+    uint32_t word = 0x20000000u;
+    memcpy(wide, cfg, sizeof wide);
+    wide[SIRMJOLD_K] = 256;
+    if (sirmjold_stream_send_ump(e.words, SIRMJOLD_STREAM_WORDS, wide, SIRMJOLD_SETTINGS, e.ring, RING,
+                                 &word, 1) != SIRMJOLD_INVALID_STATE)
+        fail("settings that do not fit", 256);
+    wide[SIRMJOLD_K] = 5;
+    wide[SIRMJOLD_SIZE] = 65;
+    if (sirmjold_stream_send_ump(e.words, SIRMJOLD_STREAM_WORDS, wide, SIRMJOLD_SETTINGS, e.ring, RING,
+                                 &word, 1) != SIRMJOLD_COMMAND_WORDS)
+        fail("a command size that is not taken", 65);
+    if (sirmjold_stream_reset(e.words, SIRMJOLD_STREAM_WORDS - 1, e.ring, RING) !=
+        SIRMJOLD_INVALID_STATE)
+        fail("a state that is too short", SIRMJOLD_STREAM_WORDS - 1);
+    if (memcmp(&e, &console, sizeof e))
+        fail("a refused call changed something", 0);
+    for (size_t k = 0; k < SIRMJOLD_STREAM_WORDS; k++) {
+        uint64_t was = e.words[k];
+        e.words[k] = UINT64_MAX;
+        uint8_t n = sirmjold_stream_send_ump(e.words, SIRMJOLD_STREAM_WORDS, cfg, SIRMJOLD_SETTINGS,
+                                             e.ring, RING, &word, 1);
+        if (n && n != SIRMJOLD_INVALID_STATE)
+            fail("a broken state is refused by another number", n);
+        if (n && e.words[k] != UINT64_MAX)
+            fail("a refused call changed a word", (unsigned)k);
+        e = console;
+        if (e.words[k] != was)
+            fail("the console's words are its own", (unsigned)k);
+    }
+}
+
+int main(int argc, char **argv)
+{
+    uint32_t seed = argc > 1 ? (uint32_t)strtoul(argv[1], NULL, 0) : 2463534242u;
+    unsigned played = 0, on = 0, in_loss = 0;
+    random_state = seed ? seed : 1;
+    printf("seed %" PRIu32 "\n", seed);
+    start(&console);
+    start(&chamber);
+    refusals();
+
+    for (uint64_t now = 0; now < 6000; now++) {
+        if (played < NOTES && now % 5 == 0) {
+            uint32_t word = 0x20000000u | played; /* one word: a note that carries its number */
+            /* each note is written before the next is played: its command has its number */
+            if (sirmjold_stream_send_ump(console.words, SIRMJOLD_STREAM_WORDS, cfg,
+                                         SIRMJOLD_SETTINGS, console.ring, RING, &word, 1))
+                fail("send_ump", played);
+            played++;
+        }
+        struct sirmjold_event v = sirmjold_stream_poll(chamber.words, SIRMJOLD_STREAM_WORDS, cfg,
+                                                       SIRMJOLD_SETTINGS, now);
+        if (v.refusal)
+            fail("poll", v.refusal);
+        report(v.first, v.count);
+        flush(&console, 1, now);
+        flush(&chamber, 0, now);
+        for (size_t i = 0; i < FLIGHT; i++) {
+            if (line[i].used && line[i].due <= now) {
+                arrive(&line[i], now);
+                line[i].used = 0;
+            }
+        }
+    }
+
+    for (unsigned n = 0; n < NOTES; n++) {
+        if (handed[n] > 1)
+            fail("a note was handed on twice", n);
+        if (handed[n] == 1)
+            on++;
+        else if (lost[(uint16_t)n])
+            in_loss++;
+        else
+            fail("a note was neither handed on nor reported lost", n);
+    }
+    printf("payloads %u, lost on the line %u, doubled %u\n", sent_payloads, dropped_payloads,
+           doubled_payloads);
+    printf("notes played %u, handed on %u, in a reported loss %u (%u reports)\n", played, on,
+           in_loss, losses);
+    return 0;
+}

@@ -1,0 +1,327 @@
+/* Sirmjold: the data stream of Network MIDI 2.0 over UDP, with repeats and retransmits.
+ *
+ * All memory is the caller's. A stream is an array of SIRMJOLD_STREAM_WORDS words that only these
+ * functions write; the send history is a second array, of 65 to 32768 words; a payload that is being
+ * written is SIRMJOLD_PAYLOAD_WORDS words and a buffer of bytes. Times are the caller's, in ms.
+ *
+ * Of a pointer and a length, the pointer is that of an array of at least that many elements, aligned
+ * for its type, and not NULL, even where the length is 0. Arrays of one call do not overlap, and
+ * no other thread uses them during the call. Nothing else is asked: every value is tested, and a
+ * call that is refused answers one of the numbers below. A refused call changes nothing, but for
+ * sirmjold_stream_new and number 3 of sirmjold_stream_write_data, where it is said.
+ */
+#ifndef SIRMJOLD_H
+#define SIRMJOLD_H
+
+#include <stddef.h>
+#include <stdint.h>
+
+#ifdef __cplusplus
+extern "C" {
+#endif
+
+/* The words of a stream, of a payload, of a window alone, and of the settings. */
+#define SIRMJOLD_STREAM_WORDS 59
+#define SIRMJOLD_PAYLOAD_WORDS 2
+#define SIRMJOLD_WINDOW_WORDS 4
+#define SIRMJOLD_SETTINGS 8
+
+/* Why a call is refused. */
+enum sirmjold_refusal {
+    SIRMJOLD_OK = 0,
+    SIRMJOLD_BAD_SIGNATURE = 1,
+    SIRMJOLD_OVERFLOW = 2,         /* does not fit in what is left of the payload */
+    SIRMJOLD_TOO_LARGE = 3,        /* does not fit in an empty payload */
+    SIRMJOLD_INVALID_VALUE = 4,    /* a payload limit, or the words of a raw command */
+    SIRMJOLD_INVALID_UMP_DATA = 5, /* words that end inside a message, or too many */
+    SIRMJOLD_FULL = 6,             /* the send history has no room */
+    SIRMJOLD_IDLE_INTERVAL = 7,    /* T1 is not 1 to 300 */
+    SIRMJOLD_IDLE_GROWTH = 8,      /* G is 0 */
+    SIRMJOLD_COMMAND_WORDS = 9,    /* SIZE is not 1 to 64 */
+    SIRMJOLD_MALFORMED = 10,       /* a request or an error without its word */
+    SIRMJOLD_REASON_NOT_ALLOWED = 11,
+    SIRMJOLD_SIZE_NOT_ALLOWED = 12, /* of a window, a history or a request ring */
+    SIRMJOLD_INVALID_STATE = 13     /* words that no call has left, or arrays of a wrong length */
+};
+
+/* The settings, by place: an array of SIRMJOLD_SETTINGS words. K, R or M over 255, or X over 1, is
+ * refused as 13; the rest by the settings' own numbers, 9, 7 and 8. */
+enum sirmjold_setting {
+    SIRMJOLD_T1 = 0,  /* ms from the last command with words to the first idle command, 1 to 300 */
+    SIRMJOLD_G = 1,   /* each further idle interval is this many times the one before */
+    SIRMJOLD_K = 2,   /* how many further idle commands follow */
+    SIRMJOLD_R = 3,   /* how many written commands each payload repeats */
+    SIRMJOLD_X = 4,   /* 1: Retransmit Requests are served and sent */
+    SIRMJOLD_D = 5,   /* ms before the first Retransmit Request */
+    SIRMJOLD_M = 6,   /* how many requests are made for a gap */
+    SIRMJOLD_SIZE = 7 /* the most words of one data command, 1 to 64 */
+};
+
+/* In every answer: `refusal` is 0 or a number of enum sirmjold_refusal, and then all else is 0. */
+
+enum sirmjold_outcome_kind {
+    SIRMJOLD_QUEUED = 0,
+    SIRMJOLD_PENDING = 1, /* ignored: a request with the same number waits */
+    SIRMJOLD_NO_PLACE = 2, /* ignored: every place is taken */
+    SIRMJOLD_ERROR = 3,   /* the caller writes this Retransmit Error */
+    SIRMJOLD_NOT_SUPPORTED = 4
+};
+
+struct sirmjold_outcome {
+    uint8_t refusal;
+    uint8_t kind;
+    uint8_t reason;
+    uint16_t seq;
+};
+
+enum sirmjold_class {
+    SIRMJOLD_NEW = 0,
+    SIRMJOLD_LATE = 1,
+    SIRMJOLD_DUPLICATE = 2
+};
+
+/* A data command: hand its messages on unless it is a duplicate. `skipped` numbers lie between it
+ * and the highest before it: the gap. Lost: from the oldest to the newest number that left the window
+ * unheard. A count of 0 is none. */
+struct sirmjold_delivery {
+    uint8_t refusal;
+    uint8_t class_;
+    uint16_t skipped;
+    uint16_t gap_first;
+    uint16_t gap_count;
+    uint16_t lost_first;
+    uint16_t lost_count;
+};
+
+enum sirmjold_event_kind {
+    SIRMJOLD_NOTHING = 0,
+    SIRMJOLD_DATA_LOSS = 1,       /* the numbers of the range that were not heard are lost */
+    SIRMJOLD_ERROR_LOSS = 2,      /* the same, told by a Retransmit Error */
+    SIRMJOLD_RETRANSMIT_ERROR = 3 /* a Retransmit Error by which nothing was lost */
+};
+
+struct sirmjold_event {
+    uint8_t refusal;
+    uint8_t kind;
+    uint8_t reason; /* of the error */
+    uint16_t seq;   /* of the error */
+    uint16_t first; /* of the range */
+    uint16_t count;
+};
+
+enum sirmjold_request_kind {
+    SIRMJOLD_NOT_DUE = 0,
+    SIRMJOLD_WRITTEN = 1,
+    SIRMJOLD_MORE = 2 /* it does not fit in what is left of the payload */
+};
+
+struct sirmjold_request {
+    uint8_t refusal;
+    uint8_t kind;
+};
+
+struct sirmjold_deadline {
+    uint64_t time;
+    uint8_t refusal;
+    uint8_t kind; /* 1: `time` is the earliest due time; 0: nothing is due */
+};
+
+struct sirmjold_wants {
+    uint8_t refusal;
+    uint8_t wants;
+};
+
+struct sirmjold_written {
+    uint64_t commands;
+    uint8_t refusal;
+    uint8_t more; /* the next command did not fit: send the payload, write again into a new one */
+};
+
+/* A fresh stream: a receive window of `window` numbers (1 to 128), a request ring of `places` places
+ * (1 to 16), and the whole of `ring` as its history, which is zeroed. A start that is refused by 9, 7,
+ * 8 or 12 leaves words that every call refuses. */
+uint8_t sirmjold_stream_new(uint64_t *s, size_t s_len, const uint32_t *cfg, size_t cfg_len,
+                            uint32_t window, size_t places, uint32_t *ring, size_t ring_len);
+
+/* Back to the fresh stream of the same sizes; the history is zeroed. */
+uint8_t sirmjold_stream_reset(uint64_t *s, size_t s_len, uint32_t *ring, size_t ring_len);
+
+/* Queues whole messages to send: 5, 3 and 6 for words that are not queued. */
+uint8_t sirmjold_stream_send_ump(uint64_t *s, size_t s_len, const uint32_t *cfg, size_t cfg_len,
+                                 uint32_t *ring, size_t ring_len, const uint32_t *words,
+                                 size_t words_len);
+
+/* A Retransmit Request arrives; a count of 0 asks for all from `seq` on. */
+struct sirmjold_outcome sirmjold_stream_on_retransmit_request(
+    uint64_t *s, size_t s_len, const uint32_t *cfg, size_t cfg_len, const uint32_t *ring,
+    size_t ring_len, uint16_t seq, uint16_t count);
+
+/* A data command arrives. */
+struct sirmjold_delivery sirmjold_stream_on_ump_data(uint64_t *s, size_t s_len, const uint32_t *cfg,
+                                                     size_t cfg_len, uint64_t time, uint16_t seq);
+
+/* A Retransmit Error arrives. */
+struct sirmjold_event sirmjold_stream_on_retransmit_error(uint64_t *s, size_t s_len, uint8_t reason,
+                                                          uint16_t seq);
+
+/* A NAK to a Retransmit Request arrives. */
+struct sirmjold_event sirmjold_stream_on_retransmit_nak(uint64_t *s, size_t s_len);
+
+/* Runs the receiver's timer. */
+struct sirmjold_event sirmjold_stream_poll(uint64_t *s, size_t s_len, const uint32_t *cfg,
+                                           size_t cfg_len, uint64_t time);
+
+/* Takes a due request into a payload, and writes nothing else. */
+struct sirmjold_request sirmjold_stream_write_request(uint64_t *s, size_t s_len, const uint32_t *cfg,
+                                                      size_t cfg_len, uint64_t *p, size_t p_len,
+                                                      uint8_t *buf, size_t buf_len);
+
+/* The earliest time at which `poll` or `write_data` has timed work. */
+struct sirmjold_deadline sirmjold_stream_next_deadline(const uint64_t *s, size_t s_len,
+                                                       const uint32_t *ring, size_t ring_len);
+
+/* Whether `write_data` at this time has something to write. */
+struct sirmjold_wants sirmjold_stream_wants_write(const uint64_t *s, size_t s_len,
+                                                  const uint32_t *ring, size_t ring_len,
+                                                  uint64_t time);
+
+/* Writes into a payload: a due request, then the sender's commands. 3 when the payload is empty and
+ * the first of them does not fit: the one refusal that changes something, since a due idle command is
+ * then queued, waiting requests that fit no payload are gone, and so is a due request that is no longer
+ * needed. */
+struct sirmjold_written sirmjold_stream_write_data(uint64_t *s, size_t s_len, const uint32_t *cfg,
+                                                   size_t cfg_len, uint64_t time, uint64_t *p,
+                                                   size_t p_len, uint8_t *buf, size_t buf_len,
+                                                   uint32_t *ring, size_t ring_len);
+
+/* ---- payloads that are being written: words `p`, whose first is the length, and a buffer */
+
+/* An empty payload; 4 when the limit is not 8 to 1400 bytes. A shorter buffer lowers the limit. */
+uint8_t sirmjold_payload_new(uint64_t *p, size_t p_len, size_t max);
+
+/* Write one command after what the payload holds: 3 when it does not fit an empty payload, 2 when it
+ * does not fit otherwise; 4 for over 255 words, 5 for words that are not whole messages or are over
+ * 64, 11 for a reason that is not defined. */
+uint8_t sirmjold_payload_command(uint64_t *p, size_t p_len, uint8_t *buf, size_t buf_len,
+                                 uint8_t code, uint8_t csd1, uint8_t csd2, const uint32_t *words,
+                                 size_t words_len);
+uint8_t sirmjold_ump_data_write(uint64_t *p, size_t p_len, uint8_t *buf, size_t buf_len,
+                                uint16_t seq, const uint32_t *words, size_t words_len);
+uint8_t sirmjold_retransmit_request_write(uint64_t *p, size_t p_len, uint8_t *buf, size_t buf_len,
+                                          uint16_t seq, uint16_t count);
+uint8_t sirmjold_retransmit_error_write(uint64_t *p, size_t p_len, uint8_t *buf, size_t buf_len,
+                                        uint8_t reason, uint16_t seq);
+
+/* ---- payloads that were received */
+
+struct sirmjold_place {
+    uint64_t at;
+    uint8_t refusal;
+};
+
+/* Of an item and of a message. */
+enum sirmjold_item_kind {
+    SIRMJOLD_END = 0,
+    SIRMJOLD_TRUNCATED = 1, /* longer than the rest: reading ends */
+    SIRMJOLD_WHOLE = 2
+};
+
+struct sirmjold_item {
+    uint64_t next; /* the place of the next command */
+    uint8_t kind;
+    uint8_t code;
+    uint8_t len; /* in words; they stand 4 bytes after the item's own place */
+    uint8_t csd1;
+    uint8_t csd2;
+};
+
+enum sirmjold_command_kind {
+    SIRMJOLD_RAW = 0,
+    SIRMJOLD_UMP_DATA = 1,
+    SIRMJOLD_REQUEST = 2,
+    SIRMJOLD_REQUEST_ERROR = 3
+};
+
+struct sirmjold_command {
+    uint8_t refusal;
+    uint8_t kind;
+    uint8_t reason; /* of an error */
+    uint16_t seq;
+    uint16_t count; /* of a request */
+};
+
+struct sirmjold_message {
+    uint64_t next; /* the index of the next message's first word */
+    uint8_t kind;
+    uint8_t len; /* in words, 1 to 4 */
+};
+
+struct sirmjold_word_answer {
+    uint32_t word;
+    uint8_t found;
+};
+
+/* The place of the first command; 1 when the payload does not begin with the signature. */
+struct sirmjold_place sirmjold_packet_open(const uint8_t *payload, size_t payload_len);
+
+/* What stands at a place. */
+struct sirmjold_item sirmjold_packet_next(const uint8_t *payload, size_t payload_len, size_t at);
+
+/* What a command is, of whose words `body` holds the bytes; 10 for a request or an error without its
+ * word. */
+struct sirmjold_command sirmjold_command_parse(uint8_t code, uint8_t len, uint8_t csd1, uint8_t csd2,
+                                               const uint8_t *body, size_t body_len);
+
+/* What stands next in the words of a data command, from the word `at` on; begin with 0. */
+struct sirmjold_message sirmjold_messages_next(const uint8_t *body, size_t body_len, size_t at);
+
+/* The word at an index of a command's bytes. */
+struct sirmjold_word_answer sirmjold_word(const uint8_t *body, size_t body_len, size_t index);
+
+/* ---- a receive window alone: words `w` */
+
+struct sirmjold_span {
+    uint8_t refusal;
+    uint16_t first;
+    uint16_t count; /* 0 is none */
+};
+
+struct sirmjold_known {
+    uint8_t refusal;
+    uint8_t processed;
+};
+
+/* A window of 1 to 128 numbers; `highest` and all before it are processed. A fresh window has the
+ * highest 65535. 12 for another size. */
+uint8_t sirmjold_window_starting_at(uint64_t *w, size_t w_len, uint32_t size, uint16_t highest);
+
+/* Back to the fresh window of the same size. */
+uint8_t sirmjold_window_reset(uint64_t *w, size_t w_len);
+
+/* What a number is to the window, which stays as it is. */
+struct sirmjold_delivery sirmjold_window_classify(const uint64_t *w, size_t w_len, uint16_t seq);
+
+/* A number arrives: it is processed now, unless it is a duplicate. */
+struct sirmjold_delivery sirmjold_window_accept(uint64_t *w, size_t w_len, uint16_t seq);
+
+/* Whether the number is the highest, or one of the window's numbers that was processed. */
+struct sirmjold_known sirmjold_window_is_processed(const uint64_t *w, size_t w_len, uint16_t seq);
+
+/* From the oldest to the newest missing number. */
+struct sirmjold_span sirmjold_window_missing(const uint64_t *w, size_t w_len);
+
+/* What a Retransmit Request asks for: from the oldest missing number to just before the highest. */
+struct sirmjold_span sirmjold_window_request(const uint64_t *w, size_t w_len);
+
+/* All numbers of the window are processed now. */
+uint8_t sirmjold_window_mark_all(uint64_t *w, size_t w_len);
+
+/* The missing numbers that are in the range are processed now; the answer spans them. */
+struct sirmjold_span sirmjold_window_mark_range(uint64_t *w, size_t w_len, uint16_t first,
+                                                uint16_t count);
+
+#ifdef __cplusplus
+}
+#endif
+
+#endif
