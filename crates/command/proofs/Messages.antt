@@ -3,7 +3,7 @@ use mathlib.Core.Path.{_≡_, refl, sym, ap, _∙_}
 use mathlib.Core.Bool.{Bool, true, false, cond, not, _&&_}
 use mathlib.Core.Logic.{_⊎_, inl, inr}
 use mathlib.Core.List.{List, [], _∷_, _++_, append-assoc, append-nil}
-use Prim.Native.Nat.{ℕ, zero, suc, _+_, _-_, _/_, _≤_, _<_}
+use Prim.Native.Nat.{ℕ, zero, suc, _+_, _-_, _*_, _/_, _%_, _^_, _≤_, _<_}
 use native.Mathlib.Numerals.{add-one}
 use native.Mathlib.Omega.{arith}
 use lib.Dec.{leb, ltb, eqb}
@@ -27,22 +27,22 @@ typeWords-range t = by (among (0 ∷ 1 ∷ 2 ∷ 6 ∷ 7 ∷ []) t) (among (3 �
     by false false true = (omega arith, omega arith)
     by false false false = (omega arith, omega arith)
 
--- the table of the code, by type
-abbrev table : List ℕ
-table = 1 ∷ 1 ∷ 1 ∷ 2 ∷ 2 ∷ 4 ∷ 1 ∷ 1 ∷ 2 ∷ 2 ∷ 2 ∷ 3 ∷ 3 ∷ 4 ∷ 4 ∷ 4 ∷ []
+-- the code's digits, by type
+abbrev digit : ℕ → ℕ
+digit t = 0x4443322211422111 / 2 ^ (4 * t) % 16
 
 right : ℕ → Bool
-right t = eqb (getD table t 0) (typeWords t)
+right t = eqb (digit t) (typeWords t)
 
 all-right : below 16 right ≡ true
 unfolding right typeWords
 all-right = refl
 
--- has the lengths of the definition
-pub table-right : (t : ℕ) → t < 16 → (getD table t 0 ≡ typeWords t) × (1 ≤ getD table t 0) × (getD table t 0 ≤ 4)
+-- are the lengths of the definition
+pub digit-right : (t : ℕ) → t < 16 → (digit t ≡ typeWords t) × (1 ≤ digit t) × (digit t ≤ 4)
 unfolding right
-table-right t h =
-    let e : getD table t 0 ≡ typeWords t = eqb-true _ _ (below-at 16 right all-right t h) in
+digit-right t h =
+    let e : digit t ≡ typeWords t = eqb-true _ _ (below-at 16 right all-right t h) in
     let r = typeWords-range t in
     (e, omega arith, omega arith)
 

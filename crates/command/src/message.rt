@@ -9,15 +9,15 @@ ghost use Rattle.command.specs.Messages.{messageWords, wholeOf, messageA
 use packet::reader::Lookup;
 use packet::reader::word;
 
-// Words of a message, by its type.
-const WORDS: [usize; 16] = [1, 1, 1, 2, 2, 4, 1, 1, 2, 2, 2, 3, 3, 4, 4, 4];
+// Words of a message, by its type: a hex digit for each, type 0 the last.
+const WORDS: u64 = 0x4443_3222_1142_2111;
 
 // The words of the message that begins with the word `first`: 1 to 4.
 pub fn message_words(first: u32) -> usize
     ensures { λ r. ⌜ (r ≡ messageWords first) × (1 ≤ r) × (r ≤ 4) ⌝ }
 {
-    let kind = (first / 0x1000_0000) as usize;
-    WORDS[kind]
+    let kind = first / 0x1000_0000;
+    ((WORDS >> (4 * kind)) % 0x10) as usize
 }
 
 // Whether the words end where a message ends.
