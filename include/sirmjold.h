@@ -21,7 +21,7 @@ extern "C" {
 #endif
 
 /* The words of a stream, of a payload, of a window alone, and of the settings. */
-#define SIRMJOLD_STREAM_WORDS 59
+#define SIRMJOLD_STREAM_WORDS 35
 #define SIRMJOLD_PAYLOAD_WORDS 2
 #define SIRMJOLD_WINDOW_WORDS 4
 #define SIRMJOLD_SETTINGS 8
@@ -228,11 +228,11 @@ enum sirmjold_item_kind {
 
 struct sirmjold_item {
     uint64_t next; /* the place of the next command */
-    uint8_t kind;
     uint8_t code;
     uint8_t len; /* in words; they stand 4 bytes after the item's own place */
     uint8_t csd1;
     uint8_t csd2;
+    uint8_t kind;
 };
 
 enum sirmjold_command_kind {

@@ -1,5 +1,5 @@
 //! The C functions, as `include/sirmjold.h` declares them.
-pub const STREAM_WORDS: usize = 59;
+pub const STREAM_WORDS: usize = 35;
 
 #[repr(C)]
 pub struct Outcome {
@@ -65,11 +65,11 @@ pub struct Place {
 #[repr(C)]
 pub struct Item {
     pub next: u64,
-    pub kind: u8,
     pub code: u8,
     pub len: u8,
     pub csd1: u8,
     pub csd2: u8,
+    pub kind: u8,
 }
 
 #[repr(C)]

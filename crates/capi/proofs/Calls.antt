@@ -16,12 +16,16 @@ use Rattle.stream.specs.Writing.{writeAnswer}
 use Rattle.stream.specs.declared.stream.DataStream.{DataStream}
 use Rattle.stream.specs.declared.stream.Started.{Started}
 use Rattle.stream.specs.declared.stream.WasReset.{WasReset}
-use Rattle.stream.specs.declared.stream.Sent.{Sent}
-use Rattle.stream.specs.declared.stream.Heard.{Heard}
+use Rattle.sender.specs.Answers as sender
+use Rattle.sender.specs.declared.sender.Sender.{Sender}
+use Rattle.sender.specs.declared.sender.Sent.{Sent as SenderSent}
+use Rattle.sender.specs.declared.sender.Requested.{Requested as SenderRequested}
+use Rattle.receiver.specs.Answers as receiver
+use Rattle.receiver.specs.declared.receiver.Receiver.{Receiver}
+use Rattle.receiver.specs.declared.receiver.Heard.{Heard as ReceiverHeard}
+use Rattle.receiver.specs.declared.receiver.Told.{Told as ReceiverTold}
+use Rattle.receiver.specs.declared.receiver.Requested.{Requested as ReceiverTaken}
 use Rattle.stream.specs.declared.stream.Wrote.{Wrote}
-use Rattle.stream.specs.declared.stream.Requested.{Requested}
-use Rattle.stream.specs.declared.stream.Told.{Told}
-use Rattle.stream.specs.declared.stream.Taken.{Taken}
 use Rattle.stream.specs.declared.stream.Deadline.{Deadline}
 use Rattle.stream.specs.declared.stream.Wants.{Wants}
 use Rattle.packet.specs.declared.writer.Wrote.{Wrote as CommandWrote}
@@ -30,7 +34,7 @@ use Rattle.capi.specs.declared.answers.CEvent.{CEvent}
 use Rattle.capi.specs.declared.answers.CRequest.{CRequest}
 use Rattle.capi.specs.declared.answers.CDeadline.{CDeadline}
 use Rattle.capi.specs.declared.answers.CWants.{CWants}
-use Rattle.capi.specs.Stream.{fits, loaded, stored}
+use Rattle.capi.specs.Stream.{fits, receiverFits, senderFits, loaded, stored, senderIn, receiverIn, withReceiver, withSender}
 use Rattle.capi.specs.Settings.{settingsFit, settingsOf}
 use Rattle.capi.specs.Payload.{payloadIn, payloadWords}
 use Rattle.capi.specs.Answers.{startNumber, resetNumber, sendNumber, spanNumbers, classNumber, skippedIn, classOf, deliveryOf, deliveryRefused, writtenOf, writtenRefused, acceptanceOf, writeNumber, outcomeOf, outcomeRefused, eventOf, eventRefused, requestOf, requestRefused, deadlineOf, deadlineRefused, wantsOf, wantsRefused, changeNumber, extentOf, spanRefused, classificationOf, knowledgeOf, knownRefused}
@@ -61,22 +65,22 @@ class-told c gap lost g l n k e f h i = rw (e, f, h, i)
 
 -- ---- new
 module _ (st cfg : List ℕ) (window places : ℕ) (ring : List ℕ) where
-  pub new-done : length st ≡ 59 → settingsFit cfg ≡ true → (k : StreamConfig) → k ≡ settingsOf cfg
+  pub new-done : length st ≡ 35 → settingsFit cfg ≡ true → (k : StreamConfig) → k ≡ settingsOf cfg
       → (e : Started) (after : List ℕ) → (e, after) ≡ newAnswer k window (length ring) places ring
       → (st′ : List ℕ) → st′ ≡ stored (e .stream) → (r : ℕ) → r ≡ startNumber (e .answer)
       → _≡_ {A = ℕ × List ℕ × List ℕ} (r, st′, after) (newExport st cfg window places ring)
   unfolding newExport
   new-done f g k b e after q st′ h r n =
       let q′ : (e, after) ≡ newAnswer (settingsOf cfg) window (length ring) places ring = rw b at q in
-      rw (h, n, eq-eqb (length st) 59 f, g, ← q′)
+      rw (h, n, eq-eqb (length st) 35 f, g, ← q′)
 
-  pub new-state : (length st ≡ 59 → ⊥) → _≡_ {A = ℕ × List ℕ × List ℕ} (13, st, ring) (newExport st cfg window places ring)
+  pub new-state : (length st ≡ 35 → ⊥) → _≡_ {A = ℕ × List ℕ × List ℕ} (13, st, ring) (newExport st cfg window places ring)
   unfolding newExport
-  new-state f = rw (ne-eqb (length st) 59 f)
+  new-state f = rw (ne-eqb (length st) 35 f)
 
-  pub new-settings : length st ≡ 59 → settingsFit cfg ≡ false → _≡_ {A = ℕ × List ℕ × List ℕ} (13, st, ring) (newExport st cfg window places ring)
+  pub new-settings : length st ≡ 35 → settingsFit cfg ≡ false → _≡_ {A = ℕ × List ℕ × List ℕ} (13, st, ring) (newExport st cfg window places ring)
   unfolding newExport
-  new-settings f g = rw (eq-eqb (length st) 59 f, g)
+  new-settings f g = rw (eq-eqb (length st) 35 f, g)
 
 -- ---- reset
 module _ (st ring : List ℕ) where
@@ -95,39 +99,39 @@ module _ (st ring : List ℕ) where
 
 -- ---- send
 module _ (st cfg ring ws : List ℕ) where
-  pub send-done : fits st ≡ true → settingsFit cfg ≡ true → (d : DataStream) (k : StreamConfig) → d ≡ loaded st → k ≡ settingsOf cfg
-      → (e : Sent) (after : List ℕ) → (e, after) ≡ sendAnswer d k ring ws
-      → (st′ : List ℕ) → st′ ≡ stored (e .stream) → (r : ℕ) → r ≡ sendNumber (e .answer)
+  pub send-done : senderFits st ≡ true → settingsFit cfg ≡ true → (d : Sender) (k : StreamConfig) → d ≡ senderIn st → k ≡ settingsOf cfg
+      → (e : SenderSent) (after : List ℕ) → (e, after) ≡ sender.sendAnswer d k ring ws
+      → (st′ : List ℕ) → st′ ≡ withSender st (e .sender) → (r : ℕ) → r ≡ sendNumber (e .answer)
       → _≡_ {A = ℕ × List ℕ × List ℕ} (r, st′, after) (sendExport st cfg ring ws)
-  unfolding sendExport
+  unfolding sendExport sendAnswer loaded
   send-done f g d k a b e after q st′ h r n =
-      let q′ : (e, after) ≡ sendAnswer (loaded st) (settingsOf cfg) ring ws = rw (a, b) at q in
+      let q′ : (e, after) ≡ sender.sendAnswer (senderIn st) (settingsOf cfg) ring ws = rw (a, b) at q in
       rw (h, n, f, g, ← q′)
 
-  pub send-state : fits st ≡ false → _≡_ {A = ℕ × List ℕ × List ℕ} (13, st, ring) (sendExport st cfg ring ws)
+  pub send-state : senderFits st ≡ false → _≡_ {A = ℕ × List ℕ × List ℕ} (13, st, ring) (sendExport st cfg ring ws)
   unfolding sendExport
   send-state f = rw f
 
-  pub send-settings : fits st ≡ true → settingsFit cfg ≡ false → _≡_ {A = ℕ × List ℕ × List ℕ} (13, st, ring) (sendExport st cfg ring ws)
+  pub send-settings : senderFits st ≡ true → settingsFit cfg ≡ false → _≡_ {A = ℕ × List ℕ × List ℕ} (13, st, ring) (sendExport st cfg ring ws)
   unfolding sendExport
   send-settings f g = rw (f, g)
 
 -- ---- data
 module _ (st cfg : List ℕ) (time seq : ℕ) where
-  pub data-done : fits st ≡ true → settingsFit cfg ≡ true → (d : DataStream) (k : StreamConfig) → d ≡ loaded st → k ≡ settingsOf cfg
-      → (e : Heard) → e ≡ dataAnswer d k time seq
-      → (st′ : List ℕ) → st′ ≡ stored (e .stream) → (r : CDelivery) → r ≡ deliveryOf (e .answer)
+  pub data-done : receiverFits st ≡ true → settingsFit cfg ≡ true → (d : Receiver) (k : StreamConfig) → d ≡ receiverIn st → k ≡ settingsOf cfg
+      → (e : ReceiverHeard) → e ≡ receiver.dataAnswer d k time seq
+      → (st′ : List ℕ) → st′ ≡ withReceiver st (e .receiver) → (r : CDelivery) → r ≡ deliveryOf (e .answer)
       → _≡_ {A = CDelivery × List ℕ} (r, st′) (dataExport st cfg time seq)
-  unfolding dataExport
+  unfolding dataExport dataAnswer loaded
   data-done f g d k a b e q st′ h r n =
-      let q′ : e ≡ dataAnswer (loaded st) (settingsOf cfg) time seq = rw (a, b) at q in
+      let q′ : e ≡ receiver.dataAnswer (receiverIn st) (settingsOf cfg) time seq = rw (a, b) at q in
       rw (h, n, f, g, ← q′)
 
-  pub data-state : fits st ≡ false → (r : CDelivery) → r ≡ deliveryRefused 13 → _≡_ {A = CDelivery × List ℕ} (r, st) (dataExport st cfg time seq)
+  pub data-state : receiverFits st ≡ false → (r : CDelivery) → r ≡ deliveryRefused 13 → _≡_ {A = CDelivery × List ℕ} (r, st) (dataExport st cfg time seq)
   unfolding dataExport
   data-state f r n = rw (n, f)
 
-  pub data-settings : fits st ≡ true → settingsFit cfg ≡ false → (r : CDelivery) → r ≡ deliveryRefused 13 → _≡_ {A = CDelivery × List ℕ} (r, st) (dataExport st cfg time seq)
+  pub data-settings : receiverFits st ≡ true → settingsFit cfg ≡ false → (r : CDelivery) → r ≡ deliveryRefused 13 → _≡_ {A = CDelivery × List ℕ} (r, st) (dataExport st cfg time seq)
   unfolding dataExport
   data-settings f g r n = rw (n, f, g)
 
@@ -175,67 +179,67 @@ module _ (ws : List ℕ) (seq : ℕ) where
 
 -- ---- a Retransmit Request
 module _ (st cfg ring : List ℕ) (seq count : ℕ) where
-  pub request-done : fits st ≡ true → settingsFit cfg ≡ true → (d : DataStream) (k : StreamConfig) → d ≡ loaded st → k ≡ settingsOf cfg
-      → (e : Requested) → e ≡ requestAnswer d k ring record { seq = seq; count = count }
-      → (st′ : List ℕ) → st′ ≡ stored (e .stream) → (r : COutcome) → r ≡ outcomeOf (e .outcome)
+  pub request-done : senderFits st ≡ true → settingsFit cfg ≡ true → (d : Sender) (k : StreamConfig) → d ≡ senderIn st → k ≡ settingsOf cfg
+      → (e : SenderRequested) → e ≡ sender.requestAnswer d k ring record { seq = seq; count = count }
+      → (st′ : List ℕ) → st′ ≡ withSender st (e .sender) → (r : COutcome) → r ≡ outcomeOf (e .outcome)
       → _≡_ {A = COutcome × List ℕ} (r, st′) (requestExport st cfg ring seq count)
-  unfolding requestExport
+  unfolding requestExport requestAnswer loaded
   request-done f g d k a b e q st′ h r n =
-      let q′ : e ≡ requestAnswer (loaded st) (settingsOf cfg) ring record { seq = seq; count = count } = rw (a, b) at q in
+      let q′ : e ≡ sender.requestAnswer (senderIn st) (settingsOf cfg) ring record { seq = seq; count = count } = rw (a, b) at q in
       rw (h, n, f, g, ← q′)
 
   module _ (r : COutcome) (n : r ≡ outcomeRefused 13) where
-    pub request-state : fits st ≡ false → _≡_ {A = COutcome × List ℕ} (r, st) (requestExport st cfg ring seq count)
+    pub request-state : senderFits st ≡ false → _≡_ {A = COutcome × List ℕ} (r, st) (requestExport st cfg ring seq count)
     unfolding requestExport
     request-state f = rw (n, f)
 
-    pub request-settings : fits st ≡ true → settingsFit cfg ≡ false → _≡_ {A = COutcome × List ℕ} (r, st) (requestExport st cfg ring seq count)
+    pub request-settings : senderFits st ≡ true → settingsFit cfg ≡ false → _≡_ {A = COutcome × List ℕ} (r, st) (requestExport st cfg ring seq count)
     unfolding requestExport
     request-settings f g = rw (n, f, g)
 
 -- ---- a Retransmit Error, a NAK and the timer
 module _ (st : List ℕ) (reason seq : ℕ) where
-  pub error-done : fits st ≡ true → (d : DataStream) → d ≡ loaded st → (e : Told) → e ≡ errorAnswer d record { reason = reason; seq = seq }
-      → (st′ : List ℕ) → st′ ≡ stored (e .stream) → (r : CEvent) → r ≡ eventOf (e .event)
+  pub error-done : receiverFits st ≡ true → (d : Receiver) → d ≡ receiverIn st → (e : ReceiverTold) → e ≡ receiver.errorAnswer d record { reason = reason; seq = seq }
+      → (st′ : List ℕ) → st′ ≡ withReceiver st (e .receiver) → (r : CEvent) → r ≡ eventOf (e .event)
       → _≡_ {A = CEvent × List ℕ} (r, st′) (errorExport st reason seq)
-  unfolding errorExport
+  unfolding errorExport errorAnswer loaded
   error-done f d a e q st′ h r n =
-      let q′ : e ≡ errorAnswer (loaded st) record { reason = reason; seq = seq } = rw a at q in
+      let q′ : e ≡ receiver.errorAnswer (receiverIn st) record { reason = reason; seq = seq } = rw a at q in
       rw (h, n, f, ← q′)
 
-  pub error-state : fits st ≡ false → (r : CEvent) → r ≡ eventRefused 13 → _≡_ {A = CEvent × List ℕ} (r, st) (errorExport st reason seq)
+  pub error-state : receiverFits st ≡ false → (r : CEvent) → r ≡ eventRefused 13 → _≡_ {A = CEvent × List ℕ} (r, st) (errorExport st reason seq)
   unfolding errorExport
   error-state f r n = rw (n, f)
 
 module _ (st : List ℕ) where
-  pub nak-done : fits st ≡ true → (d : DataStream) → d ≡ loaded st → (e : Told) → e ≡ nakAnswer d
-      → (st′ : List ℕ) → st′ ≡ stored (e .stream) → (r : CEvent) → r ≡ eventOf (e .event)
+  pub nak-done : receiverFits st ≡ true → (d : Receiver) → d ≡ receiverIn st → (e : ReceiverTold) → e ≡ receiver.nakAnswer d
+      → (st′ : List ℕ) → st′ ≡ withReceiver st (e .receiver) → (r : CEvent) → r ≡ eventOf (e .event)
       → _≡_ {A = CEvent × List ℕ} (r, st′) (nakExport st)
-  unfolding nakExport
+  unfolding nakExport nakAnswer loaded
   nak-done f d a e q st′ h r n =
-      let q′ : e ≡ nakAnswer (loaded st) = rw a at q in
+      let q′ : e ≡ receiver.nakAnswer (receiverIn st) = rw a at q in
       rw (h, n, f, ← q′)
 
-  pub nak-state : fits st ≡ false → (r : CEvent) → r ≡ eventRefused 13 → _≡_ {A = CEvent × List ℕ} (r, st) (nakExport st)
+  pub nak-state : receiverFits st ≡ false → (r : CEvent) → r ≡ eventRefused 13 → _≡_ {A = CEvent × List ℕ} (r, st) (nakExport st)
   unfolding nakExport
   nak-state f r n = rw (n, f)
 
 module _ (st cfg : List ℕ) (time : ℕ) where
-  pub poll-done : fits st ≡ true → settingsFit cfg ≡ true → (d : DataStream) (k : StreamConfig) → d ≡ loaded st → k ≡ settingsOf cfg
-      → (e : Told) → e ≡ pollAnswer d k time
-      → (st′ : List ℕ) → st′ ≡ stored (e .stream) → (r : CEvent) → r ≡ eventOf (e .event)
+  pub poll-done : receiverFits st ≡ true → settingsFit cfg ≡ true → (d : Receiver) (k : StreamConfig) → d ≡ receiverIn st → k ≡ settingsOf cfg
+      → (e : ReceiverTold) → e ≡ receiver.pollAnswer d k time
+      → (st′ : List ℕ) → st′ ≡ withReceiver st (e .receiver) → (r : CEvent) → r ≡ eventOf (e .event)
       → _≡_ {A = CEvent × List ℕ} (r, st′) (pollExport st cfg time)
-  unfolding pollExport
+  unfolding pollExport pollAnswer loaded
   poll-done f g d k a b e q st′ h r n =
-      let q′ : e ≡ pollAnswer (loaded st) (settingsOf cfg) time = rw (a, b) at q in
+      let q′ : e ≡ receiver.pollAnswer (receiverIn st) (settingsOf cfg) time = rw (a, b) at q in
       rw (h, n, f, g, ← q′)
 
   module _ (r : CEvent) (n : r ≡ eventRefused 13) where
-    pub poll-state : fits st ≡ false → _≡_ {A = CEvent × List ℕ} (r, st) (pollExport st cfg time)
+    pub poll-state : receiverFits st ≡ false → _≡_ {A = CEvent × List ℕ} (r, st) (pollExport st cfg time)
     unfolding pollExport
     poll-state f = rw (n, f)
 
-    pub poll-settings : fits st ≡ true → settingsFit cfg ≡ false → _≡_ {A = CEvent × List ℕ} (r, st) (pollExport st cfg time)
+    pub poll-settings : receiverFits st ≡ true → settingsFit cfg ≡ false → _≡_ {A = CEvent × List ℕ} (r, st) (pollExport st cfg time)
     unfolding pollExport
     poll-settings f g = rw (n, f, g)
 
@@ -244,26 +248,26 @@ abbrev TakeAnswer : Type 0
 TakeAnswer = CRequest × List ℕ × List ℕ × List ℕ
 
 module _ (st cfg p b : List ℕ) where
-  pub take-done : fits st ≡ true → settingsFit cfg ≡ true → length p ≡ 2
-      → (d : DataStream) (k : StreamConfig) (w : PayloadWriter) → d ≡ loaded st → k ≡ settingsOf cfg → w ≡ payloadIn p
-      → (e : Taken) (b′ : List ℕ) → (e, b′) ≡ takeAnswer d k w b
-      → (st′ : List ℕ) → st′ ≡ stored (e .stream) → (p′ : List ℕ) → p′ ≡ payloadWords (e .payload) → (r : CRequest) → r ≡ requestOf (e .answer)
+  pub take-done : receiverFits st ≡ true → settingsFit cfg ≡ true → length p ≡ 2
+      → (d : Receiver) (k : StreamConfig) (w : PayloadWriter) → d ≡ receiverIn st → k ≡ settingsOf cfg → w ≡ payloadIn p
+      → (e : ReceiverTaken) (b′ : List ℕ) → (e, b′) ≡ receiver.takeAnswer d k w b
+      → (st′ : List ℕ) → st′ ≡ withReceiver st (e .receiver) → (p′ : List ℕ) → p′ ≡ payloadWords (e .payload) → (r : CRequest) → r ≡ requestOf (e .answer)
       → _≡_ {A = TakeAnswer} (r, st′, p′, b′) (takeExport st cfg p b)
-  unfolding takeExport
+  unfolding takeExport takeAnswer loaded
   take-done f g l d k w x y z e b′ q st′ h p′ i r n =
-      let q′ : (e, b′) ≡ takeAnswer (loaded st) (settingsOf cfg) (payloadIn p) b = rw (x, y, z) at q in
+      let q′ : (e, b′) ≡ receiver.takeAnswer (receiverIn st) (settingsOf cfg) (payloadIn p) b = rw (x, y, z) at q in
       rw (h, i, n, f, g, eq-eqb (length p) 2 l, ← q′)
 
   module _ (r : CRequest) (n : r ≡ requestRefused 13) where
-    pub take-state : fits st ≡ false → _≡_ {A = TakeAnswer} (r, st, p, b) (takeExport st cfg p b)
+    pub take-state : receiverFits st ≡ false → _≡_ {A = TakeAnswer} (r, st, p, b) (takeExport st cfg p b)
     unfolding takeExport
     take-state f = rw (n, f)
 
-    pub take-settings : fits st ≡ true → settingsFit cfg ≡ false → _≡_ {A = TakeAnswer} (r, st, p, b) (takeExport st cfg p b)
+    pub take-settings : receiverFits st ≡ true → settingsFit cfg ≡ false → _≡_ {A = TakeAnswer} (r, st, p, b) (takeExport st cfg p b)
     unfolding takeExport
     take-settings f g = rw (n, f, g)
 
-    pub take-payload : fits st ≡ true → settingsFit cfg ≡ true → (length p ≡ 2 → ⊥) → _≡_ {A = TakeAnswer} (r, st, p, b) (takeExport st cfg p b)
+    pub take-payload : receiverFits st ≡ true → settingsFit cfg ≡ true → (length p ≡ 2 → ⊥) → _≡_ {A = TakeAnswer} (r, st, p, b) (takeExport st cfg p b)
     unfolding takeExport
     take-payload f g l = rw (n, f, g, ne-eqb (length p) 2 l)
 

@@ -1,76 +1,57 @@
--- Words within their limits.
+-- Words within their limits, and words that are stored.
 use mathlib.Core.Path.{_≡_, refl, ap, sym, _∙_}
 use mathlib.Core.Bool.{Bool, true, false, _&&_}
-use mathlib.Core.List.{List, [], _∷_}
-use Prim.Native.Nat.{ℕ, zero, suc, _+_, _-_, _≤_, _<_}
+use mathlib.Core.List.{List, [], _∷_, _++_, append-nil}
+use Prim.Native.Nat.{ℕ, zero, suc, _+_, _≤_, _<_}
 use native.Mathlib.Omega.{arith}
 use native.Mathlib.Numerals.{add-one}
-use lib.ListN.{length, getD, take, drop, set, replicate, drop-of-length-le}
-use lib.Seq.{drop-cons, take-suc, take-suc-set, take-all}
-use borrow.Author.Tests.{le-leb, lt-leb}
+use lib.ListN.{length, getD, take, drop, set, drop-of-length-le, length-append}
+use lib.Seq.{take-suc, take-all, length-take-le}
+use borrow.Author.Tests.{le-leb, lt-leb, leb-true}
 use lib.Dec.{leb}
-use Rattle.config.proofs.Tests.{tests, and-left, and-right}
-use Rattle.capi.specs.Limits.{allWithin}
-
-pub within-length : (ls ws : List ℕ) → allWithin ls ws ≡ true → length ws ≡ length ls
-unfolding allWithin
-within-length [] [] e = refl
-within-length [] (w ∷ ws) e = absurd (let z : _≡_ {A = Bool} false true = e in let y : _≡_ {A = ℕ} 0 1 = cc in omega arith)
-within-length (l ∷ ls) [] e = absurd (let z : _≡_ {A = Bool} false true = e in let y : _≡_ {A = ℕ} 0 1 = cc in omega arith)
-within-length (l ∷ ls) (w ∷ ws) e = ap suc (within-length ls ws (and-right (leb w l) (allWithin ls ws) e))
-
-pub within-at : (ls ws : List ℕ) → allWithin ls ws ≡ true → (k : ℕ) → k < length ls → getD ws k 0 ≤ getD ls k 0
-unfolding allWithin
-within-at [] [] e k h = omega arith
-within-at [] (w ∷ ws) e k h = absurd (let z : _≡_ {A = Bool} false true = e in let y : _≡_ {A = ℕ} 0 1 = cc in omega arith)
-within-at (l ∷ ls) [] e k h = absurd (let z : _≡_ {A = Bool} false true = e in let y : _≡_ {A = ℕ} 0 1 = cc in omega arith)
-within-at (l ∷ ls) (w ∷ ws) e zero h = omega (arith, tests, and-left (leb w l) (allWithin ls ws) e)
-within-at (l ∷ ls) (w ∷ ws) e (suc k) h = within-at ls ws (and-right (leb w l) (allWithin ls ws) e) k (omega arith)
+use Rattle.config.proofs.Tests.{and-left, and-right}
+use Rattle.packet.specs.Bytes.{spliced}
+use Rattle.packet.proofs.Splice.{spliced-sets, spliced-append, length-spliced}
+use Rattle.capi.specs.Limits.{within}
 
 pub and-false : (a b : Bool) → false ≡ b → false ≡ a && b
 and-false true b e = e
 and-false false b e = refl
 
--- ---- the test's loop: what is left from word k on decides
-pub within-lengths : (ls ws : List ℕ) → (length ws ≡ length ls → ⊥) → false ≡ allWithin ls ws
-unfolding allWithin
-within-lengths [] [] h = absurd (h refl)
-within-lengths [] (w ∷ ws) h = refl
-within-lengths (l ∷ ls) [] h = refl
-within-lengths (l ∷ ls) (w ∷ ws) h = and-false (leb w l) _ (within-lengths ls ws (λ e. h (ap suc e)))
+-- ---- pair i of the limits
+abbrev pub place : List (ℕ × ℕ) → ℕ → ℕ
+place ps i = getD ps i (0, 0) .0
 
-module _ (ls ws : List ℕ) (k : ℕ) where
-  pub within-turn : getD ws k 0 ≤ getD ls k 0 → allWithin (drop k ls) (drop k ws) ≡ allWithin ls ws → k < length ls → k < length ws
-      → allWithin (drop (k + 1) ls) (drop (k + 1) ws) ≡ allWithin ls ws
-  unfolding allWithin
-  within-turn e i h g = sym one ∙ i
-    where
-      one : allWithin (drop k ls) (drop k ws) ≡ allWithin (drop (k + 1) ls) (drop (k + 1) ws)
-      one = rw (add-one k, drop-cons ls k 0 h, drop-cons ws k 0 g, le-leb (getD ws k 0) (getD ls k 0) e)
+abbrev pub most : List (ℕ × ℕ) → ℕ → ℕ
+most ps i = getD ps i (0, 0) .1
 
-  pub within-broken : getD ls k 0 < getD ws k 0 → allWithin (drop k ls) (drop k ws) ≡ allWithin ls ws → k < length ls → k < length ws → false ≡ allWithin ls ws
-  unfolding allWithin
-  within-broken e i h g = one ∙ i
-    where
-      one : false ≡ allWithin (drop k ls) (drop k ws)
-      one = rw (drop-cons ls k 0 h, drop-cons ws k 0 g, lt-leb (getD ws k 0) (getD ls k 0) e)
+pub within-at : (ps : List (ℕ × ℕ)) (ws : List ℕ) → within ps ws ≡ true → (i : ℕ) → i < length ps → getD ws (place ps i) 0 ≤ most ps i
+unfolding within
+within-at [] ws e i h = absurd (let z : ⊥ = omega arith in z)
+within-at (p ∷ ps) ws e zero h = leb-true _ _ (and-left (leb (getD ws (p .0) 0) (p .1)) (within ps ws) e)
+within-at (p ∷ ps) ws e (suc i) h = within-at ps ws (and-right (leb (getD ws (p .0) 0) (p .1)) (within ps ws) e) i (omega arith)
 
-  pub within-done : allWithin (drop k ls) (drop k ws) ≡ allWithin ls ws → length ls ≤ k → length ws ≤ k → true ≡ allWithin ls ws
-  unfolding allWithin
-  within-done i h g = one ∙ i
-    where
-      one : true ≡ allWithin (drop k ls) (drop k ws)
-      one = rw (drop-of-length-le ls h, drop-of-length-le ws g)
+pub above-at : (ps : List (ℕ × ℕ)) (ws : List ℕ) (i : ℕ) → i < length ps → most ps i < getD ws (place ps i) 0 → false ≡ within ps ws
+unfolding within
+above-at [] ws i h g = absurd (let z : ⊥ = omega arith in z)
+above-at (p ∷ ps) ws zero h g = rw (lt-leb (getD ws (p .0) 0) (p .1) g)
+above-at (p ∷ ps) ws (suc i) h g = and-false (leb (getD ws (p .0) 0) (p .1)) _ (above-at ps ws i (omega arith) g)
 
--- ---- a copy: the words before k are those of the other list
-module _ (from to : List ℕ) (k : ℕ) (e : take k to ≡ take k from) where
-  pub copy-turn : k < length to → k < length from → take (k + 1) (set to k (getD from k 0)) ≡ take (k + 1) from
-  copy-turn h g = rw (add-one k, take-suc-set to k (getD from k 0) h, take-suc from k 0 g, e)
+-- ---- words that are stored
+-- one more
+pub put-turn : (to from : List ℕ) (at k : ℕ) → at + length from ≤ length to → k < length from
+    → set (spliced to at (take k from)) (at + k) (getD from k 0) ≡ spliced to at (take (k + 1) from)
+put-turn to from at k h g =
+    let l : length (take k from) ≡ k = length-take-le k from (omega arith) in
+    let e : at + length (take k from) ≡ at + k = omega arith in
+    let w : at + k + 1 ≤ length (spliced to at (take k from)) = omega (arith, length-spliced to at (take k from) (omega arith)) in
+    sym (spliced-sets (spliced to at (take k from)) (at + k) (getD from k 0 ∷ []) w)
+    ∙ spliced-append to at (at + k) (take k from) (getD from k 0 ∷ []) e (omega arith)
+    ∙ ap (spliced to at) (sym (rw (add-one k) (take-suc from k 0 g)))
 
-  pub copy-done : length to ≤ k → length from ≤ k → to ≡ from
-  copy-done h g = sym (take-all k to h) ∙ e ∙ take-all k from g
-
-pub replicate-most : (n x j : ℕ) → getD (replicate n x) j 0 ≤ x
-replicate-most zero x j = omega arith
-replicate-most (suc n) x zero = omega arith
-replicate-most (suc n) x (suc j) = replicate-most n x j
+-- as many as there are
+pub put-whole : (to from : List ℕ) → length to ≡ length from → spliced to 0 from ≡ from
+unfolding spliced
+put-whole to from e =
+    let h : length to ≤ 0 + length from = omega arith in
+    rw (drop-of-length-le to h) (append-nil from)

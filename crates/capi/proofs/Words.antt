@@ -1,13 +1,15 @@
 -- Streams and their words.
-use mathlib.Core.Path.{_≡_, refl, ap}
-use mathlib.Core.Bool.{Bool, true, false, cond}
-use mathlib.Core.List.{List, [], _∷_, _++_}
-use Prim.Native.Nat.{ℕ, zero, suc, _+_, _-_, _≤_, _<_}
+use mathlib.Core.Path.{_≡_, refl, ap, sym, _∙_}
+use mathlib.Core.Bool.{Bool, true, false, cond, _&&_}
+use mathlib.Core.List.{List, [], _∷_, _++_, append-nil}
+use Prim.Native.Nat.{ℕ, zero, suc, _+_, _≤_, _<_}
 use native.Mathlib.Omega.{arith}
-use lib.ListN.{length, getD, drop, replicate}
-use lib.Seq.{getD-drop}
-use lib.Dec.{eqb}
-use borrow.Author.Tests.{eq-eqb, ne-eqb}
+use lib.ListN.{length, getD}
+use lib.Dec.{eqb, leb}
+use borrow.Author.Tests.{eq-eqb, ne-eqb, eqb-true, le-leb}
+use Rattle.config.proofs.Tests.{and-left, and-right}
+use Rattle.packet.specs.Bytes.{spliced}
+use Rattle.packet.proofs.Splice.{spliced-append, length-spliced}
 use Rattle.command.specs.declared.retransmit.RetransmitRequest.{RetransmitRequest}
 use Rattle.history.specs.Queue.{blank}
 use Rattle.history.specs.declared.history.SendHistory.{SendHistory}
@@ -18,47 +20,125 @@ use Rattle.receiver.specs.declared.receiver.Receiver.{Receiver}
 use Rattle.capi.specs.declared.state.IdleWords.{IdleWords}
 use Rattle.capi.specs.declared.state.TimerWords.{TimerWords}
 use Rattle.capi.specs.declared.state.AskedWords.{AskedWords}
-use Rattle.capi.specs.declared.state.ItemWords.{ItemWords}
 use Rattle.sender.specs.declared.sender.IdleTimer.{IdleTimer}
-use Rattle.sender.specs.declared.sender.IdleTimer.the-variants.{Off, Waiting}
 use Rattle.receiver.specs.declared.receiver.Timer.{Timer}
-use Rattle.receiver.specs.declared.receiver.Timer.the-variants.{Stopped, Running}
 use Rattle.receiver.specs.declared.receiver.Asked.{Asked}
-use Rattle.receiver.specs.declared.receiver.Asked.the-variants.{Nothing, Request}
 use Rattle.stream.specs.declared.stream.DataStream.{DataStream}
-use Rattle.capi.specs.Limits.{allWithin, bit}
-use Rattle.capi.specs.Stream.{limits, fits, Fits, itemIn, loaded, stored, senderIn, receiverIn, queueIn, itemsIn, itemsFrom, senderWords, receiverWords, historyIn, idleIn, windowIn, timerIn, askedIn, idleWords, timerWords, askedWords, itemWords}
+use Rattle.capi.specs.Limits.{within, bit}
+use Rattle.capi.specs.Stream.{receiverLimits, senderLimits, receiverFits, senderFits, fits, ReceiverFit, SenderFit, firstIn, secondIn, loaded, stored, senderIn, receiverIn, queueIn, itemsIn, pairs, pairWord, senderWords, receiverWords, historyIn, idleIn, windowIn, timerIn, askedIn, idleWords, timerWords, askedWords, withReceiver}
 use Rattle.capi.specs.Window.{windowLimits, windowFits, Narrow}
-use Rattle.capi.proofs.Within.{within-length, within-at, replicate-most}
+use Rattle.capi.proofs.Within.{within-at, above-at, place, most, and-false, put-whole}
 
--- ---- what the test says
-pub fits-known : (ws : List ℕ) → fits ws ≡ true → Fits ws
-unfolding fits
-fits-known ws e =
-    record {
-      whole = within-length limits ws e;
-      oldest = within-at limits ws e 4 (omega arith);
-      step = within-at limits ws e 13 (omega arith);
-      size = within-at limits ws e 15 (omega arith);
-      highest = within-at limits ws e 16 (omega arith);
-      sent = within-at limits ws e 21 (omega arith);
-      seq = within-at limits ws e 25 (omega arith);
-      count = within-at limits ws e 26 (omega arith);
-      items = λ k h g.
-          let j : 27 + (k - 27) ≡ k = omega arith in
-          let a : getD limits (27 + (k - 27)) 0 ≤ 65535 = rw (← getD-drop 27 limits (k - 27) 0) (replicate-most 32 65535 (k - 27)) in
-          let b : getD limits k 0 ≤ 65535 = rw j at a in
-          omega (arith, within-at limits ws e k (omega arith), b);
-    }
+-- ---- the tests
+module _ (ws : List ℕ) (n : ℕ) (ps : List (ℕ × ℕ)) where
+  -- the length and the limits
+  abbrev both : Bool
+  both = eqb (length ws) n && within ps ws
 
-pub window-known : (ws : List ℕ) → windowFits ws ≡ true → Narrow ws
-unfolding windowFits
-window-known ws e =
-    record {
-      whole = within-length windowLimits ws e;
-      size = within-at windowLimits ws e 0 (omega arith);
-      highest = within-at windowLimits ws e 1 (omega arith);
-    }
+  pub not-as-many : (length ws ≡ n → ⊥) → false ≡ both
+  not-as-many h = rw (ne-eqb (length ws) n h)
+
+  pub too-large : (i : ℕ) → i < length ps → most ps i < getD ws (place ps i) 0 → false ≡ both
+  too-large i h g = and-false (eqb (length ws) n) _ (above-at ps ws i h g)
+
+  pub as-many : both ≡ true → length ws ≡ n
+  as-many e = eqb-true (length ws) n (and-left (eqb (length ws) n) (within ps ws) e)
+
+  pub small-at : both ≡ true → (i : ℕ) → i < length ps → getD ws (place ps i) 0 ≤ most ps i
+  small-at e i h = within-at ps ws (and-right (eqb (length ws) n) (within ps ws) e) i h
+
+module _ (ws : List ℕ) where
+  abbrev at : ℕ → ℕ
+  at k = getD ws k 0
+
+  pub receiver-short : (length ws ≡ 35 → ⊥) → false ≡ receiverFits ws
+  unfolding receiverFits
+  receiver-short h = not-as-many ws 35 receiverLimits h
+
+  pub receiver-large : (i : ℕ) → i < 9 → most receiverLimits i < at (place receiverLimits i) → false ≡ receiverFits ws
+  unfolding receiverFits
+  receiver-large i h g = too-large ws 35 receiverLimits i h g
+
+  pub receiver-last : length ws ≡ 35 → at 0 ≤ 4294967295 → at 1 ≤ 65535 → at 4 ≤ 1 → at 6 ≤ 255 → at 7 ≤ 1 → at 8 ≤ 1 → at 9 ≤ 1 → at 10 ≤ 65535
+      → leb (at 11) 65535 ≡ receiverFits ws
+  unfolding receiverFits within
+  receiver-last l a b c d e f g h =
+      rw (eq-eqb (length ws) 35 l, le-leb (at 0) 4294967295 a, le-leb (at 1) 65535 b, le-leb (at 4) 1 c, le-leb (at 6) 255 d, le-leb (at 7) 1 e, le-leb (at 8) 1 f, le-leb (at 9) 1 g, le-leb (at 10) 65535 h)
+      (last (leb (at 11) 65535))
+    where
+      last : (b : Bool) → b ≡ b && true
+      last true = refl
+      last false = refl
+
+  pub receiver-known : receiverFits ws ≡ true → ReceiverFit ws
+  unfolding receiverFits
+  receiver-known e =
+      let s = small-at ws 35 receiverLimits e in
+      record {
+        whole = as-many ws 35 receiverLimits e;
+        size = s 0 (omega arith);
+        highest = s 1 (omega arith);
+        sent = s 3 (omega arith);
+        seq = s 7 (omega arith);
+        count = s 8 (omega arith);
+      }
+
+  pub sender-short : (length ws ≡ 35 → ⊥) → false ≡ senderFits ws
+  unfolding senderFits
+  sender-short h = not-as-many ws 35 senderLimits h
+
+  pub sender-large : (i : ℕ) → i < 3 → most senderLimits i < at (place senderLimits i) → false ≡ senderFits ws
+  unfolding senderFits
+  sender-large i h g = too-large ws 35 senderLimits i h g
+
+  pub sender-last : length ws ≡ 35 → at 16 ≤ 65535 → at 23 ≤ 1 → leb (at 25) 65535 ≡ senderFits ws
+  unfolding senderFits within
+  sender-last l a b = rw (eq-eqb (length ws) 35 l, le-leb (at 16) 65535 a, le-leb (at 23) 1 b) (last (leb (at 25) 65535))
+    where
+      last : (b : Bool) → b ≡ b && true
+      last true = refl
+      last false = refl
+
+  pub sender-known : senderFits ws ≡ true → SenderFit ws
+  unfolding senderFits
+  sender-known e =
+      let s = small-at ws 35 senderLimits e in
+      record { whole = as-many ws 35 senderLimits e; oldest = s 0 (omega arith); step = s 2 (omega arith) }
+
+  -- both ends
+  pub both-fit : fits ws ≡ true → (receiverFits ws ≡ true) × (senderFits ws ≡ true)
+  unfolding fits
+  both-fit e = (and-left (receiverFits ws) (senderFits ws) e, and-right (receiverFits ws) (senderFits ws) e)
+
+  pub fits-sender : receiverFits ws ≡ true → senderFits ws ≡ fits ws
+  unfolding fits
+  fits-sender e = rw e
+
+  pub fits-not : receiverFits ws ≡ false → false ≡ fits ws
+  unfolding fits
+  fits-not e = rw e
+
+  pub window-short : (length ws ≡ 4 → ⊥) → false ≡ windowFits ws
+  unfolding windowFits
+  window-short h = not-as-many ws 4 windowLimits h
+
+  pub window-large : 4294967295 < at 0 → false ≡ windowFits ws
+  unfolding windowFits
+  window-large g = too-large ws 4 windowLimits 0 (omega arith) g
+
+  pub window-last : length ws ≡ 4 → at 0 ≤ 4294967295 → leb (at 1) 65535 ≡ windowFits ws
+  unfolding windowFits within
+  window-last l a = rw (eq-eqb (length ws) 4 l, le-leb (at 0) 4294967295 a) (last (leb (at 1) 65535))
+    where
+      last : (b : Bool) → b ≡ b && true
+      last true = refl
+      last false = refl
+
+  pub window-known : windowFits ws ≡ true → Narrow ws
+  unfolding windowFits
+  window-known e =
+      let s = small-at ws 4 windowLimits e in
+      record { whole = as-many ws 4 windowLimits e; size = s 0 (omega arith); highest = s 1 (omega arith) }
 
 -- ---- a case, by its word
 module _ {A : Type 0} (x y : A) (w : ℕ) where
@@ -71,18 +151,18 @@ module _ {A : Type 0} (x y : A) (w : ℕ) where
 -- ---- the parts of what is loaded
 module _ (ws : List ℕ) where
   pub queue-loaded : (r0 r1 r2 r3 r4 r5 r6 r7 r8 r9 r10 r11 r12 r13 r14 r15 : RetransmitRequest)
-      → r0 ≡ itemIn ws 27 → r1 ≡ itemIn ws 29 → r2 ≡ itemIn ws 31 → r3 ≡ itemIn ws 33 → r4 ≡ itemIn ws 35 → r5 ≡ itemIn ws 37 → r6 ≡ itemIn ws 39 → r7 ≡ itemIn ws 41 → r8 ≡ itemIn ws 43 → r9 ≡ itemIn ws 45 → r10 ≡ itemIn ws 47 → r11 ≡ itemIn ws 49 → r12 ≡ itemIn ws 51 → r13 ≡ itemIn ws 53 → r14 ≡ itemIn ws 55 → r15 ≡ itemIn ws 57
-      → record { items = r0 ∷ r1 ∷ r2 ∷ r3 ∷ r4 ∷ r5 ∷ r6 ∷ r7 ∷ r8 ∷ r9 ∷ r10 ∷ r11 ∷ r12 ∷ r13 ∷ r14 ∷ r15 ∷ []; head = getD ws 6 0; len = getD ws 7 0; size = getD ws 8 0 } ≡ queueIn ws
+      → r0 ≡ firstIn (getD ws 27 0) → r1 ≡ secondIn (getD ws 27 0) → r2 ≡ firstIn (getD ws 28 0) → r3 ≡ secondIn (getD ws 28 0) → r4 ≡ firstIn (getD ws 29 0) → r5 ≡ secondIn (getD ws 29 0) → r6 ≡ firstIn (getD ws 30 0) → r7 ≡ secondIn (getD ws 30 0) → r8 ≡ firstIn (getD ws 31 0) → r9 ≡ secondIn (getD ws 31 0) → r10 ≡ firstIn (getD ws 32 0) → r11 ≡ secondIn (getD ws 32 0) → r12 ≡ firstIn (getD ws 33 0) → r13 ≡ secondIn (getD ws 33 0) → r14 ≡ firstIn (getD ws 34 0) → r15 ≡ secondIn (getD ws 34 0)
+      → record { items = r0 ∷ r1 ∷ r2 ∷ r3 ∷ r4 ∷ r5 ∷ r6 ∷ r7 ∷ r8 ∷ r9 ∷ r10 ∷ r11 ∷ r12 ∷ r13 ∷ r14 ∷ r15 ∷ []; head = getD ws 18 0; len = getD ws 19 0; size = getD ws 20 0 } ≡ queueIn ws
   unfolding queueIn itemsIn
   queue-loaded r0 r1 r2 r3 r4 r5 r6 r7 r8 r9 r10 r11 r12 r13 r14 r15 e0 e1 e2 e3 e4 e5 e6 e7 e8 e9 e10 e11 e12 e13 e14 e15 = rw (e0, e1, e2, e3, e4, e5, e6, e7, e8, e9, e10, e11, e12, e13, e14, e15)
 
   pub sender-loaded : (h : SendHistory) (q : RetransmitQueue) (i : IdleTimer) → h ≡ historyIn ws → q ≡ queueIn ws → i ≡ idleIn ws
-      → record { history = h; queue = q; unsent = getD ws 9 0; «unsent_words» = getD ws 10 0; idle = i } ≡ senderIn ws
+      → record { history = h; queue = q; unsent = getD ws 21 0; «unsent_words» = getD ws 22 0; idle = i } ≡ senderIn ws
   unfolding senderIn
   sender-loaded h q i a b d = rw (a, b, d)
 
   pub receiver-loaded : (w : ReceiveWindow) (t : Timer) (a : Asked) → w ≡ windowIn ws → t ≡ timerIn ws → a ≡ askedIn ws
-      → record { window = w; timer = t; «request_due» = eqb (getD ws 22 0) 1; refused = eqb (getD ws 23 0) 1; asked = a } ≡ receiverIn ws
+      → record { window = w; timer = t; «request_due» = eqb (getD ws 7 0) 1; refused = eqb (getD ws 8 0) 1; asked = a } ≡ receiverIn ws
   unfolding receiverIn
   receiver-loaded w t a e f g = rw (e, f, g)
 
@@ -90,16 +170,39 @@ module _ (ws : List ℕ) where
   unfolding loaded
   stream-loaded s r e f = rw (e, f)
 
--- ---- the words of a stream
-pub stream-words : (d : DataStream) (i : IdleWords) (t : TimerWords) (a : AskedWords) (r0 r1 r2 r3 r4 r5 r6 r7 r8 r9 r10 r11 r12 r13 r14 r15 : ItemWords)
-    → i ≡ idleWords (d .sender .idle) → t ≡ timerWords (d .receiver .timer) → a ≡ askedWords (d .receiver .asked)
-    → r0 ≡ itemWords (getD (d .sender .queue .items) 0 blank) → r1 ≡ itemWords (getD (d .sender .queue .items) 1 blank) → r2 ≡ itemWords (getD (d .sender .queue .items) 2 blank) → r3 ≡ itemWords (getD (d .sender .queue .items) 3 blank) → r4 ≡ itemWords (getD (d .sender .queue .items) 4 blank) → r5 ≡ itemWords (getD (d .sender .queue .items) 5 blank) → r6 ≡ itemWords (getD (d .sender .queue .items) 6 blank) → r7 ≡ itemWords (getD (d .sender .queue .items) 7 blank) → r8 ≡ itemWords (getD (d .sender .queue .items) 8 blank) → r9 ≡ itemWords (getD (d .sender .queue .items) 9 blank) → r10 ≡ itemWords (getD (d .sender .queue .items) 10 blank) → r11 ≡ itemWords (getD (d .sender .queue .items) 11 blank) → r12 ≡ itemWords (getD (d .sender .queue .items) 12 blank) → r13 ≡ itemWords (getD (d .sender .queue .items) 13 blank) → r14 ≡ itemWords (getD (d .sender .queue .items) 14 blank) → r15 ≡ itemWords (getD (d .sender .queue .items) 15 blank)
-    → d .sender .history .size ∷ d .sender .history .head ∷ d .sender .history .used ∷ d .sender .history .count ∷ d .sender .history .oldest ∷ d .sender .history .last
-    ∷ d .sender .queue .head ∷ d .sender .queue .len ∷ d .sender .queue .size ∷ d .sender .unsent ∷ d .sender .«unsent_words»
+-- ---- the words of an end
+pub receiver-words : (r : Receiver) (t : TimerWords) (a : AskedWords) → t ≡ timerWords (r .timer) → a ≡ askedWords (r .asked)
+    → r .window .size ∷ r .window .highest ∷ r .window .bits .low ∷ r .window .bits .high
+    ∷ t .on ∷ t .due ∷ t .sent ∷ bit (r .«request_due») ∷ bit (r .refused) ∷ a .on ∷ a .seq ∷ a .count ∷ []
+    ≡ receiverWords r
+unfolding receiverWords
+receiver-words r t a e f = rw (e, f)
+
+pub sender-words : (s : Sender) (i : IdleWords) (p0 p1 p2 p3 p4 p5 p6 p7 : ℕ) → i ≡ idleWords (s .idle)
+    → p0 ≡ pairWord (getD (s .queue .items) 0 blank) (getD (s .queue .items) 1 blank)
+    → p1 ≡ pairWord (getD (s .queue .items) 2 blank) (getD (s .queue .items) 3 blank)
+    → p2 ≡ pairWord (getD (s .queue .items) 4 blank) (getD (s .queue .items) 5 blank)
+    → p3 ≡ pairWord (getD (s .queue .items) 6 blank) (getD (s .queue .items) 7 blank)
+    → p4 ≡ pairWord (getD (s .queue .items) 8 blank) (getD (s .queue .items) 9 blank)
+    → p5 ≡ pairWord (getD (s .queue .items) 10 blank) (getD (s .queue .items) 11 blank)
+    → p6 ≡ pairWord (getD (s .queue .items) 12 blank) (getD (s .queue .items) 13 blank)
+    → p7 ≡ pairWord (getD (s .queue .items) 14 blank) (getD (s .queue .items) 15 blank)
+    → s .history .size ∷ s .history .head ∷ s .history .used ∷ s .history .count ∷ s .history .oldest ∷ s .history .last
+    ∷ s .queue .head ∷ s .queue .len ∷ s .queue .size ∷ s .unsent ∷ s .«unsent_words»
     ∷ i .on ∷ i .due ∷ i .step ∷ i .interval
-    ∷ d .receiver .window .size ∷ d .receiver .window .highest ∷ d .receiver .window .bits .low ∷ d .receiver .window .bits .high
-    ∷ t .on ∷ t .due ∷ t .sent ∷ bit (d .receiver .«request_due») ∷ bit (d .receiver .refused) ∷ a .on ∷ a .seq ∷ a .count
-    ∷ r0 .seq ∷ r0 .count ∷ r1 .seq ∷ r1 .count ∷ r2 .seq ∷ r2 .count ∷ r3 .seq ∷ r3 .count ∷ r4 .seq ∷ r4 .count ∷ r5 .seq ∷ r5 .count ∷ r6 .seq ∷ r6 .count ∷ r7 .seq ∷ r7 .count ∷ r8 .seq ∷ r8 .count ∷ r9 .seq ∷ r9 .count ∷ r10 .seq ∷ r10 .count ∷ r11 .seq ∷ r11 .count ∷ r12 .seq ∷ r12 .count ∷ r13 .seq ∷ r13 .count ∷ r14 .seq ∷ r14 .count ∷ r15 .seq ∷ r15 .count ∷ []
-    ≡ stored d
-unfolding stored senderWords receiverWords itemsFrom
-stream-words d i t a r0 r1 r2 r3 r4 r5 r6 r7 r8 r9 r10 r11 r12 r13 r14 r15 f g h e0 e1 e2 e3 e4 e5 e6 e7 e8 e9 e10 e11 e12 e13 e14 e15 = rw (f, g, h, e0, e1, e2, e3, e4, e5, e6, e7, e8, e9, e10, e11, e12, e13, e14, e15)
+    ∷ p0 ∷ p1 ∷ p2 ∷ p3 ∷ p4 ∷ p5 ∷ p6 ∷ p7 ∷ []
+    ≡ senderWords s
+unfolding senderWords pairs
+sender-words s i p0 p1 p2 p3 p4 p5 p6 p7 f e0 e1 e2 e3 e4 e5 e6 e7 = rw (f, e0, e1, e2, e3, e4, e5, e6, e7)
+
+pub receiver-length : (ws : List ℕ) (r : Receiver) → length ws ≡ 35 → length (withReceiver ws r) ≡ 35
+unfolding receiverWords
+receiver-length ws r e = length-spliced ws 0 (receiverWords r) (omega arith) ∙ e
+
+-- both ends' words are all
+pub stream-words : (ws : List ℕ) (d : DataStream) → length ws ≡ 35
+    → spliced (spliced ws 0 (receiverWords (d .receiver))) 12 (senderWords (d .sender)) ≡ stored d
+unfolding receiverWords senderWords pairs stored
+stream-words ws d e =
+    spliced-append ws 0 12 (receiverWords (d .receiver)) (senderWords (d .sender)) refl (omega arith)
+    ∙ put-whole ws (receiverWords (d .receiver) ++ senderWords (d .sender)) e

@@ -1,5 +1,5 @@
 -- 01, "Numbers of each operation" and "State test": words that are no stream's, no settings or no payload are refused as 13, and nothing is changed. Else the words after a call
--- are those of the stream that the library's own definition gives.
+-- are those of the stream that the library's own definition gives; a call of one end looks at the words of that end alone, and changes no others.
 use Prim.Native.Nat.{ℕ}
 use mathlib.Core.Bool.{Bool, cond, _&&_}
 use mathlib.Core.List.{List}
@@ -16,7 +16,7 @@ use Rattle.stream.specs.declared.stream.Wrote.{Wrote}
 use Rattle.stream.specs.declared.stream.Requested.{Requested}
 use Rattle.stream.specs.declared.stream.Told.{Told}
 use Rattle.stream.specs.declared.stream.Taken.{Taken}
-use Rattle.capi.specs.Stream.{fits, loaded, stored}
+use Rattle.capi.specs.Stream.{fits, receiverFits, senderFits, loaded, stored, withReceiver, withSender}
 use Rattle.capi.specs.Settings.{settingsFit, settingsOf}
 use Rattle.capi.specs.Payload.{payloadIn, payloadWords}
 use Rattle.capi.specs.Answers.{startNumber, resetNumber, sendNumber, deliveryOf, deliveryRefused, writtenOf, writtenRefused, writeNumber, outcomeOf, outcomeRefused, eventOf, eventRefused, requestOf, requestRefused, deadlineOf, deadlineRefused, wantsOf, wantsRefused}
@@ -41,11 +41,11 @@ startedInto e = (startNumber (e .0 .answer), stored (e .0 .stream), e .1)
 abbrev resetInto : WasReset × List ℕ → ℕ × List ℕ × List ℕ
 resetInto e = (resetNumber (e .0 .answer), stored (e .0 .stream), e .1)
 
-abbrev sentInto : Sent × List ℕ → ℕ × List ℕ × List ℕ
-sentInto e = (sendNumber (e .0 .answer), stored (e .0 .stream), e .1)
+abbrev sentInto : List ℕ → Sent × List ℕ → ℕ × List ℕ × List ℕ
+sentInto st e = (sendNumber (e .0 .answer), withSender st (e .0 .stream .sender), e .1)
 
-abbrev heardInto : Heard → CDelivery × List ℕ
-heardInto e = (deliveryOf (e .answer), stored (e .stream))
+abbrev heardInto : List ℕ → Heard → CDelivery × List ℕ
+heardInto st e = (deliveryOf (e .answer), withReceiver st (e .stream .receiver))
 
 -- the answer, the stream's words, the payload's words, its bytes and the lent history
 abbrev wroteInto : Wrote × List ℕ × List ℕ → CWritten × List ℕ × List ℕ × List ℕ × List ℕ
@@ -54,18 +54,18 @@ wroteInto e = (writtenOf (e .0 .answer), stored (e .0 .stream), payloadWords (e 
 -- the lent history is the whole of its slice
 unfoldable pub newExport : List ℕ → List ℕ → ℕ → ℕ → List ℕ → ℕ × List ℕ × List ℕ
 newExport st cfg window places ring =
-    cond (eqb (length st) 59) (cond (settingsFit cfg) (startedInto (newAnswer (settingsOf cfg) window (length ring) places ring)) (13, st, ring)) (13, st, ring)
+    cond (eqb (length st) 35) (cond (settingsFit cfg) (startedInto (newAnswer (settingsOf cfg) window (length ring) places ring)) (13, st, ring)) (13, st, ring)
 
 unfoldable pub resetExport : List ℕ → List ℕ → ℕ × List ℕ × List ℕ
 resetExport st ring = cond (fits st) (resetInto (resetAnswer (loaded st) ring)) (13, st, ring)
 
 unfoldable pub sendExport : List ℕ → List ℕ → List ℕ → List ℕ → ℕ × List ℕ × List ℕ
 sendExport st cfg ring ws =
-    cond (fits st) (cond (settingsFit cfg) (sentInto (sendAnswer (loaded st) (settingsOf cfg) ring ws)) (13, st, ring)) (13, st, ring)
+    cond (senderFits st) (cond (settingsFit cfg) (sentInto st (sendAnswer (loaded st) (settingsOf cfg) ring ws)) (13, st, ring)) (13, st, ring)
 
 unfoldable pub dataExport : List ℕ → List ℕ → ℕ → ℕ → CDelivery × List ℕ
 dataExport st cfg time seq =
-    cond (fits st) (cond (settingsFit cfg) (heardInto (dataAnswer (loaded st) (settingsOf cfg) time seq)) (deliveryRefused 13, st)) (deliveryRefused 13, st)
+    cond (receiverFits st) (cond (settingsFit cfg) (heardInto st (dataAnswer (loaded st) (settingsOf cfg) time seq)) (deliveryRefused 13, st)) (deliveryRefused 13, st)
 
 unfoldable pub writeExport : List ℕ → List ℕ → ℕ → List ℕ → List ℕ → List ℕ → CWritten × List ℕ × List ℕ × List ℕ × List ℕ
 writeExport st cfg time p b ring =
@@ -75,37 +75,37 @@ writeExport st cfg time p b ring =
     (writtenRefused 13, st, p, b, ring))
     (writtenRefused 13, st, p, b, ring)
 
-abbrev requestedInto : Requested → COutcome × List ℕ
-requestedInto e = (outcomeOf (e .outcome), stored (e .stream))
+abbrev requestedInto : List ℕ → Requested → COutcome × List ℕ
+requestedInto st e = (outcomeOf (e .outcome), withSender st (e .stream .sender))
 
-abbrev toldInto : Told → CEvent × List ℕ
-toldInto e = (eventOf (e .event), stored (e .stream))
+abbrev toldInto : List ℕ → Told → CEvent × List ℕ
+toldInto st e = (eventOf (e .event), withReceiver st (e .stream .receiver))
 
 -- the answer, the stream's words, the payload's words and its bytes
-abbrev takenInto : Taken × List ℕ → CRequest × List ℕ × List ℕ × List ℕ
-takenInto e = (requestOf (e .0 .answer), stored (e .0 .stream), payloadWords (e .0 .payload), e .1)
+abbrev takenInto : List ℕ → Taken × List ℕ → CRequest × List ℕ × List ℕ × List ℕ
+takenInto st e = (requestOf (e .0 .answer), withReceiver st (e .0 .stream .receiver), payloadWords (e .0 .payload), e .1)
 
 unfoldable pub requestExport : List ℕ → List ℕ → List ℕ → ℕ → ℕ → COutcome × List ℕ
 requestExport st cfg ring seq count =
-    cond (fits st)
-    (cond (settingsFit cfg) (requestedInto (requestAnswer (loaded st) (settingsOf cfg) ring record { seq = seq; count = count })) (outcomeRefused 13, st))
+    cond (senderFits st)
+    (cond (settingsFit cfg) (requestedInto st (requestAnswer (loaded st) (settingsOf cfg) ring record { seq = seq; count = count })) (outcomeRefused 13, st))
     (outcomeRefused 13, st)
 
 unfoldable pub errorExport : List ℕ → ℕ → ℕ → CEvent × List ℕ
-errorExport st reason seq = cond (fits st) (toldInto (errorAnswer (loaded st) record { reason = reason; seq = seq })) (eventRefused 13, st)
+errorExport st reason seq = cond (receiverFits st) (toldInto st (errorAnswer (loaded st) record { reason = reason; seq = seq })) (eventRefused 13, st)
 
 unfoldable pub nakExport : List ℕ → CEvent × List ℕ
-nakExport st = cond (fits st) (toldInto (nakAnswer (loaded st))) (eventRefused 13, st)
+nakExport st = cond (receiverFits st) (toldInto st (nakAnswer (loaded st))) (eventRefused 13, st)
 
 unfoldable pub pollExport : List ℕ → List ℕ → ℕ → CEvent × List ℕ
 pollExport st cfg time =
-    cond (fits st) (cond (settingsFit cfg) (toldInto (pollAnswer (loaded st) (settingsOf cfg) time)) (eventRefused 13, st)) (eventRefused 13, st)
+    cond (receiverFits st) (cond (settingsFit cfg) (toldInto st (pollAnswer (loaded st) (settingsOf cfg) time)) (eventRefused 13, st)) (eventRefused 13, st)
 
 unfoldable pub takeExport : List ℕ → List ℕ → List ℕ → List ℕ → CRequest × List ℕ × List ℕ × List ℕ
 takeExport st cfg p b =
-    cond (fits st)
+    cond (receiverFits st)
     (cond (settingsFit cfg)
-    (cond (eqb (length p) 2) (takenInto (takeAnswer (loaded st) (settingsOf cfg) (payloadIn p) b)) (requestRefused 13, st, p, b))
+    (cond (eqb (length p) 2) (takenInto st (takeAnswer (loaded st) (settingsOf cfg) (payloadIn p) b)) (requestRefused 13, st, p, b))
     (requestRefused 13, st, p, b))
     (requestRefused 13, st, p, b)
 

@@ -1,9 +1,9 @@
--- 01, "Position, window, loss" and "History, repeats, idle": a stream's fields, as words that the caller lends, one for each. Where a case has no such field, its word is 0.
+-- 01, "Position, window, loss" and "History, repeats, idle": a stream's fields, as words that the caller lends, one for each, and two requests to a word. Where a case has no such field, its word is 0.
 use mathlib.Core.Path.{_≡_}
-use Prim.Native.Nat.{ℕ, zero, suc, _+_, _≤_, _<_}
-use mathlib.Core.Bool.{Bool, cond}
+use Prim.Native.Nat.{ℕ, zero, suc, _+_, _*_, _/_, _%_, _≤_}
+use mathlib.Core.Bool.{Bool, cond, _&&_}
 use mathlib.Core.List.{List, [], _∷_, _++_}
-use lib.ListN.{length, getD, replicate}
+use lib.ListN.{length, getD}
 use lib.Dec.{eqb}
 use Rattle.command.specs.declared.retransmit.RetransmitRequest.{RetransmitRequest}
 use Rattle.history.specs.Queue.{blank}
@@ -19,84 +19,87 @@ use Rattle.receiver.specs.declared.receiver.Timer.the-variants.{Stopped, Runnin
 use Rattle.receiver.specs.declared.receiver.Asked.{Asked}
 use Rattle.receiver.specs.declared.receiver.Asked.the-variants.{Nothing, Request}
 use Rattle.stream.specs.declared.stream.DataStream.{DataStream}
-use Rattle.capi.specs.Limits.{allWithin, bit}
+use Rattle.packet.specs.Bytes.{spliced}
+use Rattle.capi.specs.Limits.{within, bit}
 use Rattle.capi.specs.declared.state.IdleWords.{IdleWords}
 use Rattle.capi.specs.declared.state.TimerWords.{TimerWords}
 use Rattle.capi.specs.declared.state.AskedWords.{AskedWords}
-use Rattle.capi.specs.declared.state.ItemWords.{ItemWords}
 
 -- ---- which words are a stream
-abbrev any : ℕ
-any = 18446744073709551615
-
 abbrev half : ℕ
 half = 65535
 
--- the largest value of each word
-abbrev pub limits : List ℕ
-limits =
-    any ∷ any ∷ any ∷ any ∷ half ∷ any
-    ∷ any ∷ any ∷ any
-    ∷ any ∷ any
-    ∷ 1 ∷ any ∷ half ∷ any
-    ∷ 4294967295 ∷ half ∷ any ∷ any
-    ∷ 1 ∷ any ∷ 255
-    ∷ 1 ∷ 1
-    ∷ 1 ∷ half ∷ half
-    ∷ replicate 32 half
+-- the words that take less than 64 bits, and the largest value of each
+abbrev pub receiverLimits : List (ℕ × ℕ)
+receiverLimits = (0, 4294967295) ∷ (1, half) ∷ (4, 1) ∷ (6, 255) ∷ (7, 1) ∷ (8, 1) ∷ (9, 1) ∷ (10, half) ∷ (11, half) ∷ []
+
+abbrev pub senderLimits : List (ℕ × ℕ)
+senderLimits = (16, half) ∷ (23, 1) ∷ (25, half) ∷ []
+
+unfoldable pub receiverFits : List ℕ → Bool
+receiverFits ws = eqb (length ws) 35 && within receiverLimits ws
+
+unfoldable pub senderFits : List ℕ → Bool
+senderFits ws = eqb (length ws) 35 && within senderLimits ws
 
 unfoldable pub fits : List ℕ → Bool
-fits ws = allWithin limits ws
+fits ws = receiverFits ws && senderFits ws
 
 abbrev at : List ℕ → ℕ → ℕ
 at ws k = getD ws k 0
 
 -- words that fit
-pub record Fits (ws : List ℕ) : Type 0 where
-  pub whole : length ws ≡ 59
-  pub oldest : at ws 4 ≤ half
-  pub step : at ws 13 ≤ half
-  pub size : at ws 15 ≤ 4294967295
-  pub highest : at ws 16 ≤ half
-  pub sent : at ws 21 ≤ 255
-  pub seq : at ws 25 ≤ half
-  pub count : at ws 26 ≤ half
-  pub items : (k : ℕ) → 27 ≤ k → k < 59 → at ws k ≤ half
+pub record ReceiverFit (ws : List ℕ) : Type 0 where
+  pub whole : length ws ≡ 35
+  pub size : at ws 0 ≤ 4294967295
+  pub highest : at ws 1 ≤ half
+  pub sent : at ws 6 ≤ 255
+  pub seq : at ws 10 ≤ half
+  pub count : at ws 11 ≤ half
+
+pub record SenderFit (ws : List ℕ) : Type 0 where
+  pub whole : length ws ≡ 35
+  pub oldest : at ws 16 ≤ half
+  pub step : at ws 25 ≤ half
 
 -- ---- from the words
 
-abbrev pub historyIn : List ℕ → SendHistory
-historyIn ws = record { size = at ws 0; head = at ws 1; used = at ws 2; count = at ws 3; oldest = at ws 4; last = at ws 5 }
-
-abbrev pub itemIn : List ℕ → ℕ → RetransmitRequest
-itemIn ws k = record { seq = at ws k; count = at ws (k + 1) }
-
--- n requests, from word k on
-unfoldable pub itemsIn : List ℕ → ℕ → ℕ → List RetransmitRequest
-itemsIn ws k zero = []
-itemsIn ws k (suc n) = itemIn ws k ∷ itemsIn ws (k + 2) n
-
-unfoldable pub queueIn : List ℕ → RetransmitQueue
-queueIn ws = record { items = itemsIn ws 27 16; head = at ws 6; len = at ws 7; size = at ws 8 }
-
-abbrev pub idleIn : List ℕ → IdleTimer
-idleIn ws = cond (eqb (at ws 11) 0) Off (Waiting record { due = at ws 12; step = at ws 13; interval = at ws 14 })
-
 abbrev pub windowIn : List ℕ → ReceiveWindow
-windowIn ws = record { size = at ws 15; highest = at ws 16; bits = record { low = at ws 17; high = at ws 18 } }
+windowIn ws = record { size = at ws 0; highest = at ws 1; bits = record { low = at ws 2; high = at ws 3 } }
 
 abbrev pub timerIn : List ℕ → Timer
-timerIn ws = cond (eqb (at ws 19) 0) Stopped (Running record { due = at ws 20; sent = at ws 21 })
+timerIn ws = cond (eqb (at ws 4) 0) Stopped (Running record { due = at ws 5; sent = at ws 6 })
 
 abbrev pub askedIn : List ℕ → Asked
-askedIn ws = cond (eqb (at ws 24) 0) Nothing (Request (itemIn ws 25))
-
-unfoldable pub senderIn : List ℕ → Sender
-senderIn ws = record { history = historyIn ws; queue = queueIn ws; unsent = at ws 9; «unsent_words» = at ws 10; idle = idleIn ws }
+askedIn ws = cond (eqb (at ws 9) 0) Nothing (Request record { seq = at ws 10; count = at ws 11 })
 
 unfoldable pub receiverIn : List ℕ → Receiver
 receiverIn ws =
-    record { window = windowIn ws; timer = timerIn ws; «request_due» = eqb (at ws 22) 1; refused = eqb (at ws 23) 1; asked = askedIn ws }
+    record { window = windowIn ws; timer = timerIn ws; «request_due» = eqb (at ws 7) 1; refused = eqb (at ws 8) 1; asked = askedIn ws }
+
+abbrev pub historyIn : List ℕ → SendHistory
+historyIn ws = record { size = at ws 12; head = at ws 13; used = at ws 14; count = at ws 15; oldest = at ws 16; last = at ws 17 }
+
+-- the two requests of a word: 16 bits each for number, count, number, count, the lowest first
+abbrev pub firstIn : ℕ → RetransmitRequest
+firstIn w = record { seq = w % 65536; count = w / 65536 % 65536 }
+
+abbrev pub secondIn : ℕ → RetransmitRequest
+secondIn w = firstIn (w / 4294967296)
+
+-- the requests of n words, from word k on
+unfoldable pub itemsIn : List ℕ → ℕ → ℕ → List RetransmitRequest
+itemsIn ws k zero = []
+itemsIn ws k (suc n) = firstIn (at ws k) ∷ secondIn (at ws k) ∷ itemsIn ws (k + 1) n
+
+unfoldable pub queueIn : List ℕ → RetransmitQueue
+queueIn ws = record { items = itemsIn ws 27 8; head = at ws 18; len = at ws 19; size = at ws 20 }
+
+abbrev pub idleIn : List ℕ → IdleTimer
+idleIn ws = cond (eqb (at ws 23) 0) Off (Waiting record { due = at ws 24; step = at ws 25; interval = at ws 26 })
+
+unfoldable pub senderIn : List ℕ → Sender
+senderIn ws = record { history = historyIn ws; queue = queueIn ws; unsent = at ws 21; «unsent_words» = at ws 22; idle = idleIn ws }
 
 unfoldable pub loaded : List ℕ → DataStream
 loaded ws = record { sender = senderIn ws; receiver = receiverIn ws }
@@ -114,23 +117,16 @@ abbrev pub askedWords : Asked → AskedWords
 askedWords Nothing = record { on = 0; seq = 0; count = 0 }
 askedWords (Request r) = record { on = 1; seq = r .seq; count = r .count }
 
-abbrev pub itemWords : RetransmitRequest → ItemWords
-itemWords r = record { seq = r .seq; count = r .count }
+abbrev pub halfWord : RetransmitRequest → ℕ
+halfWord r = r .seq + r .count * 65536
 
--- n requests, from request k on
-unfoldable pub itemsFrom : List RetransmitRequest → ℕ → ℕ → List ℕ
-itemsFrom rs k zero = []
-itemsFrom rs k (suc n) = getD rs k blank .seq ∷ getD rs k blank .count ∷ itemsFrom rs (k + 1) n
+abbrev pub pairWord : RetransmitRequest → RetransmitRequest → ℕ
+pairWord a b = halfWord a + halfWord b * 4294967296
 
-unfoldable pub senderWords : Sender → List ℕ
-senderWords s =
-    let h = s .history in
-    let q = s .queue in
-    let i = idleWords (s .idle) in
-    h .size ∷ h .head ∷ h .used ∷ h .count ∷ h .oldest ∷ h .last
-    ∷ q .head ∷ q .len ∷ q .size
-    ∷ s .unsent ∷ s .«unsent_words»
-    ∷ i .on ∷ i .due ∷ i .step ∷ i .interval ∷ []
+-- n words of requests, from request k on
+unfoldable pub pairs : List RetransmitRequest → ℕ → ℕ → List ℕ
+pairs rs k zero = []
+pairs rs k (suc n) = pairWord (getD rs k blank) (getD rs (k + 1) blank) ∷ pairs rs (k + 2) n
 
 unfoldable pub receiverWords : Receiver → List ℕ
 receiverWords s =
@@ -142,5 +138,23 @@ receiverWords s =
     ∷ bit (s .«request_due») ∷ bit (s .refused)
     ∷ a .on ∷ a .seq ∷ a .count ∷ []
 
+unfoldable pub senderWords : Sender → List ℕ
+senderWords s =
+    let h = s .history in
+    let q = s .queue in
+    let i = idleWords (s .idle) in
+    h .size ∷ h .head ∷ h .used ∷ h .count ∷ h .oldest ∷ h .last
+    ∷ q .head ∷ q .len ∷ q .size
+    ∷ s .unsent ∷ s .«unsent_words»
+    ∷ i .on ∷ i .due ∷ i .step ∷ i .interval
+    ∷ pairs (q .items) 0 8
+
 unfoldable pub stored : DataStream → List ℕ
-stored d = senderWords (d .sender) ++ receiverWords (d .receiver) ++ itemsFrom (d .sender .queue .items) 0 16
+stored d = receiverWords (d .receiver) ++ senderWords (d .sender)
+
+-- the words after a call of one end: those of the other end stay
+abbrev pub withReceiver : List ℕ → Receiver → List ℕ
+withReceiver ws r = spliced ws 0 (receiverWords r)
+
+abbrev pub withSender : List ℕ → Sender → List ℕ
+withSender ws s = spliced ws 12 (senderWords s)

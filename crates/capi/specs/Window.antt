@@ -1,7 +1,7 @@
 -- 01, "Position, window, loss": a window's size, highest, bits low and high, as four words; 13 for words that are no window's.
 use mathlib.Core.Path.{_≡_}
 use Prim.Native.Nat.{ℕ, _≤_}
-use mathlib.Core.Bool.{Bool, cond}
+use mathlib.Core.Bool.{Bool, cond, _&&_}
 use mathlib.Core.List.{List, [], _∷_}
 use lib.ListN.{length, getD}
 use Rattle.window.specs.Answers.{acceptAnswer, classAnswer, processedAnswer, startAnswer}
@@ -13,7 +13,7 @@ use Rattle.window.specs.declared.window.Changed.{Changed}
 use Rattle.config.specs.Refusals.{numberOf}
 use lib.Dec.{eqb}
 use Rattle.window.specs.declared.window.Extended.{Extended}
-use Rattle.capi.specs.Limits.{allWithin}
+use Rattle.capi.specs.Limits.{within}
 use Rattle.capi.specs.Answers.{acceptanceOf, deliveryRefused, changeNumber, extentOf, spanRefused, classificationOf, knowledgeOf, knownRefused}
 use Rattle.capi.specs.declared.answers.CDelivery.{CDelivery}
 use Rattle.capi.specs.declared.answers.CSpan.{CSpan}
@@ -22,12 +22,12 @@ use Rattle.capi.specs.declared.answers.CKnown.{CKnown}
 abbrev at : List ℕ → ℕ → ℕ
 at ws k = getD ws k 0
 
--- the largest value of each word
-abbrev pub windowLimits : List ℕ
-windowLimits = 4294967295 ∷ 65535 ∷ 18446744073709551615 ∷ 18446744073709551615 ∷ []
+-- the words that take less than 64 bits, and the largest value of each
+abbrev pub windowLimits : List (ℕ × ℕ)
+windowLimits = (0, 4294967295) ∷ (1, 65535) ∷ []
 
 unfoldable pub windowFits : List ℕ → Bool
-windowFits ws = allWithin windowLimits ws
+windowFits ws = eqb (length ws) 4 && within windowLimits ws
 
 -- words that fit
 pub record Narrow (ws : List ℕ) : Type 0 where

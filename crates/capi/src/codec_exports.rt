@@ -35,15 +35,16 @@ pub struct CPlace {
     pub refusal: u8,
 }
 
-// What stands at a place: 0 the end, 1 a command that is cut, 2 a whole command and the next place.
+// What stands at a place: 0 the end, 1 a command that is cut, 2 a whole command and the next place. The
+// four bytes of its header lie as they do in the payload.
 #[repr(C)]
 pub struct CItem {
     pub next: u64,
-    pub kind: u8,
     pub code: u8,
     pub len: u8,
     pub csd1: u8,
     pub csd2: u8,
+    pub kind: u8,
 }
 
 // A command: 0 any other code, 1 data, 2 a request, 3 an error.

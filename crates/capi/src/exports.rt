@@ -1,5 +1,6 @@
 // The calls of a stream whose words the caller lends in `s`. Each tests its words first: 13 for words
-// that are no stream's, for settings that do not fit, and for a payload that is not two words.
+// that are no stream's, for settings that do not fit, and for a payload that is not two words. A call
+// of one end looks at the words of that end alone.
 ghost use mathlib.Core.Path.{_≡_};
 ghost use Rattle.capi.specs.Exports.{newExport, resetExport, sendExport, dataExport, writeExport, requestExport, errorExport, nakExport, pollExport, takeExport, deadlineExport, wantsExport};
 use super::answers;
@@ -69,13 +70,13 @@ pub extern "C" fn sirmjold_stream_send_ump(
 ) -> u8
     ensures { λ r. ⌜ (r, now (s .exit), now (ring .exit)) ≡ sendExport (now (s .entry)) (now (cfg .entry)) (now (ring .entry)) (now (words .entry)) ⌝ }
 {
-    if state::fits(&s[..]) {
+    if state::sender_fits(&s[..]) {
         if settings::fits(cfg) {
-            let before = state::load(&s[..]);
+            let before = state::sender_in(&s[..]);
             let done = before.send_ump(settings::load(cfg), ring, words);
-            let stream = done.stream;
+            let sender = done.sender;
             let answer = done.answer;
-            state::store(stream, s);
+            state::store_sender(sender, s);
             return answers::of_send(answer);
         }
         return 13;
@@ -94,14 +95,14 @@ pub extern "C" fn sirmjold_stream_on_retransmit_request(
 ) -> COutcome
     ensures { λ r. ⌜ (r, now (s .exit)) ≡ requestExport (now (s .entry)) (now (cfg .entry)) (now (ring .entry)) seq count ⌝ }
 {
-    if state::fits(&s[..]) {
+    if state::sender_fits(&s[..]) {
         if settings::fits(cfg) {
-            let before = state::load(&s[..]);
+            let before = state::sender_in(&s[..]);
             let req = RetransmitRequest { seq, count };
             let done = before.on_retransmit_request(settings::load(cfg), ring, req);
-            let stream = done.stream;
+            let sender = done.sender;
             let outcome = done.outcome;
-            state::store(stream, s);
+            state::store_sender(sender, s);
             return answers::of_outcome(outcome);
         }
         return answers::refused_outcome(13);
@@ -119,13 +120,13 @@ pub extern "C" fn sirmjold_stream_on_ump_data(
 ) -> CDelivery
     ensures { λ r. ⌜ (r, now (s .exit)) ≡ dataExport (now (s .entry)) (now (cfg .entry)) time seq ⌝ }
 {
-    if state::fits(&s[..]) {
+    if state::receiver_fits(&s[..]) {
         if settings::fits(cfg) {
-            let before = state::load(&s[..]);
+            let before = state::receiver_in(&s[..]);
             let done = before.on_ump_data(settings::load(cfg), time, UmpData { seq });
-            let stream = done.stream;
+            let receiver = done.receiver;
             let answer = done.answer;
-            state::store(stream, s);
+            state::store_receiver(receiver, s);
             return answers::of_hearing(answer);
         }
         return answers::refused_delivery(13);
@@ -138,12 +139,12 @@ pub extern "C" fn sirmjold_stream_on_ump_data(
 pub extern "C" fn sirmjold_stream_on_retransmit_error(s: &mut [u64], reason: u8, seq: u16) -> CEvent
     ensures { λ r. ⌜ (r, now (s .exit)) ≡ errorExport (now (s .entry)) reason seq ⌝ }
 {
-    if state::fits(&s[..]) {
-        let before = state::load(&s[..]);
+    if state::receiver_fits(&s[..]) {
+        let before = state::receiver_in(&s[..]);
         let done = before.on_retransmit_error(RetransmitError { reason, seq });
-        let stream = done.stream;
+        let receiver = done.receiver;
         let event = done.event;
-        state::store(stream, s);
+        state::store_receiver(receiver, s);
         return answers::of_event(event);
     }
     answers::refused_event(13)
@@ -154,12 +155,12 @@ pub extern "C" fn sirmjold_stream_on_retransmit_error(s: &mut [u64], reason: u8,
 pub extern "C" fn sirmjold_stream_on_retransmit_nak(s: &mut [u64]) -> CEvent
     ensures { λ r. ⌜ (r, now (s .exit)) ≡ nakExport (now (s .entry)) ⌝ }
 {
-    if state::fits(&s[..]) {
-        let before = state::load(&s[..]);
+    if state::receiver_fits(&s[..]) {
+        let before = state::receiver_in(&s[..]);
         let done = before.on_retransmit_nak();
-        let stream = done.stream;
+        let receiver = done.receiver;
         let event = done.event;
-        state::store(stream, s);
+        state::store_receiver(receiver, s);
         return answers::of_event(event);
     }
     answers::refused_event(13)
@@ -170,13 +171,13 @@ pub extern "C" fn sirmjold_stream_on_retransmit_nak(s: &mut [u64]) -> CEvent
 pub extern "C" fn sirmjold_stream_poll(s: &mut [u64], cfg: &[u32], time: u64) -> CEvent
     ensures { λ r. ⌜ (r, now (s .exit)) ≡ pollExport (now (s .entry)) (now (cfg .entry)) time ⌝ }
 {
-    if state::fits(&s[..]) {
+    if state::receiver_fits(&s[..]) {
         if settings::fits(cfg) {
-            let before = state::load(&s[..]);
+            let before = state::receiver_in(&s[..]);
             let done = before.poll(settings::load(cfg), time);
-            let stream = done.stream;
+            let receiver = done.receiver;
             let event = done.event;
-            state::store(stream, s);
+            state::store_receiver(receiver, s);
             return answers::of_event(event);
         }
         return answers::refused_event(13);
@@ -194,15 +195,15 @@ pub extern "C" fn sirmjold_stream_write_request(
 ) -> CRequest
     ensures { λ r. ⌜ (r, now (s .exit), now (p .exit), now (buf .exit)) ≡ takeExport (now (s .entry)) (now (cfg .entry)) (now (p .entry)) (now (buf .entry)) ⌝ }
 {
-    if state::fits(&s[..]) {
+    if state::receiver_fits(&s[..]) {
         if settings::fits(cfg) {
             if p.len() == 2 {
-                let before = state::load(&s[..]);
+                let before = state::receiver_in(&s[..]);
                 let done = before.write_request(settings::load(cfg), payload::load(&p[..]), buf);
-                let stream = done.stream;
+                let receiver = done.receiver;
                 let written = done.payload;
                 let answer = done.answer;
-                state::store(stream, s);
+                state::store_receiver(receiver, s);
                 payload::store(written, p);
                 return answers::of_request(answer);
             }

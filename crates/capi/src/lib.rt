@@ -8,14 +8,14 @@
 // what that leaves is stored. No function asks anything of its caller but pointers to arrays that do
 // not overlap: words that no state has are refused as 13, and nothing is changed.
 //
-//   state, settings, payload   the words of a stream (59), of the settings (8), of a payload (2)
-//   limits                     words and the largest values that their places take
+//   state, settings, payload   the words of a stream (35), of the settings (8), of a payload (2)
+//   lent                       storing words
 //   answers                    answers as numbers, of at most 16 bytes
 //   theorems                   a stream that is stored and loaded is the same
 pub mod answers;
 pub mod codec_exports;
 pub mod exports;
-pub mod limits;
+pub mod lent;
 pub mod payload;
 pub mod settings;
 pub mod state;

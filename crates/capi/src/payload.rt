@@ -2,6 +2,7 @@
 ghost use mathlib.Core.Path.{_≡_};
 ghost use lib.ListN.{length};
 ghost use Rattle.capi.specs.Payload.{payloadIn, payloadWords};
+use super::lent::put;
 use packet::writer::PayloadWriter;
 
 // The payload.
@@ -21,5 +22,5 @@ pub fn store(p: PayloadWriter, words: &mut [u64])
     ensures { λ _. ⌜ now (words .exit) ≡ payloadWords p ⌝ }
 {
     let new = [p.len as u64, p.max as u64];
-    super::limits::copy(&new, words);
+    put(&new, words, 0);
 }

@@ -1,21 +1,24 @@
-// A stream as words in an array that the caller lends: one word for each field.
+// A stream as words in an array that the caller lends: one word for each field, and two requests to a
+// word.
 //
-//    0   history    size, head, used, count, oldest, last
-//    6   queue      head, len, size
-//    9   sender     unsent, unsent_words
-//   11   idle       0 off or 1 waiting; due, step, interval
-//   15   window     size, highest, bits low, bits high
-//   19   timer      0 stopped or 1 running; due, sent
-//   22   receiver   request_due, refused
-//   24   asked      0 nothing or 1 a request; its number, its count
-//   27   items      the 16 requests of the queue: number, count
+//    0   window     size, highest, bits low, bits high
+//    4   timer      0 stopped or 1 running; due, sent
+//    7   receiver   request_due, refused
+//    9   asked      0 nothing or 1 a request; its number, its count
+//   12   history    size, head, used, count, oldest, last
+//   18   queue      head, len, size
+//   21   sender     unsent, unsent_words
+//   23   idle       0 off or 1 waiting; due, step, interval
+//   27   items      the 16 requests of the queue: number, count, number, count in 16 bits each, the
+//                   lowest first
+//
+// The receiver's words are 0 to 11, the sender's 12 to 34: a call of one end leaves those of the other.
 ghost use mathlib.Core.Path.{_≡_};
 ghost use mathlib.Core.Bool.{true};
+ghost use Prim.Native.Nat.{_<_};
 ghost use lib.ListN.{length};
-ghost use Prim.Native.Nat.{_≤_, _<_};
-ghost use Rattle.capi.specs.Stream.{fits as fitsOf, Fits, loaded, stored, historyIn, queueIn, itemIn, idleIn, windowIn, timerIn, askedIn, senderIn, receiverIn, idleWords, timerWords, askedWords, itemWords};
-use super::limits::all_within;
-use super::limits::copy;
+ghost use Rattle.capi.specs.Stream.{receiverFits, senderFits, fits as fitsOf, ReceiverFit, SenderFit, loaded, stored, historyIn, firstIn, secondIn, queueIn, idleIn, windowIn, timerIn, askedIn, senderIn, receiverIn, idleWords, timerWords, askedWords, halfWord, pairWord, withReceiver, withSender};
+use super::lent::put;
 use command::retransmit::RetransmitRequest;
 use history::history::SendHistory;
 use history::queue::RetransmitQueue;
@@ -31,217 +34,212 @@ use window::set::Bits;
 use window::window::ReceiveWindow;
 
 // The words of a stream.
-pub const WORDS: usize = 59;
+pub const WORDS: usize = 35;
 
-// The largest value of each word.
-const LIMITS: [u64; 59] = [
-    u64::MAX,
-    u64::MAX,
-    u64::MAX,
-    u64::MAX,
-    0xFFFF,
-    u64::MAX,
-    u64::MAX,
-    u64::MAX,
-    u64::MAX,
-    u64::MAX,
-    u64::MAX,
-    1,
-    u64::MAX,
-    0xFFFF,
-    u64::MAX,
-    0xFFFF_FFFF,
-    0xFFFF,
-    u64::MAX,
-    u64::MAX,
-    1,
-    u64::MAX,
-    0xFF,
-    1,
-    1,
-    1,
-    0xFFFF,
-    0xFFFF,
-    0xFFFF,
-    0xFFFF,
-    0xFFFF,
-    0xFFFF,
-    0xFFFF,
-    0xFFFF,
-    0xFFFF,
-    0xFFFF,
-    0xFFFF,
-    0xFFFF,
-    0xFFFF,
-    0xFFFF,
-    0xFFFF,
-    0xFFFF,
-    0xFFFF,
-    0xFFFF,
-    0xFFFF,
-    0xFFFF,
-    0xFFFF,
-    0xFFFF,
-    0xFFFF,
-    0xFFFF,
-    0xFFFF,
-    0xFFFF,
-    0xFFFF,
-    0xFFFF,
-    0xFFFF,
-    0xFFFF,
-    0xFFFF,
-    0xFFFF,
-    0xFFFF,
-    0xFFFF,
-];
+// Whether the words are as many as a stream's, and each of the receiver's is within its field.
+pub fn receiver_fits(words: &[u64]) -> bool
+    ensures { λ r. ⌜ r ≡ receiverFits (now (words .entry)) ⌝ }
+{
+    if words.len() != WORDS {
+        return false;
+    }
+    if 0xFFFF_FFFF < words[0] {
+        return false;
+    }
+    if 0xFFFF < words[1] {
+        return false;
+    }
+    if 1 < words[4] {
+        return false;
+    }
+    if 0xFF < words[6] {
+        return false;
+    }
+    if 1 < words[7] {
+        return false;
+    }
+    if 1 < words[8] {
+        return false;
+    }
+    if 1 < words[9] {
+        return false;
+    }
+    if 0xFFFF < words[10] {
+        return false;
+    }
+    words[11] <= 0xFFFF
+}
 
-// Whether the words are those of a stream: as many as it has, each within its field.
+// Whether the words are as many as a stream's, and each of the sender's is within its field.
+pub fn sender_fits(words: &[u64]) -> bool
+    ensures { λ r. ⌜ r ≡ senderFits (now (words .entry)) ⌝ }
+{
+    if words.len() != WORDS {
+        return false;
+    }
+    if 0xFFFF < words[16] {
+        return false;
+    }
+    if 1 < words[23] {
+        return false;
+    }
+    words[25] <= 0xFFFF
+}
+
+// Whether the words are those of a stream.
 pub fn fits(words: &[u64]) -> bool
     ensures { λ r. ⌜ r ≡ fitsOf (now (words .entry)) ⌝ }
 {
-    let limits = LIMITS;
-    all_within(&limits, words)
+    if receiver_fits(words) {
+        return sender_fits(words);
+    }
+    false
 }
 
 // The history.
 fn history_in(words: &[u64]) -> SendHistory
-    requires { ⌜ Fits (now words) ⌝ }
+    requires { ⌜ SenderFit (now words) ⌝ }
     ensures { λ r. ⌜ r ≡ historyIn (now (words .entry)) ⌝ }
 {
     SendHistory {
-        size: words[0] as usize,
-        head: words[1] as usize,
-        used: words[2] as usize,
-        count: words[3] as usize,
-        oldest: words[4] as u16,
-        last: words[5] as usize,
+        size: words[12] as usize,
+        head: words[13] as usize,
+        used: words[14] as usize,
+        count: words[15] as usize,
+        oldest: words[16] as u16,
+        last: words[17] as usize,
     }
 }
 
-// A request of the queue, from the word `at` on.
-fn item_in(words: &[u64], at: usize) -> RetransmitRequest
-    requires { ⌜ Fits (now words) × (27 ≤ at) × (at < 58) ⌝ }
-    ensures { λ r. ⌜ r ≡ itemIn (now (words .entry)) at ⌝ }
+// The first request of a word.
+fn first_in(word: u64) -> RetransmitRequest
+    ensures { λ r. ⌜ r ≡ firstIn word ⌝ }
 {
     RetransmitRequest {
-        seq: words[at] as u16,
-        count: words[at + 1] as u16,
+        seq: (word % 0x1_0000) as u16,
+        count: (word / 0x1_0000 % 0x1_0000) as u16,
     }
+}
+
+// The second request of a word.
+fn second_in(word: u64) -> RetransmitRequest
+    ensures { λ r. ⌜ r ≡ secondIn word ⌝ }
+{
+    first_in(word / 0x1_0000_0000)
 }
 
 // The queue.
 fn queue_in(words: &[u64]) -> RetransmitQueue
-    requires { ⌜ Fits (now words) ⌝ }
+    requires { ⌜ SenderFit (now words) ⌝ }
     ensures { λ r. ⌜ r ≡ queueIn (now (words .entry)) ⌝ }
 {
     RetransmitQueue {
         items: [
-            item_in(words, 27),
-            item_in(words, 29),
-            item_in(words, 31),
-            item_in(words, 33),
-            item_in(words, 35),
-            item_in(words, 37),
-            item_in(words, 39),
-            item_in(words, 41),
-            item_in(words, 43),
-            item_in(words, 45),
-            item_in(words, 47),
-            item_in(words, 49),
-            item_in(words, 51),
-            item_in(words, 53),
-            item_in(words, 55),
-            item_in(words, 57),
+            first_in(words[27]),
+            second_in(words[27]),
+            first_in(words[28]),
+            second_in(words[28]),
+            first_in(words[29]),
+            second_in(words[29]),
+            first_in(words[30]),
+            second_in(words[30]),
+            first_in(words[31]),
+            second_in(words[31]),
+            first_in(words[32]),
+            second_in(words[32]),
+            first_in(words[33]),
+            second_in(words[33]),
+            first_in(words[34]),
+            second_in(words[34]),
         ],
-        head: words[6] as usize,
-        len: words[7] as usize,
-        size: words[8] as usize,
+        head: words[18] as usize,
+        len: words[19] as usize,
+        size: words[20] as usize,
     }
 }
 
 // The idle timer.
 fn idle_in(words: &[u64]) -> IdleTimer
-    requires { ⌜ Fits (now words) ⌝ }
+    requires { ⌜ SenderFit (now words) ⌝ }
     ensures { λ r. ⌜ r ≡ idleIn (now (words .entry)) ⌝ }
 {
-    if words[11] == 0 {
+    if words[23] == 0 {
         return IdleTimer::Off;
     }
     IdleTimer::Waiting(Idle {
-        due: words[12],
-        step: words[13] as u16,
-        interval: words[14],
+        due: words[24],
+        step: words[25] as u16,
+        interval: words[26],
     })
 }
 
 // The window.
 fn window_in(words: &[u64]) -> ReceiveWindow
-    requires { ⌜ Fits (now words) ⌝ }
+    requires { ⌜ ReceiverFit (now words) ⌝ }
     ensures { λ r. ⌜ r ≡ windowIn (now (words .entry)) ⌝ }
 {
     ReceiveWindow {
-        size: words[15] as u32,
-        highest: words[16] as u16,
+        size: words[0] as u32,
+        highest: words[1] as u16,
         bits: Bits {
-            low: words[17],
-            high: words[18],
+            low: words[2],
+            high: words[3],
         },
     }
 }
 
 // The request timer.
 fn timer_in(words: &[u64]) -> Timer
-    requires { ⌜ Fits (now words) ⌝ }
+    requires { ⌜ ReceiverFit (now words) ⌝ }
     ensures { λ r. ⌜ r ≡ timerIn (now (words .entry)) ⌝ }
 {
-    if words[19] == 0 {
+    if words[4] == 0 {
         return Timer::Stopped;
     }
     Timer::Running(RequestTimer {
-        due: words[20],
-        sent: words[21] as u8,
+        due: words[5],
+        sent: words[6] as u8,
     })
 }
 
 // The request that has no answer yet.
 fn asked_in(words: &[u64]) -> Asked
-    requires { ⌜ Fits (now words) ⌝ }
+    requires { ⌜ ReceiverFit (now words) ⌝ }
     ensures { λ r. ⌜ r ≡ askedIn (now (words .entry)) ⌝ }
 {
-    if words[24] == 0 {
+    if words[9] == 0 {
         return Asked::Nothing;
     }
     Asked::Request(RetransmitRequest {
-        seq: words[25] as u16,
-        count: words[26] as u16,
+        seq: words[10] as u16,
+        count: words[11] as u16,
     })
 }
 
 // The sender.
-fn sender_in(words: &[u64]) -> Sender
-    requires { ⌜ Fits (now words) ⌝ }
+pub fn sender_in(words: &[u64]) -> Sender
+    requires { ⌜ SenderFit (now words) ⌝ }
     ensures { λ r. ⌜ r ≡ senderIn (now (words .entry)) ⌝ }
 {
     Sender {
         history: history_in(words),
         queue: queue_in(words),
-        unsent: words[9] as usize,
-        unsent_words: words[10] as usize,
+        unsent: words[21] as usize,
+        unsent_words: words[22] as usize,
         idle: idle_in(words),
     }
 }
 
 // The receiver.
-fn receiver_in(words: &[u64]) -> Receiver
-    requires { ⌜ Fits (now words) ⌝ }
+pub fn receiver_in(words: &[u64]) -> Receiver
+    requires { ⌜ ReceiverFit (now words) ⌝ }
     ensures { λ r. ⌜ r ≡ receiverIn (now (words .entry)) ⌝ }
 {
     Receiver {
         window: window_in(words),
         timer: timer_in(words),
-        request_due: words[22] == 1,
-        refused: words[23] == 1,
+        request_due: words[7] == 1,
+        refused: words[8] == 1,
         asked: asked_in(words),
     }
 }
@@ -332,55 +330,59 @@ fn asked_words(asked: Asked) -> AskedWords
     }
 }
 
-// The words of a request of the queue.
-struct ItemWords {
-    seq: u64,
-    count: u64,
+// A request in the lower half of a word.
+fn half(item: RetransmitRequest) -> u64
+    ensures { λ r. ⌜ (r ≡ halfWord item) × (r < 0x1_0000_0000) ⌝ }
+{
+    (item.seq as u64) + (item.count as u64) * 0x1_0000
 }
 
-fn item_words(item: RetransmitRequest) -> ItemWords
-    ensures { λ r. ⌜ r ≡ itemWords item ⌝ }
+// Two requests in a word.
+fn pair(first: RetransmitRequest, second: RetransmitRequest) -> u64
+    ensures { λ r. ⌜ r ≡ pairWord first second ⌝ }
 {
-    ItemWords {
-        seq: item.seq as u64,
-        count: item.count as u64,
-    }
+    half(first) + half(second) * 0x1_0000_0000
 }
 
-// The words of a stream, in order.
-fn words_of(s: DataStream) -> [u64; 59]
-    ensures { λ r. ⌜ r ≡ stored s ⌝ }
+// Stores the receiver into its words.
+pub fn store_receiver(receiver: Receiver, words: &mut [u64])
+    requires { ⌜ length (now words) ≡ 35 ⌝ }
+    ensures { λ _. ⌜ now (words .exit) ≡ withReceiver (now (words .entry)) receiver ⌝ }
 {
-    let sender = s.sender;
-    let history = sender.history;
-    let queue = sender.queue;
-    let receiver = s.receiver;
     let window = receiver.window;
     let bits = window.bits;
-    let idle_timer = sender.idle;
-    let idle = idle_words(idle_timer);
     let request_timer = receiver.timer;
     let timer = timer_words(request_timer);
     let request = receiver.asked;
     let asked = asked_words(request);
+    let new = [
+        window.size as u64,
+        window.highest as u64,
+        bits.low,
+        bits.high,
+        timer.on,
+        timer.due,
+        timer.sent,
+        receiver.request_due as u64,
+        receiver.refused as u64,
+        asked.on,
+        asked.seq,
+        asked.count,
+    ];
+    put(&new, words, 0);
+}
+
+// Stores the sender into its words.
+pub fn store_sender(sender: Sender, words: &mut [u64])
+    requires { ⌜ length (now words) ≡ 35 ⌝ }
+    ensures { λ _. ⌜ now (words .exit) ≡ withSender (now (words .entry)) sender ⌝ }
+{
+    let history = sender.history;
+    let queue = sender.queue;
+    let idle_timer = sender.idle;
+    let idle = idle_words(idle_timer);
     let items = queue.items;
-    let item0 = item_words(items[0]);
-    let item1 = item_words(items[1]);
-    let item2 = item_words(items[2]);
-    let item3 = item_words(items[3]);
-    let item4 = item_words(items[4]);
-    let item5 = item_words(items[5]);
-    let item6 = item_words(items[6]);
-    let item7 = item_words(items[7]);
-    let item8 = item_words(items[8]);
-    let item9 = item_words(items[9]);
-    let item10 = item_words(items[10]);
-    let item11 = item_words(items[11]);
-    let item12 = item_words(items[12]);
-    let item13 = item_words(items[13]);
-    let item14 = item_words(items[14]);
-    let item15 = item_words(items[15]);
-    [
+    let new = [
         history.size as u64,
         history.head as u64,
         history.used as u64,
@@ -396,58 +398,25 @@ fn words_of(s: DataStream) -> [u64; 59]
         idle.due,
         idle.step,
         idle.interval,
-        window.size as u64,
-        window.highest as u64,
-        bits.low,
-        bits.high,
-        timer.on,
-        timer.due,
-        timer.sent,
-        receiver.request_due as u64,
-        receiver.refused as u64,
-        asked.on,
-        asked.seq,
-        asked.count,
-        item0.seq,
-        item0.count,
-        item1.seq,
-        item1.count,
-        item2.seq,
-        item2.count,
-        item3.seq,
-        item3.count,
-        item4.seq,
-        item4.count,
-        item5.seq,
-        item5.count,
-        item6.seq,
-        item6.count,
-        item7.seq,
-        item7.count,
-        item8.seq,
-        item8.count,
-        item9.seq,
-        item9.count,
-        item10.seq,
-        item10.count,
-        item11.seq,
-        item11.count,
-        item12.seq,
-        item12.count,
-        item13.seq,
-        item13.count,
-        item14.seq,
-        item14.count,
-        item15.seq,
-        item15.count,
-    ]
+        pair(items[0], items[1]),
+        pair(items[2], items[3]),
+        pair(items[4], items[5]),
+        pair(items[6], items[7]),
+        pair(items[8], items[9]),
+        pair(items[10], items[11]),
+        pair(items[12], items[13]),
+        pair(items[14], items[15]),
+    ];
+    put(&new, words, 12);
 }
 
 // Stores the stream into the words.
 pub fn store(s: DataStream, words: &mut [u64])
-    requires { ⌜ length (now words) ≡ 59 ⌝ }
+    requires { ⌜ length (now words) ≡ 35 ⌝ }
     ensures { λ _. ⌜ now (words .exit) ≡ stored s ⌝ }
 {
-    let new = words_of(s);
-    copy(&new, words);
+    let sender = s.sender;
+    let receiver = s.receiver;
+    store_receiver(receiver, words);
+    store_sender(sender, words);
 }

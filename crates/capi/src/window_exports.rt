@@ -9,8 +9,7 @@ use super::answers;
 use super::answers::CDelivery;
 use super::answers::CKnown;
 use super::answers::CSpan;
-use super::limits::all_within;
-use super::limits::copy;
+use super::lent::put;
 use window::set::Bits;
 use window::window::ReceiveWindow;
 use window::window::SeqRange;
@@ -21,8 +20,13 @@ use window::window::Started;
 pub fn fits(words: &[u64]) -> bool
     ensures { λ r. ⌜ r ≡ windowFits (now (words .entry)) ⌝ }
 {
-    let limits = [0xFFFF_FFFF, 0xFFFF, u64::MAX, u64::MAX];
-    all_within(&limits, words)
+    if words.len() != 4 {
+        return false;
+    }
+    if 0xFFFF_FFFF < words[0] {
+        return false;
+    }
+    words[1] <= 0xFFFF
 }
 
 fn known(words: &[u64]) -> ReceiveWindow
@@ -59,7 +63,7 @@ pub fn store(window: ReceiveWindow, words: &mut [u64])
         bits.low,
         bits.high,
     ];
-    copy(&new, words);
+    put(&new, words, 0);
 }
 
 // Stores a window that was started.

@@ -1,22 +1,22 @@
--- The words are loaded, the call is made, and the words are stored.
-use Rattle.capi.proofs.Calls.{nak-done, nak-state}
-use Rattle.capi.proofs.Words.{fits-known}
-use borrow.Author.Needs.{needs}
+-- The words are loaded, the call is made, and the words of its end are stored.
 use mathlib.Core.Path.{sym, _∙_}
+use Rattle.capi.proofs.Calls.{nak-done, nak-state}
+use Rattle.capi.proofs.Words.{receiver-known}
+use borrow.Author.Needs.{needs}
 use Rattle.capi.proofs.exports.sirmjold_stream_on_retransmit_nak.Statement.{statement}
 use Rattle.capi.proofs.exports.sirmjold_stream_on_retransmit_nak.Tie as tie
 
-fits-requires : tie.Need-fits-requires
-fits-requires c κs = search needs
+receiver-fits-requires : tie.Need-receiver-fits-requires
+receiver-fits-requires c κs = search needs
 
-load-requires : tie.Need-load-requires
-load-requires c κs = (sym (c .before .before .fits2 .ensures) ∙ c .before .if1 .taken)
+receiver-in-requires : tie.Need-receiver-in-requires
+receiver-in-requires c κs = receiver-known _ (sym (c .before .before .receiver-fits .ensures) ∙ c .before .if1 .taken)
 
 on-retransmit-nak-requires : tie.Need-on-retransmit-nak-requires
 on-retransmit-nak-requires c κs = search needs
 
-store-requires : tie.Need-store-requires
-store-requires c κs = (fits-known _ (sym (c .before .before .before .before .before .before .fits2 .ensures) ∙ c .before .before .before .before .before .if1 .taken)) .whole
+store-receiver-requires : tie.Need-store-receiver-requires
+store-receiver-requires c κs = (receiver-known _ (sym (c .before .before .before .before .before .before .receiver-fits .ensures) ∙ c .before .before .before .before .before .if1 .taken)) .whole
 
 of-event-requires : tie.Need-of-event-requires
 of-event-requires c κs = search needs
@@ -26,7 +26,7 @@ same-length c = search needs
 
 returns : tie.Need-returns
 returns c =
-    nak-done _ (sym (c .before .before .before .before .before .before .before .before .before .before .fits2 .ensures) ∙ c .before .before .before .before .before .before .before .before .before .if1 .taken) _ (c .before .before .before .before .before .before .before .load .ensures) _ (c .before .before .before .before .before .before .on-retransmit-nak .ensures) _ (c .before .before .before .store .ensures) _ (c .of-event .ensures)
+    nak-done _ (sym (c .before .before .before .before .before .before .before .before .before .before .receiver-fits .ensures) ∙ c .before .before .before .before .before .before .before .before .before .if1 .taken) _ (c .before .before .before .before .before .before .before .receiver-in .ensures) _ (c .before .before .before .before .before .before .on-retransmit-nak .ensures) _ (c .before .before .before .store-receiver .ensures) _ (c .of-event .ensures)
 
 refused-event-requires : tie.Need-refused-event-requires
 refused-event-requires c κs = search needs
@@ -35,16 +35,17 @@ same-length-2 : tie.Need-same-length-2
 same-length-2 c = search needs
 
 returns-2 : tie.Need-returns-2
-returns-2 c = nak-state _ (sym (c .before .before .fits2 .ensures) ∙ c .before .if1 .left) _ (c .refused-event .ensures)
+returns-2 c =
+    nak-state _ (sym (c .before .before .receiver-fits .ensures) ∙ c .before .if1 .left) _ (c .refused-event .ensures)
 
 pub sirmjold-stream-on-retransmit-nak-spec : {M : Type 1} → statement M
 sirmjold-stream-on-retransmit-nak-spec =
     tie.close
     (tie.spec
-    fits-requires
-    load-requires
+    receiver-fits-requires
+    receiver-in-requires
     on-retransmit-nak-requires
-    store-requires
+    store-receiver-requires
     of-event-requires
     same-length
     returns

@@ -1,28 +1,28 @@
--- The words are loaded, the call is made, and the words are stored.
-use Rattle.capi.proofs.Calls.{poll-done, poll-settings, poll-state}
-use Rattle.capi.proofs.Words.{fits-known}
-use borrow.Author.Needs.{needs}
+-- The words are loaded, the call is made, and the words of its end are stored.
 use mathlib.Core.Path.{sym, _∙_}
+use Rattle.capi.proofs.Calls.{poll-done, poll-settings, poll-state}
+use Rattle.capi.proofs.Words.{receiver-known}
+use borrow.Author.Needs.{needs}
 use Rattle.capi.proofs.exports.sirmjold_stream_poll.Statement.{statement}
 use Rattle.capi.proofs.exports.sirmjold_stream_poll.Tie as tie
+
+receiver-fits-requires : tie.Need-receiver-fits-requires
+receiver-fits-requires c κs = search needs
 
 fits-requires : tie.Need-fits-requires
 fits-requires c κs = search needs
 
-fits-requires-2 : tie.Need-fits-requires-2
-fits-requires-2 c κs = search needs
+receiver-in-requires : tie.Need-receiver-in-requires
+receiver-in-requires c κs = receiver-known _ (sym (c .before .before .before .before .receiver-fits .ensures) ∙ c .before .before .before .if1 .taken)
 
 load-requires : tie.Need-load-requires
-load-requires c κs = (sym (c .before .before .before .before .fits2 .ensures) ∙ c .before .before .before .if1 .taken)
-
-load-requires-2 : tie.Need-load-requires-2
-load-requires-2 c κs = (sym (c .before .before .before .fits3 .ensures) ∙ c .before .before .if2 .taken)
+load-requires c κs = (sym (c .before .before .before .fits2 .ensures) ∙ c .before .before .if2 .taken)
 
 poll-requires : tie.Need-poll-requires
 poll-requires c κs = search needs
 
-store-requires : tie.Need-store-requires
-store-requires c κs = (fits-known _ (sym (c .before .before .before .before .before .before .before .before .before .fits2 .ensures) ∙ c .before .before .before .before .before .before .before .before .if1 .taken)) .whole
+store-receiver-requires : tie.Need-store-receiver-requires
+store-receiver-requires c κs = (receiver-known _ (sym (c .before .before .before .before .before .before .before .before .before .receiver-fits .ensures) ∙ c .before .before .before .before .before .before .before .before .if1 .taken)) .whole
 
 of-event-requires : tie.Need-of-event-requires
 of-event-requires c κs = search needs
@@ -32,7 +32,7 @@ same-length c = search needs
 
 returns : tie.Need-returns
 returns c =
-    poll-done _ _ _ (sym (c .before .before .before .before .before .before .before .before .before .before .before .before .before .fits2 .ensures) ∙ c .before .before .before .before .before .before .before .before .before .before .before .before .if1 .taken) (sym (c .before .before .before .before .before .before .before .before .before .before .before .fits3 .ensures) ∙ c .before .before .before .before .before .before .before .before .before .before .if2 .taken) _ _ (c .before .before .before .before .before .before .before .before .load .ensures) (c .before .before .before .before .before .before .before .load2 .ensures) _ (c .before .before .before .before .before .before .poll .ensures) _ (c .before .before .before .store .ensures) _ (c .of-event .ensures)
+    poll-done _ _ _ (sym (c .before .before .before .before .before .before .before .before .before .before .before .before .before .receiver-fits .ensures) ∙ c .before .before .before .before .before .before .before .before .before .before .before .before .if1 .taken) (sym (c .before .before .before .before .before .before .before .before .before .before .before .fits2 .ensures) ∙ c .before .before .before .before .before .before .before .before .before .before .if2 .taken) _ _ (c .before .before .before .before .before .before .before .before .receiver-in .ensures) (c .before .before .before .before .before .before .before .load .ensures) _ (c .before .before .before .before .before .before .poll .ensures) _ (c .before .before .before .store-receiver .ensures) _ (c .of-event .ensures)
 
 refused-event-requires : tie.Need-refused-event-requires
 refused-event-requires c κs = search needs
@@ -41,7 +41,8 @@ same-length-2 : tie.Need-same-length-2
 same-length-2 c = search needs
 
 returns-2 : tie.Need-returns-2
-returns-2 c = poll-settings _ _ _ _ (c .refused-event .ensures) (sym (c .before .before .before .before .fits2 .ensures) ∙ c .before .before .before .if1 .taken) (sym (c .before .before .fits3 .ensures) ∙ c .before .if2 .left)
+returns-2 c =
+    poll-settings _ _ _ _ (c .refused-event .ensures) (sym (c .before .before .before .before .receiver-fits .ensures) ∙ c .before .before .before .if1 .taken) (sym (c .before .before .fits2 .ensures) ∙ c .before .if2 .left)
 
 refused-event-requires-2 : tie.Need-refused-event-requires-2
 refused-event-requires-2 c κs = search needs
@@ -50,18 +51,19 @@ same-length-3 : tie.Need-same-length-3
 same-length-3 c = search needs
 
 returns-3 : tie.Need-returns-3
-returns-3 c = poll-state _ _ _ _ (c .refused-event2 .ensures) (sym (c .before .before .fits2 .ensures) ∙ c .before .if1 .left)
+returns-3 c =
+    poll-state _ _ _ _ (c .refused-event2 .ensures) (sym (c .before .before .receiver-fits .ensures) ∙ c .before .if1 .left)
 
 pub sirmjold-stream-poll-spec : {M : Type 1} → statement M
 sirmjold-stream-poll-spec =
     tie.close
     (tie.spec
+    receiver-fits-requires
     fits-requires
-    fits-requires-2
+    receiver-in-requires
     load-requires
-    load-requires-2
     poll-requires
-    store-requires
+    store-receiver-requires
     of-event-requires
     same-length
     returns

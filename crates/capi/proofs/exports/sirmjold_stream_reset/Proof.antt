@@ -1,6 +1,6 @@
 -- The words are loaded, the call is made, and the words are stored.
 use Rattle.capi.proofs.Calls.{reset-done, reset-state}
-use Rattle.capi.proofs.Words.{fits-known}
+use Rattle.capi.proofs.Words.{both-fit, sender-known}
 use borrow.Author.Needs.{needs}
 use mathlib.Core.Path.{sym, _∙_}
 use Rattle.capi.proofs.exports.sirmjold_stream_reset.Statement.{statement}
@@ -16,7 +16,7 @@ reset-requires : tie.Need-reset-requires
 reset-requires c κs = search needs
 
 store-requires : tie.Need-store-requires
-store-requires c κs = (fits-known _ (sym (c .before .before .before .before .before .before .before .before .before .fits2 .ensures) ∙ c .before .before .before .before .before .before .before .before .if1 .taken)) .whole
+store-requires c κs = (sender-known _ (both-fit _ (sym (c .before .before .before .before .before .before .before .before .before .fits2 .ensures) ∙ c .before .before .before .before .before .before .before .before .if1 .taken) .1)) .whole
 
 of-reset-requires : tie.Need-of-reset-requires
 of-reset-requires c κs = search needs

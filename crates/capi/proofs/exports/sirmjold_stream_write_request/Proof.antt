@@ -1,34 +1,34 @@
--- The words are loaded, the call is made, and the words are stored.
-use Rattle.capi.proofs.Calls.{take-done, take-payload, take-settings, take-state}
-use Rattle.capi.proofs.Words.{fits-known}
-use borrow.Author.Needs.{needs}
+-- The words are loaded, the call is made, and the words of its end are stored.
 use mathlib.Core.Path.{sym, _∙_}
+use Rattle.capi.proofs.Calls.{take-done, take-payload, take-settings, take-state}
+use Rattle.capi.proofs.Words.{receiver-known}
+use borrow.Author.Needs.{needs}
 use Rattle.capi.proofs.exports.sirmjold_stream_write_request.Statement.{statement}
 use Rattle.capi.proofs.exports.sirmjold_stream_write_request.Tie as tie
+
+receiver-fits-requires : tie.Need-receiver-fits-requires
+receiver-fits-requires c κs = search needs
 
 fits-requires : tie.Need-fits-requires
 fits-requires c κs = search needs
 
-fits-requires-2 : tie.Need-fits-requires-2
-fits-requires-2 c κs = search needs
+receiver-in-requires : tie.Need-receiver-in-requires
+receiver-in-requires c κs = receiver-known _ (sym (c .before .before .before .before .before .receiver-fits .ensures) ∙ c .before .before .before .before .if1 .taken)
 
 load-requires : tie.Need-load-requires
-load-requires c κs = (sym (c .before .before .before .before .before .fits2 .ensures) ∙ c .before .before .before .before .if1 .taken)
+load-requires c κs = (sym (c .before .before .before .before .fits2 .ensures) ∙ c .before .before .before .if2 .taken)
 
 load-requires-2 : tie.Need-load-requires-2
-load-requires-2 c κs = (sym (c .before .before .before .before .fits3 .ensures) ∙ c .before .before .before .if2 .taken)
-
-load-requires-3 : tie.Need-load-requires-3
-load-requires-3 c κs = c .before .before .before .before .if3 .taken
+load-requires-2 c κs = c .before .before .before .before .if3 .taken
 
 write-request-requires : tie.Need-write-request-requires
 write-request-requires c κs = search needs
 
-store-requires : tie.Need-store-requires
-store-requires c κs = (fits-known _ (sym (c .before .before .before .before .before .before .before .before .before .before .before .before .before .before .before .before .fits2 .ensures) ∙ c .before .before .before .before .before .before .before .before .before .before .before .before .before .before .before .if1 .taken)) .whole
+store-receiver-requires : tie.Need-store-receiver-requires
+store-receiver-requires c κs = (receiver-known _ (sym (c .before .before .before .before .before .before .before .before .before .before .before .before .before .before .before .before .receiver-fits .ensures) ∙ c .before .before .before .before .before .before .before .before .before .before .before .before .before .before .before .if1 .taken)) .whole
 
-store-requires-2 : tie.Need-store-requires-2
-store-requires-2 c κs = c .before .before .before .before .before .before .before .before .before .before .before .before .before .before .before .before .if3 .taken
+store-requires : tie.Need-store-requires
+store-requires c κs = c .before .before .before .before .before .before .before .before .before .before .before .before .before .before .before .before .if3 .taken
 
 of-request-requires : tie.Need-of-request-requires
 of-request-requires c κs = search needs
@@ -44,7 +44,7 @@ same-length-3 c = search needs
 
 returns : tie.Need-returns
 returns c =
-    take-done _ _ _ _ (sym (c .before .before .before .before .before .before .before .before .before .before .before .before .before .before .before .before .before .before .before .before .before .before .before .before .fits2 .ensures) ∙ c .before .before .before .before .before .before .before .before .before .before .before .before .before .before .before .before .before .before .before .before .before .before .before .if1 .taken) (sym (c .before .before .before .before .before .before .before .before .before .before .before .before .before .before .before .before .before .before .before .before .before .before .fits3 .ensures) ∙ c .before .before .before .before .before .before .before .before .before .before .before .before .before .before .before .before .before .before .before .before .before .if2 .taken) (c .before .before .before .before .before .before .before .before .before .before .before .before .before .before .before .before .before .before .before .before .if3 .taken) _ _ _ (c .before .before .before .before .before .before .before .before .before .before .before .before .before .before .before .before .before .before .load .ensures) (c .before .before .before .before .before .before .before .before .before .before .before .before .before .before .before .before .before .load2 .ensures) (c .before .before .before .before .before .before .before .before .before .before .before .before .before .before .before .load3 .ensures) _ _ (c .before .before .before .before .before .before .before .before .before .before .before .before .before .write-request .ensures) _ (c .before .before .before .before .before .before .before .store .ensures) _ (c .before .before .before .store2 .ensures) _ (c .of-request .ensures)
+    take-done _ _ _ _ (sym (c .before .before .before .before .before .before .before .before .before .before .before .before .before .before .before .before .before .before .before .before .before .before .before .before .receiver-fits .ensures) ∙ c .before .before .before .before .before .before .before .before .before .before .before .before .before .before .before .before .before .before .before .before .before .before .before .if1 .taken) (sym (c .before .before .before .before .before .before .before .before .before .before .before .before .before .before .before .before .before .before .before .before .before .before .fits2 .ensures) ∙ c .before .before .before .before .before .before .before .before .before .before .before .before .before .before .before .before .before .before .before .before .before .if2 .taken) (c .before .before .before .before .before .before .before .before .before .before .before .before .before .before .before .before .before .before .before .before .if3 .taken) _ _ _ (c .before .before .before .before .before .before .before .before .before .before .before .before .before .before .before .before .before .before .receiver-in .ensures) (c .before .before .before .before .before .before .before .before .before .before .before .before .before .before .before .before .before .load .ensures) (c .before .before .before .before .before .before .before .before .before .before .before .before .before .before .before .load2 .ensures) _ _ (c .before .before .before .before .before .before .before .before .before .before .before .before .before .write-request .ensures) _ (c .before .before .before .before .before .before .before .store-receiver .ensures) _ (c .before .before .before .store .ensures) _ (c .of-request .ensures)
 
 refused-request-requires : tie.Need-refused-request-requires
 refused-request-requires c κs = search needs
@@ -53,7 +53,8 @@ same-length-4 : tie.Need-same-length-4
 same-length-4 c = search needs
 
 returns-2 : tie.Need-returns-2
-returns-2 c = take-payload _ _ _ _ _ (c .refused-request .ensures) (sym (c .before .before .before .before .before .fits2 .ensures) ∙ c .before .before .before .before .if1 .taken) (sym (c .before .before .before .fits3 .ensures) ∙ c .before .before .if2 .taken) (c .before .if3 .left)
+returns-2 c =
+    take-payload _ _ _ _ _ (c .refused-request .ensures) (sym (c .before .before .before .before .before .receiver-fits .ensures) ∙ c .before .before .before .before .if1 .taken) (sym (c .before .before .before .fits2 .ensures) ∙ c .before .before .if2 .taken) (c .before .if3 .left)
 
 refused-request-requires-2 : tie.Need-refused-request-requires-2
 refused-request-requires-2 c κs = search needs
@@ -62,7 +63,8 @@ same-length-5 : tie.Need-same-length-5
 same-length-5 c = search needs
 
 returns-3 : tie.Need-returns-3
-returns-3 c = take-settings _ _ _ _ _ (c .refused-request2 .ensures) (sym (c .before .before .before .before .fits2 .ensures) ∙ c .before .before .before .if1 .taken) (sym (c .before .before .fits3 .ensures) ∙ c .before .if2 .left)
+returns-3 c =
+    take-settings _ _ _ _ _ (c .refused-request2 .ensures) (sym (c .before .before .before .before .receiver-fits .ensures) ∙ c .before .before .before .if1 .taken) (sym (c .before .before .fits2 .ensures) ∙ c .before .if2 .left)
 
 refused-request-requires-3 : tie.Need-refused-request-requires-3
 refused-request-requires-3 c κs = search needs
@@ -71,20 +73,21 @@ same-length-6 : tie.Need-same-length-6
 same-length-6 c = search needs
 
 returns-4 : tie.Need-returns-4
-returns-4 c = take-state _ _ _ _ _ (c .refused-request3 .ensures) (sym (c .before .before .fits2 .ensures) ∙ c .before .if1 .left)
+returns-4 c =
+    take-state _ _ _ _ _ (c .refused-request3 .ensures) (sym (c .before .before .receiver-fits .ensures) ∙ c .before .if1 .left)
 
 pub sirmjold-stream-write-request-spec : {M : Type 1} → statement M
 sirmjold-stream-write-request-spec =
     tie.close
     (tie.spec
+    receiver-fits-requires
     fits-requires
-    fits-requires-2
+    receiver-in-requires
     load-requires
     load-requires-2
-    load-requires-3
     write-request-requires
+    store-receiver-requires
     store-requires
-    store-requires-2
     of-request-requires
     same-length
     same-length-2

@@ -1,13 +1,13 @@
--- Words that pass the test fit, and each end is read from its own.
-use Rattle.capi.proofs.Words.{fits-known, stream-loaded}
+-- End by end.
+use Rattle.capi.proofs.Words.{stream-loaded, both-fit, sender-known, receiver-known}
 use Rattle.capi.proofs.state.load.Statement.{statement}
 use Rattle.capi.proofs.state.load.Tie as tie
 
 sender-in-requires : tie.Need-sender-in-requires
-sender-in-requires c κs = fits-known _ (c .before .pre)
+sender-in-requires c κs = sender-known _ (both-fit _ (c .before .pre) .1)
 
 receiver-in-requires : tie.Need-receiver-in-requires
-receiver-in-requires c κs = fits-known _ (c .before .before .pre)
+receiver-in-requires c κs = receiver-known _ (both-fit _ (c .before .before .pre) .0)
 
 returns : tie.Need-returns
 returns c = stream-loaded _ _ _ (c .before .sender-in .ensures) (c .receiver-in .ensures)

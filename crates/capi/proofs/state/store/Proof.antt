@@ -1,24 +1,28 @@
--- The words are those of the stream, and they are copied.
-use mathlib.Core.Path.{_∙_}
+-- Both ends' words are all.
+use mathlib.Core.Path.{_≡_, ap, _∙_}
+use denote.Ref.{now}
+use lib.ListN.{length}
+use Rattle.packet.specs.Bytes.{spliced}
+use Rattle.capi.specs.Stream.{senderWords}
+use Rattle.capi.proofs.Words.{stream-words, receiver-length}
 use borrow.Author.Needs.{needs}
 use Rattle.capi.proofs.state.store.Statement.{statement}
 use Rattle.capi.proofs.state.store.Tie as tie
 
-words-of-requires : tie.Need-words-of-requires
-words-of-requires c κs = search needs
+store-receiver-requires : tie.Need-store-receiver-requires
+store-receiver-requires c κs = c .before .before .before .before .pre
 
-slice-aggregate-copy : tie.Need-slice-aggregate-copy
-slice-aggregate-copy c = search needs
-
-copy-requires : tie.Need-copy-requires
-copy-requires c κs = search needs
+store-sender-requires : tie.Need-store-sender-requires
+store-sender-requires c κs = ap length (c .before .before .before .store-receiver .ensures) ∙ receiver-length (c .before .before .before .before .before .before .before .before .args .words .now) (c .before .before .before .before .before .before .before .before .args .s .receiver) (c .before .before .before .before .before .before .before .before .pre)
 
 same-length : tie.Need-same-length
 same-length c = search needs
 
 returns : tie.Need-returns
-returns c = c .before .before .copy .ensures ∙ c .before .before .before .before .before .words-of .ensures
+returns c =
+    c .before .before .store-sender .ensures
+    ∙ ap (λ ws. spliced ws 12 (senderWords (c .before .before .before .before .before .before .before .before .before .before .before .args .s .sender))) (c .before .before .before .before .before .before .store-receiver .ensures)
+    ∙ stream-words (c .before .before .before .before .before .before .before .before .before .before .before .args .words .now) (c .before .before .before .before .before .before .before .before .before .before .before .args .s) (c .before .before .before .before .before .before .before .before .before .before .before .pre)
 
 pub store-spec : {M : Type 1} → statement M
-store-spec =
-    tie.close (tie.spec words-of-requires slice-aggregate-copy copy-requires same-length returns)
+store-spec = tie.close (tie.spec store-receiver-requires store-sender-requires same-length returns)

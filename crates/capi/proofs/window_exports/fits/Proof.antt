@@ -1,23 +1,25 @@
--- The table has the limits of the definition.
-use Rattle.capi.specs.Window.{windowFits}
+-- Each test is one of the definition.
+use Rattle.capi.proofs.Words.{window-short, window-large, window-last}
+use native.Mathlib.Omega.{arith}
 use borrow.Author.Needs.{needs}
 use Rattle.capi.proofs.window_exports.fits.Statement.{statement}
 use Rattle.capi.proofs.window_exports.fits.Tie as tie
 
-slice-aggregate-all-within : tie.Need-slice-aggregate-all-within
-slice-aggregate-all-within c = search needs
-
-all-within-requires : tie.Need-all-within-requires
-all-within-requires c κs = search needs
-
 returns : tie.Need-returns
-unfolding windowFits
-returns c = c .all-within .ensures
+returns c = window-short _ (c .if1 .taken)
+
+shared-slice-read-if2 : tie.Need-shared-slice-read-if2
+shared-slice-read-if2 c = search needs
+
+returns-2 : tie.Need-returns-2
+returns-2 c = window-large _ (c .if2 .taken)
+
+shared-slice-read-result : tie.Need-shared-slice-read-result
+shared-slice-read-result c = search needs
+
+returns-3 : tie.Need-returns-3
+returns-3 c = window-last _ (omega arith) (omega arith)
 
 pub fits-spec : {M : Type 1} → statement M
 fits-spec =
-    tie.close
-    (tie.spec
-    slice-aggregate-all-within
-    all-within-requires
-    returns)
+    tie.close (tie.spec returns shared-slice-read-if2 returns-2 shared-slice-read-result returns-3)

@@ -1,0 +1,39 @@
+-- Each test is one of the definition.
+use Rattle.capi.proofs.Words.{sender-short, sender-large, sender-last}
+use native.Mathlib.Omega.{arith}
+use borrow.Author.Needs.{needs}
+use Rattle.capi.proofs.state.sender_fits.Statement.{statement}
+use Rattle.capi.proofs.state.sender_fits.Tie as tie
+
+returns : tie.Need-returns
+returns c = sender-short _ (c .if1 .taken)
+
+shared-slice-read-if2 : tie.Need-shared-slice-read-if2
+shared-slice-read-if2 c = search needs
+
+returns-2 : tie.Need-returns-2
+returns-2 c = sender-large _ 0 (omega arith) (c .if2 .taken)
+
+shared-slice-read-if3 : tie.Need-shared-slice-read-if3
+shared-slice-read-if3 c = search needs
+
+returns-3 : tie.Need-returns-3
+returns-3 c = sender-large _ 1 (omega arith) (c .if3 .taken)
+
+shared-slice-read-result : tie.Need-shared-slice-read-result
+shared-slice-read-result c = search needs
+
+returns-4 : tie.Need-returns-4
+returns-4 c = sender-last _ (omega arith) (omega arith) (omega arith)
+
+pub sender-fits-spec : {M : Type 1} → statement M
+sender-fits-spec =
+    tie.close
+    (tie.spec
+    returns
+    shared-slice-read-if2
+    returns-2
+    shared-slice-read-if3
+    returns-3
+    shared-slice-read-result
+    returns-4)
