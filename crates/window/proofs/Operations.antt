@@ -1,32 +1,22 @@
 -- What the set's operations do to its number; N is how many positions there are.
 use mathlib.Core.Path.{_≡_, refl, sym, ap, _∙_, subst}
-use mathlib.Core.Bool.{Bool, true, false, not}
-use Prim.Native.Nat.{ℕ, zero, suc, _+_, _-_, _*_, _/_, _%_, _^_, _≤_, _<_}
-use native.Mathlib.Nat.{add-comm, add-mul, add-sub-of-le, one-mul, zero-mul, mul-assoc, mul-comm, mul-mod-left, le-trans, le-of-eq, mod-lt, mod-eq-of-lt, sub-add-cancel, mul-lt-mul-of-pos-right, lt-irrefl, div-add-mod', div-eq-of-lt, le-div-iff-mul-le, mul-add-mod-self-right}
+use mathlib.Core.Bool.{Bool, true, false}
+use Prim.Native.Nat.{ℕ, _+_, _-_, _*_, _/_, _%_, _^_, _≤_, _<_}
+use native.Mathlib.Nat.{add-mul, one-mul, zero-mul, mul-assoc, mul-comm, mul-mod-left, le-trans, le-of-eq, mod-eq-of-lt, sub-add-cancel, mul-lt-mul-of-pos-right, lt-irrefl, div-add-mod', div-eq-of-lt, le-div-iff-mul-le, mul-add-mod-self-right}
 use native.Mathlib.Omega.{arith}
 use lib.Dec.{eqb, ltb}
-use lib.Pow.{pow-pos, pow-lt, pow-mono, pow-add, low, ones-lt, ones-split, high-ones, mod-mod-pow, not-mod, shr-lt}
+use lib.Pow.{pow-pos, pow-add, mod-mod-pow, not-mod, shr-lt}
 use lib.Bits.{bitAnd, and-mask, and-high}
 use borrow.Author.Tests.{eq-eqb, ne-eqb, ltb-true, ltb-false}
-use Rattle.window.specs.Set.{maxWindow, has}
-use Rattle.window.proofs.Words.{carry-zero, and-bit}
+use Rattle.window.specs.Set.{maxWindow}
 
 -- ---- shift
-
-pub shl-one : (k N : ℕ) → k < N → (1 * 2 ^ k) % 2 ^ N ≡ 2 ^ k
-shl-one k N h = ap (λ (x : ℕ). x % 2 ^ N) (one-mul (2 ^ k)) ∙ mod-eq-of-lt (pow-lt h)
 
 pub shl-out : (x n N : ℕ) → N ≤ n → 0 ≡ (x * 2 ^ n) % 2 ^ N
 shl-out x n N h =
     let e : n - N + N ≡ n = sub-add-cancel {n = n} {m = N} h in
     sym (ap (λ (y : ℕ). (x * 2 ^ y) % 2 ^ N) (sym e) ∙ ap (λ (y : ℕ). (x * y) % 2 ^ N) (pow-add 2 (n - N) N)
     ∙ ap (λ (y : ℕ). y % 2 ^ N) (sym (mul-assoc x (2 ^ (n - N)) (2 ^ N))) ∙ mul-mod-left (x * 2 ^ (n - N)) (2 ^ N))
-
--- 2 ^ k first, and then the rest of 2 ^ n
-pub shl-step : (x n k : ℕ) → k ≤ n → x * 2 ^ k * 2 ^ (n - k) ≡ x * 2 ^ n
-shl-step x n k h =
-    mul-assoc x (2 ^ k) (2 ^ (n - k)) ∙ ap (λ (y : ℕ). x * y) (sym (pow-add 2 k (n - k)))
-    ∙ ap (λ (y : ℕ). x * 2 ^ y) (add-sub-of-le h)
 
 -- a factor may be cut first
 pub mod-times : (x y m : ℕ) → ((x % m) * y) % m ≡ (x * y) % m
@@ -36,19 +26,6 @@ mod-times x y m =
     ∙ mul-add-mod-self-right (x / m * y) m ((x % m) * y))
 
 -- ---- masks
-
--- the complement of all positions shifted by n
-pub low-is : (n N : ℕ) → n ≤ N → (2 ^ N - 1) - (((2 ^ N - 1) * 2 ^ n) % 2 ^ N) ≡ 2 ^ n - 1
-low-is n N h =
-    let j : ℕ = N - n in
-    let e : j + n ≡ N = sub-add-cancel {n = N} {m = n} h in
-    let cut : (2 ^ N - 1) % 2 ^ j ≡ 2 ^ j - 1 = ap (λ (x : ℕ). (2 ^ x - 1) % 2 ^ j) (sym (add-comm n j ∙ e)) ∙ ap (λ (x : ℕ). x % 2 ^ j) (ones-split n j) ∙ low (2 ^ n - 1) j (ones-lt j) in
-    let up : ((2 ^ N - 1) * 2 ^ n) % 2 ^ N ≡ 2 ^ N - 2 ^ n =
-    ap (λ (x : ℕ). ((2 ^ N - 1) * 2 ^ n) % 2 ^ x) (sym e) ∙ carry-zero (2 ^ N - 1) j n ∙ ap (λ (x : ℕ). x * 2 ^ n) cut ∙ sym (high-ones j n) ∙ ap (λ (x : ℕ). 2 ^ x - 2 ^ n) e in
-    ap (λ (x : ℕ). (2 ^ N - 1) - x) up ∙ less (2 ^ N) (2 ^ n) (pow-pos n) (pow-mono h)
-  where
-    less : (a b : ℕ) → 1 ≤ b → b ≤ a → (a - 1) - (a - b) ≡ b - 1
-    less a b p q = omega arith
 
 -- the low digits of what fits a set
 pub cut-mask : (x size : ℕ) → size ≤ maxWindow → bitAnd (x % 2 ^ maxWindow) (2 ^ size - 1) ≡ x % 2 ^ size
@@ -71,15 +48,6 @@ from-is m k h b =
     less a b p = omega arith
 
 -- ---- tests
-
--- a position is held where the intersection with it is not empty
-pub held : (n k : ℕ) → not (eqb (bitAnd n (2 ^ k)) 0) ≡ has n k
-held n k = ap (λ (x : ℕ). not (eqb x 0)) (and-bit n k) ∙ go (n / 2 ^ k % 2) (mod-lt (n / 2 ^ k) (pow-pos 1))
-  where
-    go : (x : ℕ) → x < 2 → not (eqb (x * 2 ^ k) 0) ≡ eqb x 1
-    go zero h = ap not (eq-eqb (0 * 2 ^ k) 0 (zero-mul (2 ^ k)))
-    go (suc zero) h = ap not (ne-eqb (1 * 2 ^ k) 0 (λ z. lt-irrefl 0 (subst (λ (y : ℕ). 0 < y) (sym (one-mul (2 ^ k)) ∙ z) (pow-pos k))))
-    go (suc (suc x)) h = absurd (omega arith)
 
 -- nothing lies at n and above
 pub none-from : (x n : ℕ) → eqb (x / 2 ^ n * 2 ^ n) 0 ≡ ltb x (2 ^ n)

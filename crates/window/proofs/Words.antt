@@ -1,14 +1,16 @@
 -- A number of words. The laws down to `lacks` hold of any number of words.
 use mathlib.Core.Path.{_≡_, sym, ap, ap₂, _∙_, subst}
 use mathlib.Core.Bool.{false}
+use mathlib.Core.Logic.{inl, inr}
 use Prim.Native.Nat.{ℕ, zero, suc, _+_, _-_, _*_, _/_, _%_, _^_, _≤_, _<_}
-use native.Mathlib.Nat.{add-zero, zero-add, one-mul, zero-mul, mul-assoc, mul-comm, add-mul, add-comm, add-assoc, sub-add-cancel, mul-add-mod-self-right, mul-add-div-right, mod-lt, le-trans, le-add-right, le-add-left, zero-lt-suc, lt-irrefl, mul-lt-mul-of-pos-right}
+use native.Mathlib.Nat.{add-zero, zero-add, one-mul, zero-mul, mul-assoc, mul-comm, add-mul, add-comm, add-assoc, sub-add-cancel, mul-add-mod-self-right, mul-add-div-right, mod-lt, le-trans, le-add-right, le-add-left, zero-lt-suc, lt-irrefl, lt-of-lt-of-le, le-of-eq, mod-eq-of-lt, pos-of-ne-zero, mul-le-mul-right, mul-lt-mul-of-pos-right}
 use native.Mathlib.Omega.{arith}
-use lib.Dec.{lit<, eqb, eqb·suc-zero}
-use lib.Arith.{le-zero}
-use lib.Pow.{pow-pos, high, low, split, mod-pow-add, shr-lt, shr-shr}
-use lib.Bits.{bitOr, bitAnd, or-shifted, and-mask, or-disjoint, and-block, and-zero-r}
-use borrow.Author.Tests.{eq-eqb, ne-eqb, eqb-false}
+use lib.Dec.{lit<, eqb, leb, ltb, eqb·suc-zero}
+use lib.Arith.{le-zero, digits-lt}
+use lib.Pow.{pow-pos, pow-lt, pow-mono, pow-add, high, low, split, mod-pow-add, shr-lt, shr-shr, ones-lt, ones-split}
+use lib.Bits.{bitOr, bitAnd, or-shifted, and-mask, or-disjoint, or-block, or-lt, or-zero-r, and-block, and-zero-r}
+use borrow.Author.Tests.{eq-eqb, ne-eqb, eqb-false, lt-ltb, le-ltb, le-leb, lt-leb, ltb-true, ltb-false}
+use Rattle.config.proofs.Tests.{split as test, tests}
 use Rattle.window.specs.Set.{maxWindow, val, setOf, has}
 use Rattle.window.specs.declared.set.Bits.{Bits}
 
@@ -77,6 +79,19 @@ or-bit n k e = or-disjoint n (2 ^ k) (and-bit n k ∙ ap (λ (x : ℕ). x * 2 ^ 
 pub lacks : (n k : ℕ) → has n k ≡ false → n / 2 ^ k % 2 ≡ 0
 lacks n k e = let f = eqb-false (n / 2 ^ k % 2) 1 e in omega arith
 
+-- a word's n lowest digits, and what is among them
+pub word-ones : (n j : ℕ) → j + n ≡ 64 → (2 ^ 64 - 1) / 2 ^ j ≡ 2 ^ n - 1
+word-ones n j e = ap (λ (x : ℕ). (2 ^ x - 1) / 2 ^ j) (sym (add-comm n j ∙ e)) ∙ ap (λ (x : ℕ). x / 2 ^ j) (ones-split n j) ∙ high (2 ^ n - 1) j (ones-lt j)
+
+leb-ones : (x n : ℕ) → leb x (2 ^ n - 1) ≡ ltb x (2 ^ n)
+leb-ones x n = go (2 ^ n) (pow-pos n)
+  where
+    go : (b : ℕ) → 0 < b → leb x (b - 1) ≡ ltb x b
+    go b p = elim (test (ltb x b)) [
+      | inl q ↦ le-leb x (b - 1) (omega (arith, tests)) ∙ sym q
+      | inr q ↦ lt-leb x (b - 1) (omega (arith, tests)) ∙ sym q
+    ]
+
 -- ---- two words
 
 abbrev pub words : ℕ → ℕ → Bits
@@ -84,6 +99,9 @@ words h l = record { low = l; high = h }
 
 abbrev pub join : ℕ → ℕ → ℕ
 join h l = h * 2 ^ 64 + l
+
+under : (l : ℕ) → join 0 l ≡ l
+under l = ap (λ (x : ℕ). x + l) (zero-mul (2 ^ 64)) ∙ zero-add l
 
 pub val-of : (n : ℕ) → val (setOf n) ≡ n
 unfolding val setOf
@@ -98,18 +116,77 @@ module _ (h l : ℕ) (hl : l < 2 ^ 64) where
   unfolding setOf
   of-words n e = ap₂ words (sym (high h 64 hl) ∙ ap (λ (x : ℕ). x / 2 ^ 64) e) (sym (low h 64 hl) ∙ ap (λ (x : ℕ). x % 2 ^ 64) e)
 
-  pub up-words : join l 0 ≡ (join h l * 2 ^ 64) % 2 ^ maxWindow
-  up-words = sym (carry-zero (join h l) 64 64 ∙ ap (λ (x : ℕ). x * 2 ^ 64) (low h 64 hl) ∙ sym (add-zero (l * 2 ^ 64)))
+  -- up by a word and n more
+  pub up-words : (n : ℕ) → join ((l * 2 ^ n) % 2 ^ 64) 0 ≡ (join h l * 2 ^ (n + 64)) % 2 ^ maxWindow
+  up-words n =
+      let swap : h * 2 ^ 64 * 2 ^ n ≡ h * 2 ^ n * 2 ^ 64 = mul-assoc h (2 ^ 64) (2 ^ n) ∙ ap (λ (x : ℕ). h * x) (mul-comm (2 ^ 64) (2 ^ n)) ∙ sym (mul-assoc h (2 ^ n) (2 ^ 64)) in
+      let cut : (join h l * 2 ^ n) % 2 ^ 64 ≡ (l * 2 ^ n) % 2 ^ 64 =
+      ap (λ (x : ℕ). x % 2 ^ 64) (add-mul (h * 2 ^ 64) l (2 ^ n) ∙ ap (λ (x : ℕ). x + l * 2 ^ n) swap) ∙ mul-add-mod-self-right (h * 2 ^ n) (2 ^ 64) (l * 2 ^ n) in
+      sym (ap (λ (x : ℕ). (join h l * x) % 2 ^ maxWindow) (pow-add 2 n 64) ∙ ap (λ (x : ℕ). x % 2 ^ maxWindow) (sym (mul-assoc (join h l) (2 ^ n) (2 ^ 64)))
+      ∙ carry-zero (join h l * 2 ^ n) 64 64 ∙ ap (λ (x : ℕ). x * 2 ^ 64) cut ∙ sym (add-zero ((l * 2 ^ n) % 2 ^ 64 * 2 ^ 64)))
 
   pub bits-words : (n j : ℕ) → j + n ≡ 64 → join (bitOr ((h * 2 ^ n) % 2 ^ 64) (l / 2 ^ j)) ((l * 2 ^ n) % 2 ^ 64) ≡ (join h l * 2 ^ n) % 2 ^ maxWindow
   bits-words n j e =
       sym (ap (λ (x : ℕ). x % 2 ^ maxWindow) (sym (add-zero (join h l * 2 ^ n)))
       ∙ next-word n j e 64 h l 0 (pow-pos n)
-      ∙ ap₂ (λ (x y : ℕ). x * 2 ^ 64 + y) (sym (top-word n j e h (l / 2 ^ j) (out-lt n j e l hl))) (lib.Bits.or-zero-r ((l * 2 ^ n) % 2 ^ 64)))
+      ∙ ap₂ (λ (x y : ℕ). x * 2 ^ 64 + y) (sym (top-word n j e h (l / 2 ^ j) (out-lt n j e l hl))) (or-zero-r ((l * 2 ^ n) % 2 ^ 64)))
+
+module _ (h l : ℕ) (hl : l < 2 ^ 64) where
+  -- with position k
+  pub with-low : (k : ℕ) → k < 64 → words h (bitOr l ((1 * 2 ^ k) % 2 ^ 64)) ≡ setOf (bitOr (join h l) (2 ^ k))
+  with-low k b =
+      let one : (1 * 2 ^ k) % 2 ^ 64 ≡ 2 ^ k = ap (λ (x : ℕ). x % 2 ^ 64) (one-mul (2 ^ k)) ∙ mod-eq-of-lt (pow-lt b) in
+      ap (λ (x : ℕ). words h (bitOr l x)) one
+      ∙ of-words h (bitOr l (2 ^ k)) (or-lt 64 l (2 ^ k) hl (pow-lt b)) (bitOr (join h l) (2 ^ k))
+      (sym (ap (bitOr (join h l)) (sym (under (2 ^ k))) ∙ or-block 64 h 0 l (2 ^ k) hl (pow-lt b) ∙ ap (λ (x : ℕ). join x (bitOr l (2 ^ k))) (or-zero-r h)))
+
+  pub with-high : (k j : ℕ) → j + 64 ≡ k → j < 64 → words (bitOr h ((1 * 2 ^ j) % 2 ^ 64)) l ≡ setOf (bitOr (join h l) (2 ^ k))
+  with-high k j e b =
+      let one : (1 * 2 ^ j) % 2 ^ 64 ≡ 2 ^ j = ap (λ (x : ℕ). x % 2 ^ 64) (one-mul (2 ^ j)) ∙ mod-eq-of-lt (pow-lt b) in
+      let up : join (2 ^ j) 0 ≡ 2 ^ k = add-zero (2 ^ j * 2 ^ 64) ∙ sym (pow-add 2 j 64) ∙ ap (λ (x : ℕ). 2 ^ x) e in
+      ap (λ (x : ℕ). words (bitOr h x) l) one
+      ∙ of-words (bitOr h (2 ^ j)) l hl (bitOr (join h l) (2 ^ k))
+      (sym (ap (bitOr (join h l)) (sym up) ∙ or-block 64 h (2 ^ j) l 0 hl (pow-pos 64) ∙ ap (join (bitOr h (2 ^ j))) (or-zero-r l)))
+
+  -- nothing at n and above, for n up to a word and for n beyond it
+  pub below-not : (n : ℕ) → n ≤ 64 → (h ≡ 0 → ⊥) → false ≡ ltb (join h l) (2 ^ n)
+  below-not n b f =
+      let one : 1 * 2 ^ 64 ≤ h * 2 ^ 64 = mul-le-mul-right (2 ^ 64) (pos-of-ne-zero f) in
+      sym (le-ltb (join h l) (2 ^ n) (le-trans (pow-mono b) (le-trans (le-of-eq (sym (one-mul (2 ^ 64)))) (le-trans one (le-add-right (h * 2 ^ 64) l)))))
+
+  pub below-low : (n j : ℕ) → j + n ≡ 64 → h ≡ 0 → leb l ((2 ^ 64 - 1) / 2 ^ j) ≡ ltb (join h l) (2 ^ n)
+  below-low n j e z =
+      ap (leb l) (word-ones n j e) ∙ leb-ones l n ∙ ap (λ (x : ℕ). ltb x (2 ^ n)) (sym (ap (λ (x : ℕ). join x l) z ∙ under l))
+
+  pub below-high : (n j : ℕ) → 64 < n → j + n ≡ maxWindow → leb h ((2 ^ 64 - 1) / 2 ^ j) ≡ ltb (join h l) (2 ^ n)
+  below-high n j b e =
+      let k : ℕ = n - 64 in
+      let up : k + 64 ≡ n = omega arith in
+      ap (leb h) (word-ones k j (omega arith)) ∙ leb-ones h k ∙ high-below k ∙ ap (λ (x : ℕ). ltb (join h l) (2 ^ x)) up
+    where
+      high-below : (k : ℕ) → ltb h (2 ^ k) ≡ ltb (join h l) (2 ^ (k + 64))
+      high-below k = elim (test (ltb h (2 ^ k))) [
+        | inl q ↦ q ∙ sym (lt-ltb (join h l) (2 ^ (k + 64)) (lt-of-lt-of-le (digits-lt (ltb-true h (2 ^ k) q) hl) (le-of-eq (sym (pow-add 2 k 64)))))
+        | inr q ↦
+            q ∙ sym (le-ltb (join h l) (2 ^ (k + 64))
+            (le-trans (le-of-eq (pow-add 2 k 64)) (le-trans (mul-le-mul-right (2 ^ 64) (ltb-false h (2 ^ k) q)) (le-add-right (h * 2 ^ 64) l))))
+      ]
+
+-- the n lowest positions, for n up to a word and for n beyond it
+pub lowest-low : (n j : ℕ) → j + n ≡ 64 → words 0 ((2 ^ 64 - 1) / 2 ^ j) ≡ setOf (2 ^ n - 1)
+lowest-low n j e =
+    ap (words 0) (word-ones n j e) ∙ of-words 0 (2 ^ n - 1) (lt-of-lt-of-le (ones-lt n) (pow-mono {j = 64} (omega arith))) (2 ^ n - 1) (under (2 ^ n - 1))
+
+pub lowest-high : (n j : ℕ) → 64 < n → j + n ≡ maxWindow → words ((2 ^ 64 - 1) / 2 ^ j) (2 ^ 64 - 1) ≡ setOf (2 ^ n - 1)
+lowest-high n j b e =
+    let k : ℕ = n - 64 in
+    let up : k + 64 ≡ n = omega arith in
+    ap (λ (x : ℕ). words x (2 ^ 64 - 1)) (word-ones k j (omega arith))
+    ∙ of-words (2 ^ k - 1) (2 ^ 64 - 1) (ones-lt 64) (2 ^ n - 1) (sym (ones-split k 64) ∙ ap (λ (x : ℕ). 2 ^ x - 1) up)
 
 -- two words have no further positions
 pub words-lt : (h l : ℕ) → h < 2 ^ 64 → l < 2 ^ 64 → join h l < 2 ^ maxWindow
-words-lt h l hh hl = lib.Arith.digits-lt {m = 2 ^ 64} {c = 2 ^ 64} hh hl
+words-lt h l hh hl = digits-lt {m = 2 ^ 64} {c = 2 ^ 64} hh hl
 
 -- twice, and 1
 pub push : (v f : ℕ) → bitOr ((v * 2 ^ 1) % 2 ^ (f + 1)) (2 ^ 0) ≡ (v * 2 + 1) % 2 ^ (f + 1)

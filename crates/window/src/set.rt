@@ -1,12 +1,12 @@
 // A set of positions, as two words. Contracts speak of its number, `val`: digit k of it is position k.
-// The functions down to `bottom` know the words; the others go through these.
+// The functions down to `with` know the words; the others go through these.
 //
 //     high                       low
 //     | 127 | .. | 65 | 64 |     | 63 | .. | 1 | 0 |
 ghost use mathlib.Core.Path.{_≡_};
-ghost use Prim.Native.Nat.{_-_, _*_, _/_, _%_, _^_, _≤_, _<_};
+ghost use Prim.Native.Nat.{_+_, _-_, _*_, _/_, _%_, _^_, _≤_, _<_};
 ghost use lib.Bits.{bitAnd, bitOr};
-ghost use lib.Dec.{eqb};
+ghost use lib.Dec.{eqb, ltb};
 ghost use Rattle.window.specs.Set.{maxWindow, val, setOf, has, topOf, bottomOf};
 
 // How many positions a set has room for: the largest window.
@@ -19,23 +19,6 @@ pub struct Bits {
     pub low: u64,
     // Positions 64 to 127.
     pub high: u64,
-}
-
-// Position 0 alone.
-fn one() -> Bits
-    ensures { λ r. ⌜ r ≡ setOf 1 ⌝ }
-{
-    Bits { low: 1, high: 0 }
-}
-
-// All positions.
-fn full() -> Bits
-    ensures { λ r. ⌜ r ≡ setOf (2 ^ maxWindow - 1) ⌝ }
-{
-    Bits {
-        low: u64::MAX,
-        high: u64::MAX,
-    }
 }
 
 // No position.
@@ -84,13 +67,14 @@ pub fn empty(s: Bits) -> bool
     s.high == 0
 }
 
-// Each position up by a word; those above the last leave.
-fn word_up(s: Bits) -> Bits
-    ensures { λ r. ⌜ r ≡ setOf ((val s * 2 ^ 64) % 2 ^ maxWindow) ⌝ }
+// Each position up by a word and n more; those above the last leave.
+fn word_up(s: Bits, n: u32) -> Bits
+    requires { ⌜ n < 64 ⌝ }
+    ensures { λ r. ⌜ r ≡ setOf ((val s * 2 ^ (n + 64)) % 2 ^ maxWindow) ⌝ }
 {
     Bits {
         low: 0,
-        high: s.low,
+        high: s.low << n,
     }
 }
 
@@ -127,23 +111,78 @@ pub fn bottom(s: Bits) -> u32
     WORD + u64::trailing_zeros(s.high)
 }
 
+// The n lowest positions, one at least.
+pub fn lowest(n: u32) -> Bits
+    requires { ⌜ (1 ≤ n) × (n ≤ maxWindow) ⌝ }
+    ensures { λ r. ⌜ r ≡ setOf (2 ^ n - 1) ⌝ }
+{
+    if n <= WORD {
+        return Bits {
+            low: u64::MAX >> (WORD - n),
+            high: 0,
+        };
+    }
+    Bits {
+        low: u64::MAX,
+        high: u64::MAX >> (2 * WORD - n),
+    }
+}
+
+// Whether no position is at n or above.
+pub fn below(s: Bits, n: u32) -> bool
+    requires { ⌜ (1 ≤ n) × (n ≤ maxWindow) ⌝ }
+    ensures { λ r. ⌜ r ≡ ltb (val s) (2 ^ n) ⌝ }
+{
+    if n <= WORD {
+        if s.high != 0 {
+            return false;
+        }
+        return s.low <= u64::MAX >> (WORD - n);
+    }
+    s.high <= u64::MAX >> (2 * WORD - n)
+}
+
+pub fn holds(s: Bits, k: u32) -> bool
+    requires { ⌜ k < maxWindow ⌝ }
+    ensures { λ r. ⌜ r ≡ has (val s) k ⌝ }
+{
+    if k < WORD {
+        return (s.low >> k) % 2 == 1;
+    }
+    (s.high >> (k - WORD)) % 2 == 1
+}
+
+// The set with position k.
+pub fn with(s: Bits, k: u32) -> Bits
+    requires { ⌜ k < maxWindow ⌝ }
+    ensures { λ r. ⌜ r ≡ setOf (bitOr (val s) (2 ^ k)) ⌝ }
+{
+    if k < WORD {
+        return Bits {
+            low: s.low | (1u64 << k),
+            high: s.high,
+        };
+    }
+    Bits {
+        low: s.low,
+        high: s.high | (1u64 << (k - WORD)),
+    }
+}
+
 // Each position up by n, whatever n is; those above the last leave.
 pub fn shifted(s: Bits, n: u32) -> Bits
     ensures { λ r. ⌜ r ≡ setOf ((val s * 2 ^ n) % 2 ^ maxWindow) ⌝ }
 {
-    if MAX_WINDOW <= n {
-        return none();
+    if n == 0 {
+        return s;
     }
-    let mut r = s;
-    let mut left = n;
-    while WORD <= left {
-        r = word_up(r);
-        left -= WORD;
+    if n < WORD {
+        return bits_up(s, n);
     }
-    if left == 0 {
-        return r;
+    if n < MAX_WINDOW {
+        return word_up(s, n - WORD);
     }
-    bits_up(r, left)
+    none()
 }
 
 // The n lowest positions.
@@ -151,7 +190,10 @@ pub fn low_ones(n: u32) -> Bits
     requires { ⌜ n ≤ maxWindow ⌝ }
     ensures { λ r. ⌜ r ≡ setOf (2 ^ n - 1) ⌝ }
 {
-    flipped(shifted(full(), n))
+    if n == 0 {
+        return none();
+    }
+    lowest(n)
 }
 
 // The positions of the set at n and above.
@@ -160,19 +202,4 @@ pub fn from(s: Bits, n: u32) -> Bits
     ensures { λ r. ⌜ r ≡ setOf (val s / 2 ^ n * 2 ^ n) ⌝ }
 {
     both(s, flipped(low_ones(n)))
-}
-
-pub fn holds(s: Bits, k: u32) -> bool
-    requires { ⌜ k < maxWindow ⌝ }
-    ensures { λ r. ⌜ r ≡ has (val s) k ⌝ }
-{
-    !empty(both(s, shifted(one(), k)))
-}
-
-// The set with position k.
-pub fn with(s: Bits, k: u32) -> Bits
-    requires { ⌜ k < maxWindow ⌝ }
-    ensures { λ r. ⌜ r ≡ setOf (bitOr (val s) (2 ^ k)) ⌝ }
-{
-    either(s, shifted(one(), k))
 }

@@ -1,36 +1,36 @@
--- Position k alone is 2 ^ k, and what the set shares with it is digit k.
-use mathlib.Core.Path.{ap, _∙_}
-use mathlib.Core.Bool.{not}
-use Prim.Native.Nat.{ℕ, _-_, _*_, _%_, _^_}
-use lib.Dec.{eqb}
-use lib.Bits.{bitAnd}
-use Rattle.window.specs.Set.{maxWindow, val}
-use Rattle.window.proofs.Words.{val-is}
-use Rattle.window.proofs.Operations.{shl-one, held}
+-- Position k is digit k of the low word, or digit k - 64 of the high one.
+use mathlib.Core.Path.{sym}
+use Prim.Native.Nat.{_-_, _^_, _<_}
+use native.Mathlib.Omega.{arith}
+use Rattle.window.specs.Set.{val}
+use Rattle.window.proofs.Digits.{has-low, has-high}
 use borrow.Author.Needs.{needs}
 use Rattle.window.proofs.set.holds.Statement.{statement}
 use Rattle.window.proofs.set.holds.Tie as tie
 
-one-requires : tie.Need-one-requires
-one-requires c κs = search needs
+bounds : (c : tie.Start) → (c .args .s .high < 2 ^ 64) × (c .args .s .low < 2 ^ 64)
+bounds c = omega arith
 
-shifted-requires : tie.Need-shifted-requires
-shifted-requires c κs = search needs
-
-both-requires : tie.Need-both-requires
-both-requires c κs = search needs
-
-empty-requires : tie.Need-empty-requires
-empty-requires c κs = search needs
+shr-result : tie.Need-shr-result
+shr-result c = search needs
 
 returns : tie.Need-returns
+unfolding val
 returns c =
-    let s = c .before .before .before .before in
-    let k = s .args .k in
-    ap not (c .empty .ensures ∙ ap (λ (x : ℕ). eqb x 0) (val-is _ _ (c .before .both .ensures)
-    ∙ ap (bitAnd (val (s .args .s))) (val-is _ _ (c .before .before .shifted .ensures) ∙ ap (λ (x : ℕ). (x * 2 ^ k) % 2 ^ maxWindow) (val-is _ _ (c .before .before .before .one .ensures)) ∙ shl-one k maxWindow (s .pre))))
-    ∙ held (val (s .args .s)) k
+    let s = c .before .before in
+    sym (has-low (s .args .s .high) 64 (s .args .s .low) (s .args .k) (omega arith))
+
+cast-result : tie.Need-cast-result
+cast-result c = search needs
+
+shr-result-2 : tie.Need-shr-result-2
+shr-result-2 c = search needs
+
+returns-2 : tie.Need-returns-2
+unfolding val
+returns-2 c =
+    let s = c .before .before in
+    sym (has-high (s .args .s .high) 64 (s .args .s .low) (s .args .k) (bounds s .1) (omega arith))
 
 pub holds-spec : {M : Type 1} → statement M
-holds-spec =
-    tie.close (tie.spec one-requires shifted-requires both-requires empty-requires returns)
+holds-spec = tie.close (tie.spec shr-result returns cast-result shr-result-2 returns-2)

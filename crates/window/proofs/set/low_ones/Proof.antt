@@ -1,27 +1,23 @@
--- All positions moved up by n leave the n lowest free.
-use mathlib.Core.Path.{ap, _∙_}
-use Prim.Native.Nat.{ℕ, _-_, _*_, _%_, _^_}
-use Rattle.window.specs.Set.{maxWindow, setOf}
-use Rattle.window.proofs.Words.{val-is}
-use Rattle.window.proofs.Operations.{low-is}
+-- None for n = 0.
+use mathlib.Core.Path.{ap, sym, _∙_}
+use Prim.Native.Nat.{ℕ, _-_, _^_}
+use Rattle.window.specs.Set.{setOf}
 use borrow.Author.Needs.{needs}
 use Rattle.window.proofs.set.low_ones.Statement.{statement}
 use Rattle.window.proofs.set.low_ones.Tie as tie
 
-full-requires : tie.Need-full-requires
-full-requires c κs = search needs
-
-shifted-requires : tie.Need-shifted-requires
-shifted-requires c κs = search needs
-
-flipped-requires : tie.Need-flipped-requires
-flipped-requires c κs = search needs
+none-requires : tie.Need-none-requires
+none-requires c κs = search needs
 
 returns : tie.Need-returns
 returns c =
-    let s = c .before .before .before in
-    let n = s .args .n in
-    c .flipped .ensures ∙ ap setOf (ap (λ (x : ℕ). (2 ^ maxWindow - 1) - x) (val-is _ _ (c .before .shifted .ensures) ∙ ap (λ (x : ℕ). (x * 2 ^ n) % 2 ^ maxWindow) (val-is _ _ (c .before .before .full .ensures))) ∙ low-is n maxWindow (s .pre))
+    c .none .ensures ∙ ap (λ (x : ℕ). setOf (2 ^ x - 1)) (sym (c .before .if1 .taken))
+
+lowest-requires : tie.Need-lowest-requires
+lowest-requires c κs = search needs
+
+returns-2 : tie.Need-returns-2
+returns-2 c = search needs
 
 pub low-ones-spec : {M : Type 1} → statement M
-low-ones-spec = tie.close (tie.spec full-requires shifted-requires flipped-requires returns)
+low-ones-spec = tie.close (tie.spec none-requires returns lowest-requires returns-2)
