@@ -1,10 +1,10 @@
 -- The highest and the lowest position of a set.
 use mathlib.Core.Path.{_≡_, refl, sym, ap, ap₂, _∙_, subst}
 use Prim.Native.Nat.{ℕ, zero, suc, _+_, _-_, _*_, _/_, _%_, _^_, _≤_, _<_}
-use native.Mathlib.Nat.{le-refl, le-trans, le-of-eq, lt-of-le-of-lt, lt-of-lt-of-le, lt-of-not-le, not-le-of-lt, mul-le-mul-right, mul-lt-mul-of-pos-right, pow-suc, pow-succ', mul-assoc, add-mul, suc-add, one-mul, le-add-right, le-add-left, zero-add, add-zero, zero-mul, lt-irrefl, zero-lt-suc}
+use native.Mathlib.Nat.{le-refl, le-trans, le-of-eq, lt-of-le-of-lt, lt-of-lt-of-le, lt-of-not-le, not-le-of-lt, mul-le-mul-right, mul-lt-mul-of-pos-right, pow-suc, pow-succ', mul-assoc, add-mul, suc-add, one-mul, le-add-right, le-add-left, zero-add, add-zero, zero-mul, lt-irrefl, zero-lt-suc, sub-add-cancel, le-div-iff-mul-le}
 use native.Mathlib.Omega.{arith}
 use lib.Arith.{half-le, digits-lt}
-use lib.Pow.{pow-pos, pow-mono, pow-add, shl-shr}
+use lib.Pow.{pow-pos, pow-mono, pow-add, shl-shr, split}
 use lib.Count.{leadingZeros, leading-top, trailingZeros, under}
 use Rattle.window.specs.Set.{topIn, topOf, bottomOf, over}
 use Rattle.window.proofs.Words.{join}
@@ -166,6 +166,17 @@ bottom-shift n k p =
     let x : ℕ = b .0 * 2 + 1 in
     bottom-unique (n * 2 ^ k) (bottomOf n + k) (pos-times n k p)
     (b .0, ap (λ (z : ℕ). z * 2 ^ k) (b .1) ∙ mul-assoc x (2 ^ bottomOf n) (2 ^ k) ∙ ap (λ (z : ℕ). x * z) (sym (pow-add 2 (bottomOf n) k)))
+
+-- the positions at k and above have the same highest, where it is one of them
+pub top-from : (n k : ℕ) → 0 < n → k ≤ topOf n → (0 < n / 2 ^ k * 2 ^ k) × (topOf n ≡ topOf (n / 2 ^ k * 2 ^ k))
+top-from n k p l =
+    let t = top-is n p in
+    let j : ℕ = topOf n - k in
+    let e : 2 ^ topOf n ≡ 2 ^ j * 2 ^ k = ap (λ (x : ℕ). 2 ^ x) (sym (sub-add-cancel {n = topOf n} {m = k} l)) ∙ pow-add 2 j k in
+    let one : 2 ^ j ≤ n / 2 ^ k = le-div-iff-mul-le (pow-pos k) .1 (le-trans (le-of-eq (sym e)) (t .0)) in
+    let lo : 2 ^ topOf n ≤ n / 2 ^ k * 2 ^ k = le-trans (le-of-eq e) (mul-le-mul-right (2 ^ k) one) in
+    let le : n / 2 ^ k * 2 ^ k ≤ n = le-trans (le-add-right (n / 2 ^ k * 2 ^ k) (n % 2 ^ k)) (le-of-eq (split n k)) in
+    (le-trans (pow-pos (topOf n)) lo, top-unique (n / 2 ^ k * 2 ^ k) (topOf n) (lo, lt-of-le-of-lt le (t .1)))
 
 pub bottom-le-top : (n : ℕ) → 0 < n → bottomOf n ≤ topOf n
 bottom-le-top n p =

@@ -1,8 +1,8 @@
 -- What leaves the window when a number d ahead arrives.
-use mathlib.Core.Path.{_≡_, sym, ap, ap₂, _∙_, subst, subst₂}
+use mathlib.Core.Path.{_≡_, refl, sym, ap, ap₂, _∙_, subst, subst₂}
 use mathlib.Core.Logic.{_⊎_, inl, inr}
 use Prim.Native.Nat.{ℕ, zero, suc, _+_, _-_, _*_, _/_, _^_, _≤_, _<_}
-use native.Mathlib.Nat.{le-refl, le-trans, le-of-eq, lt-of-lt-of-le, le-add-right, le-add-left, zero-add, add-comm, add-assoc, add-mul, mul-assoc, mul-comm, mul-one, zero-mul, suc-add, mul-le-mul-right, pow-suc, lt-irrefl, zero-lt-suc, eq-or-lt-of-le, sub-le, div-one}
+use native.Mathlib.Nat.{le-refl, le-trans, le-of-eq, lt-of-lt-of-le, le-add-right, le-add-left, zero-add, add-comm, add-assoc, add-mul, mul-assoc, mul-comm, mul-one, zero-mul, suc-add, mul-le-mul-right, pow-suc, lt-irrefl, zero-lt-suc, eq-or-lt-of-le, sub-le, div-one, div-eq-of-lt}
 use native.Mathlib.Omega.{arith}
 use lib.Arith.{digits-lt, le-zero}
 use lib.Pow.{pow-pos, pow-mono, pow-add, high, shr-shr, ones-lt, ones-split}
@@ -142,13 +142,23 @@ module _ (h size m d : ℕ) where
         let bottom = far-bottom size m d (d - 2 - size) rest in
         span-some h size (lostOf size m d) (t + d) size r (far-pos size m d (d - 2 - size) rest) (omega arith) (omega arith) e
 
+  -- nothing was missing at size - d or above
+  loss-stays : 1 ≤ d → d ≤ size + 1 → m < 2 ^ (size - d) → Nothing ≡ spanOf h size (lostOf size m d)
+  loss-stays p q b =
+      span-none h size (lostOf size m d) (near size m d (size - d) p q refl .none (ap (λ (z : ℕ). z * 2 ^ (size - d)) (div-eq-of-lt b) ∙ zero-mul (2 ^ (size - d))))
+
+  pub loss-empty : 1 ≤ d → d ≤ size + 1 → m ≡ 0 → Nothing ≡ spanOf h size (lostOf size m d)
+  loss-empty p q z = loss-stays p q (subst (λ (y : ℕ). y < 2 ^ (size - d)) (sym z) (pow-pos (size - d)))
+
+  pub loss-young : {t : ℕ} → 1 ≤ d → 0 < m → t ≡ topOf m → t + d < size → Nothing ≡ spanOf h size (lostOf size m d)
+  loss-young {t} p q et b =
+      let up : suc (topOf m) ≤ size - d = omega arith in
+      loss-stays p (omega arith) (lt-of-lt-of-le (top-is m q .1) (pow-mono up))
+
   -- `old` is what leaves of the positions that were missing
   module _ (p : 1 ≤ d) (q : d ≤ size + 1) {k : ℕ} (ek : k ≡ size - d) {old : ℕ} (is : old ≡ m / 2 ^ k * 2 ^ k) where
     leaves : Near size d old (lostOf size m d)
     leaves = subst (λ (x : ℕ). Near size d x (lostOf size m d)) (sym is) (near size m d k p q ek)
-
-    pub loss-none : old ≡ 0 → Nothing ≡ spanOf h size (lostOf size m d)
-    loss-none z = span-none h size (lostOf size m d) (leaves .none z)
 
     pub loss-old : {r : SeqRange} {t b : ℕ} → 0 < old → t ≡ topOf old → b ≡ bottomOf old → RangeTo h (t + d) (b + d) r → Of r ≡ spanOf h size (lostOf size m d)
     loss-old {r} {t} {b} o et eb e =

@@ -1,8 +1,8 @@
 -- The state test.
 use mathlib.Core.Path.{_≡_, refl}
 use mathlib.Core.Bool.{Bool, true, false, not, _&&_}
-use Prim.Native.Nat.{_*_, _/_, _^_}
-use lib.Dec.{eqb, ltb}
+use Prim.Native.Nat.{_^_}
+use lib.Dec.{ltb}
 use borrow.Author.Tests.{ltb-true}
 use Rattle.config.specs.Range.{within, outside}
 use Rattle.config.proofs.Tests.{and-left, and-right}
@@ -10,7 +10,6 @@ use Rattle.window.specs.Set.{maxWindow, val}
 use Rattle.window.specs.Window.{Valid, validOf}
 use Rattle.window.specs.declared.window.ReceiveWindow.{ReceiveWindow}
 use Rattle.window.proofs.Ranges.{outside-not, within-range}
-use Rattle.window.proofs.Operations.{none-from}
 
 pub valid-size : (w : ReceiveWindow) → outside 1 maxWindow (w .size) ≡ true → false ≡ validOf w
 unfolding validOf
@@ -20,9 +19,9 @@ valid-size w e = go (within 1 maxWindow (w .size)) e
     go true e = cc
     go false e = refl
 
-pub valid-bits : (w : ReceiveWindow) → outside 1 maxWindow (w .size) ≡ false → eqb (val (w .bits) / 2 ^ w .size * 2 ^ w .size) 0 ≡ validOf w
+pub valid-bits : (w : ReceiveWindow) → outside 1 maxWindow (w .size) ≡ false → ltb (val (w .bits)) (2 ^ w .size) ≡ validOf w
 unfolding validOf
-valid-bits w e = rw (outside-not 1 maxWindow (w .size) e) (none-from (val (w .bits)) (w .size))
+valid-bits w e = rw (outside-not 1 maxWindow (w .size) e)
 
 pub valid-of : (w : ReceiveWindow) → validOf w ≡ true → Valid w
 unfolding validOf

@@ -2,11 +2,11 @@
 // A layer above tests once for each of its calls.
 ghost use mathlib.Core.Path.{_≡_};
 ghost use mathlib.Core.Bool.{cond};
-ghost use Prim.Native.Nat.{_+_, _-_, _^_, _≤_, _<_};
+ghost use Prim.Native.Nat.{_+_, _-_, _*_, _%_, _^_, _≤_, _<_};
 ghost use Rattle.config.specs.Range.{within};
 ghost use Rattle.window.specs.Set.{maxWindow, val, setOf};
 ghost use Rattle.window.specs.Window.{Valid, validOf, freshOf, processed, isProcessed, missingOf, spanOf, missingSpan, requestOf};
-ghost use Rattle.window.specs.Arrival.{reach, lostOf, movedOf, classOf, newOf, unchanged, lateAt, acceptOf};
+ghost use Rattle.window.specs.Arrival.{reach, lostOf, classOf, newOf, unchanged, lateAt, acceptOf};
 ghost use Rattle.window.specs.Marking.{hitAt, hitsOf, markOf};
 use super::set;
 use super::set::Bits;
@@ -35,7 +35,7 @@ pub fn is_valid(w: ReceiveWindow) -> bool
     if range::outside(1, set::MAX_WINDOW as usize, size as usize) {
         return false;
     }
-    set::empty(set::from(bits, size))
+    set::below(bits, size)
 }
 
 // All before the highest processed.
@@ -43,7 +43,7 @@ pub fn starting_at(size: u32, highest: SeqNum) -> ReceiveWindow
     requires { ⌜ (1 ≤ size) × (size ≤ maxWindow) ⌝ }
     ensures { λ r. ⌜ r ≡ freshOf size highest ⌝ }
 {
-    let bits = set::low_ones(size);
+    let bits = set::lowest(size);
     ReceiveWindow {
         size,
         highest,
@@ -58,7 +58,7 @@ fn missing_set(w: ReceiveWindow) -> Bits
 {
     let bits = w.bits;
     let size = w.size;
-    set::both(set::flipped(bits), set::low_ones(size))
+    set::both(set::flipped(bits), set::lowest(size))
 }
 
 // From the oldest to the newest missing number.
@@ -146,29 +146,30 @@ fn lost(h: SeqNum, size: u32, m: Bits, d: u32) -> Span
     requires { ⌜ (1 ≤ size) × (size ≤ maxWindow) × (1 ≤ d) × (d ≤ reach) × (val m < 2 ^ size) ⌝ }
     ensures { λ r. ⌜ r ≡ spanOf h size (lostOf size (val m) d) ⌝ }
 {
-    if size + 2 <= d {
-        if set::empty(m) {
+    if set::empty(m) {
+        if size + 2 <= d {
             return Span::Of(range_to(h, d - 2, size));
         }
-        return Span::Of(range_to(h, set::top(m) + d, size));
-    }
-    let stay = if d < size { size - d } else { 0 };
-    let old = set::from(m, stay);
-    if set::empty(old) {
         return Span::Nothing;
     }
-    Span::Of(range_to(h, set::top(old) + d, set::bottom(old) + d))
+    let oldest = set::top(m) + d;
+    if oldest < size {
+        return Span::Nothing;
+    }
+    if d < size + 2 {
+        let stay = if d < size { size - d } else { 0 };
+        let old = set::from(m, stay);
+        return Span::Of(range_to(h, oldest, set::bottom(old) + d));
+    }
+    Span::Of(range_to(h, oldest, size))
 }
 
-// The processed positions after a number d ahead arrived.
-fn moved(s: Bits, size: u32, d: u32) -> Bits
-    requires { ⌜ (1 ≤ size) × (size ≤ maxWindow) × (1 ≤ d) × (d ≤ reach) ⌝ }
-    ensures { λ r. ⌜ r ≡ setOf (movedOf size (val s) d) ⌝ }
+// The processed positions after a number d ahead arrived, before those at the size and above leave.
+fn moved(s: Bits, d: u32) -> Bits
+    requires { ⌜ (1 ≤ d) × (d ≤ reach) ⌝ }
+    ensures { λ r. ⌜ r ≡ setOf (((val s * 2 + 1) * 2 ^ (d - 1)) % 2 ^ maxWindow) ⌝ }
 {
-    set::both(
-        set::shifted(set::with(set::shifted(s, 1), 0), d - 1),
-        set::low_ones(size),
-    )
+    set::shifted(set::with(set::shifted(s, 1), 0), d - 1)
 }
 
 // A number d ahead arrives.
@@ -178,8 +179,9 @@ fn accept_new(w: ReceiveWindow, seq: SeqNum, d: u16) -> Taken
 {
     let size = w.size;
     let bits = w.bits;
-    let gone = lost(seq, size, missing_set(w), d as u32);
-    let next = moved(bits, size, d as u32);
+    let all = set::lowest(size);
+    let gone = lost(seq, size, set::both(set::flipped(bits), all), d as u32);
+    let next = set::both(moved(bits, d as u32), all);
     Taken {
         window: ReceiveWindow {
             size,

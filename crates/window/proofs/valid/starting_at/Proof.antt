@@ -10,11 +10,11 @@ use Rattle.window.proofs.valid.starting_at.Tie as tie
 abbrev made : ℕ → ℕ → Bits → ReceiveWindow
 made size highest s = record { size = size; highest = highest; bits = s }
 
-low-ones-requires : tie.Need-low-ones-requires
-low-ones-requires c κs = search needs
+lowest-requires : tie.Need-lowest-requires
+lowest-requires c κs = search needs
 
 returns : tie.Need-returns
-returns c = ap (made (c .before .args .size) (c .before .args .highest)) (c .low-ones .ensures)
+returns c = ap (made (c .before .args .size) (c .before .args .highest)) (c .lowest .ensures)
 
 pub starting-at-spec : {M : Type 1} → statement M
-starting-at-spec = tie.close (tie.spec low-ones-requires returns)
+starting-at-spec = tie.close (tie.spec lowest-requires returns)
