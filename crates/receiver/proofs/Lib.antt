@@ -1,6 +1,5 @@
 -- Laws that this crate's proofs and those of the crates above cite.
 mod Times
-mod Missing
 mod Settled
 mod Polled
 mod Losses

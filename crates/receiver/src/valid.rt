@@ -6,7 +6,8 @@ ghost use Prim.Native.Nat.{_^_, _≤_, min};
 ghost use lib.ListN.{length};
 ghost use Rattle.packet.specs.Write.{validOf as payloadValid};
 ghost use Rattle.window.specs.Window.{Valid};
-ghost use Rattle.receiver.specs.Receiver.{validOf, restOf, freshOf, enabledOf, nothingMissing, dueAfter, gapOf, isGap, restarts, settledOf, heardOf, quietOf, gaveUp, polledAt, polledOf, erroredBy, erroredOf, markedBy, nakedOf, withAsked, notDue, noFit, offeredOf, takenOf, deadlineOf};
+ghost use Rattle.window.specs.Arrival.{inOrder};
+ghost use Rattle.receiver.specs.Receiver.{validOf, restOf, freshOf, enabledOf, dueAfter, gapOf, isGap, restarts, settledOf, heardOf, quietOf, gaveUp, polledAt, polledOf, erroredBy, erroredOf, markedBy, nakedOf, withAsked, notDue, noFit, offeredOf, takenOf, deadlineOf};
 use super::receiver::Asked;
 use super::receiver::Deadline;
 use super::receiver::Delivery;
@@ -70,16 +71,6 @@ fn enabled(r: Receiver, cfg: StreamConfig) -> bool
         return !r.refused;
     }
     false
-}
-
-fn nothing_missing(w: ReceiveWindow) -> bool
-    requires { ⌜ Valid w ⌝ }
-    ensures { λ b. ⌜ b ≡ nothingMissing w ⌝ }
-{
-    match window::valid::missing(w) {
-        Span::Nothing => true,
-        Span::Of(_) => false,
-    }
 }
 
 // 2 to the number of requests, at most 2^32.
@@ -153,7 +144,7 @@ fn settled(
     requires { ⌜ Valid window ⌝ }
     ensures { λ n. ⌜ n ≡ settledOf r cfg now window class ⌝ }
 {
-    if nothing_missing(window) {
+    if window::valid::complete(window) {
         return rest(r.refused, window);
     }
     let mut next = r;
@@ -184,12 +175,36 @@ pub fn on_ump_data(r: Receiver, cfg: StreamConfig, now: u64, seq: SeqNum) -> Hea
     ensures { λ h. ⌜ h ≡ heardOf r cfg now seq ⌝ }
 {
     let before = r.window;
+    if window::valid::in_order(before, seq) {
+        return heard_next(r, cfg, now, seq);
+    }
     let taken = window::valid::accept(before, seq);
     let window = taken.window;
     let class = taken.class;
     let lost = taken.lost;
     Heard {
         receiver: settled(r, cfg, now, window, class),
+        answer: Hearing::Delivery(Delivery {
+            seq,
+            class,
+            gap: gap(before.highest, class),
+            lost,
+        }),
+    }
+}
+
+// The same, for the next number with nothing missing before it: nothing is missing after it.
+fn heard_next(r: Receiver, cfg: StreamConfig, now: u64, seq: SeqNum) -> Heard
+    requires { ⌜ (validOf r ≡ true) × (inOrder (r .window) seq ≡ true) ⌝ }
+    ensures { λ h. ⌜ h ≡ heardOf r cfg now seq ⌝ }
+{
+    let before = r.window;
+    let taken = window::valid::accept_next(before, seq);
+    let window = taken.window;
+    let class = taken.class;
+    let lost = taken.lost;
+    Heard {
+        receiver: rest(r.refused, window),
         answer: Hearing::Delivery(Delivery {
             seq,
             class,
@@ -243,7 +258,7 @@ fn poll_running(r: Receiver, cfg: StreamConfig, now: u64, t: RequestTimer) -> To
         return quiet(r);
     }
     let window = r.window;
-    if nothing_missing(window) {
+    if window::valid::complete(window) {
         return quiet(rest(r.refused, window));
     }
     if t.sent < cfg.max_requests {
@@ -312,7 +327,7 @@ fn marked_by(r: Receiver, window: ReceiveWindow) -> Receiver
     requires { ⌜ Valid window ⌝ }
     ensures { λ n. ⌜ n ≡ markedBy r window ⌝ }
 {
-    if nothing_missing(window) {
+    if window::valid::complete(window) {
         return rest(r.refused, window);
     }
     let timer = r.timer;

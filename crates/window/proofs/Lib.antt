@@ -20,5 +20,6 @@ pub mod Classes
 pub mod AfterNew
 pub mod AfterMark
 pub mod Accepts
+pub mod InOrder
 
 -- Session case P7.

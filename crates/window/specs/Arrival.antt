@@ -1,7 +1,8 @@
 -- 01, "Position, window, loss": a number arrives.
-use mathlib.Core.Bool.{not, _&&_, cond}
+use mathlib.Core.Bool.{Bool, not, _&&_, cond}
 use Prim.Native.Nat.{ℕ, _+_, _-_, _*_, _/_, _%_, _^_}
 use lib.Bits.{bitOr}
+use lib.Dec.{eqb}
 use Rattle.config.specs.Range.{within}
 use Rattle.config.specs.Sequence.{ahead}
 use Rattle.window.specs.Set.{val, setOf}
@@ -40,6 +41,10 @@ newOf w seq d = record {
   class = New (d - 1);
   lost = spanOf seq (w .size) (lostOf (w .size) (missingOf w) d);
 }
+
+-- the next number, with nothing missing before it
+unfoldable pub inOrder : ReceiveWindow → ℕ → Bool
+inOrder w seq = eqb (ahead (w .highest) seq) 1 && eqb (missingOf w) 0
 
 -- a number at position k of the window
 abbrev pub lateAt : ReceiveWindow → ℕ → Taken

@@ -1,12 +1,13 @@
 // The operations over a state that was tested: `is_valid` is the test, and the others require what it says.
 // A layer above tests once for each of its calls.
 ghost use mathlib.Core.Path.{_≡_};
-ghost use mathlib.Core.Bool.{cond};
+ghost use mathlib.Core.Bool.{cond, true};
 ghost use Prim.Native.Nat.{_+_, _-_, _*_, _%_, _^_, _≤_, _<_};
+ghost use lib.Dec.{eqb};
 ghost use Rattle.config.specs.Range.{within};
 ghost use Rattle.window.specs.Set.{maxWindow, val, setOf};
 ghost use Rattle.window.specs.Window.{Valid, validOf, freshOf, processed, isProcessed, missingOf, spanOf, missingSpan, requestOf};
-ghost use Rattle.window.specs.Arrival.{reach, lostOf, classOf, newOf, unchanged, lateAt, acceptOf};
+ghost use Rattle.window.specs.Arrival.{reach, lostOf, classOf, newOf, inOrder, unchanged, lateAt, acceptOf};
 ghost use Rattle.window.specs.Marking.{hitAt, hitsOf, markOf};
 use super::set;
 use super::set::Bits;
@@ -59,6 +60,14 @@ fn missing_set(w: ReceiveWindow) -> Bits
     let bits = w.bits;
     let size = w.size;
     set::both(set::flipped(bits), set::lowest(size))
+}
+
+// Whether nothing is missing.
+pub fn complete(w: ReceiveWindow) -> bool
+    requires { ⌜ Valid w ⌝ }
+    ensures { λ r. ⌜ r ≡ eqb (missingOf w) 0 ⌝ }
+{
+    set::empty(missing_set(w))
 }
 
 // From the oldest to the newest missing number.
@@ -231,6 +240,36 @@ pub fn accept(w: ReceiveWindow, seq: SeqNum) -> Taken
         return accept_new(w, seq, d);
     }
     accept_behind(w, sequence::distance(seq, h) as u32)
+}
+
+// Whether the number is the next one, with nothing missing before it.
+pub fn in_order(w: ReceiveWindow, seq: SeqNum) -> bool
+    requires { ⌜ Valid w ⌝ }
+    ensures { λ r. ⌜ r ≡ inOrder w seq ⌝ }
+{
+    let h = w.highest;
+    if sequence::distance(h, seq) == 1 {
+        return complete(w);
+    }
+    false
+}
+
+// The same as `accept` for a number that is in order: the highest alone changes.
+pub fn accept_next(w: ReceiveWindow, seq: SeqNum) -> Taken
+    requires { ⌜ Valid w × (inOrder w seq ≡ true) ⌝ }
+    ensures { λ r. ⌜ r ≡ acceptOf w seq ⌝ }
+{
+    let size = w.size;
+    let bits = w.bits;
+    Taken {
+        window: ReceiveWindow {
+            size,
+            highest: seq,
+            bits,
+        },
+        class: Class::New(0),
+        lost: Span::Nothing,
+    }
 }
 
 // All numbers of the window are processed now.

@@ -16,8 +16,8 @@ returns c =
     let start = c .before .before .before .args in
     c .quiet .ensures ∙ polled-early (start .r) (start .cfg) (start .now) (start .t) (c .before .if1 .taken)
 
-nothing-missing-requires : tie.Need-nothing-missing-requires
-nothing-missing-requires c κs = valid-window _ (c .before .before .before .pre)
+complete-requires : tie.Need-complete-requires
+complete-requires c κs = valid-window _ (c .before .before .before .pre)
 
 rest-requires : tie.Need-rest-requires
 rest-requires c κs = search needs
@@ -31,7 +31,7 @@ returns-2 c =
     let late = none .before .before .before in
     let start = late .before .before .args in
     c .quiet2 .ensures ∙ ap quietOf (c .before .rest .ensures)
-    ∙ polled-none (start .r) (start .cfg) (start .now) (start .t) (late .if1 .left) (sym (none .before .nothing-missing .ensures) ∙ none .if2 .taken)
+    ∙ polled-none (start .r) (start .cfg) (start .now) (start .t) (late .if1 .left) (sym (none .before .complete .ensures) ∙ none .if2 .taken)
 
 enabled-requires : tie.Need-enabled-requires
 enabled-requires c κs = search needs
@@ -51,7 +51,7 @@ returns-3 c =
     let late = some .before .before .before in
     let start = late .before .before .args in
     c .quiet3 .ensures
-    ∙ polled-asks (start .r) (start .cfg) (start .now) (start .t) (late .if1 .left) (sym (some .before .nothing-missing .ensures) ∙ some .if2 .left) _ (c .before .due-after .ensures) (c .before .before .before .before .before .if3 .taken) (sym (c .before .before .before .before .enabled .ensures) ∙ c .before .before .before .if4 .taken)
+    ∙ polled-asks (start .r) (start .cfg) (start .now) (start .t) (late .if1 .left) (sym (some .before .complete .ensures) ∙ some .if2 .left) _ (c .before .due-after .ensures) (c .before .before .before .before .before .if3 .taken) (sym (c .before .before .before .before .enabled .ensures) ∙ c .before .before .before .if4 .taken)
 
 give-up-requires : tie.Need-give-up-requires
 give-up-requires c κs = valid-window _ (c .before .before .before .before .before .before .before .before .pre)
@@ -61,7 +61,7 @@ returns-4 c =
     let some = c .before .before .before .before in
     let late = some .before .before .before in
     let start = late .before .before .args in
-    let missing = sym (some .before .nothing-missing .ensures) ∙ some .if2 .left in
+    let missing = sym (some .before .complete .ensures) ∙ some .if2 .left in
     c .give-up .ensures
     ∙ ⊎-elim
     (λ w. polled-disabled (start .r) (start .cfg) (start .now) (start .t) (late .if1 .left) missing (w .0 .taken) (sym (w .1 .ensures) ∙ w .2 .left))
@@ -74,7 +74,7 @@ poll-running-spec =
     (tie.spec
     quiet-requires
     returns
-    nothing-missing-requires
+    complete-requires
     rest-requires
     quiet-requires-2
     returns-2

@@ -5,15 +5,15 @@ use borrow.Author.Needs.{needs}
 use Rattle.receiver.proofs.valid.settled.Statement.{statement}
 use Rattle.receiver.proofs.valid.settled.Tie as tie
 
-nothing-missing-requires : tie.Need-nothing-missing-requires
-nothing-missing-requires c κs = search needs
+complete-requires : tie.Need-complete-requires
+complete-requires c κs = search needs
 
 rest-requires : tie.Need-rest-requires
 rest-requires c κs = search needs
 
 returns : tie.Need-returns
 returns c =
-    c .rest .ensures ∙ settled-none _ _ _ _ _ (sym (c .before .before .nothing-missing .ensures) ∙ c .before .if1 .taken)
+    c .rest .ensures ∙ settled-none _ _ _ _ _ (sym (c .before .before .complete .ensures) ∙ c .before .if1 .taken)
 
 is-gap-requires : tie.Need-is-gap-requires
 is-gap-requires c κs = search needs
@@ -31,29 +31,29 @@ returns-2 : tie.Need-returns-2
 returns-2 c =
     let gap = c .before .before .before .before .before in
     let some = gap .before .before in
-    settled-starts _ _ _ _ _ (sym (some .before .nothing-missing .ensures) ∙ some .if1 .left) _ (c .due-after .ensures) (sym (gap .before .is-gap .ensures) ∙ gap .if2 .taken) (sym (c .before .before .before .before .enabled .ensures) ∙ c .before .before .before .if3 .taken) (sym (c .before .before .restarts-timer .ensures) ∙ c .before .if4 .taken)
+    settled-starts _ _ _ _ _ (sym (some .before .complete .ensures) ∙ some .if1 .left) _ (c .due-after .ensures) (sym (gap .before .is-gap .ensures) ∙ gap .if2 .taken) (sym (c .before .before .before .before .enabled .ensures) ∙ c .before .before .before .if3 .taken) (sym (c .before .before .restarts-timer .ensures) ∙ c .before .if4 .taken)
 
 returns-3 : tie.Need-returns-3
 returns-3 c =
     let gap = c .before .before .before .before in
     let some = gap .before .before in
-    settled-runs _ _ _ _ _ (sym (some .before .nothing-missing .ensures) ∙ some .if1 .left) (sym (gap .before .is-gap .ensures) ∙ gap .if2 .taken) (sym (c .before .before .before .enabled .ensures) ∙ c .before .before .if3 .taken) (sym (c .before .restarts-timer .ensures) ∙ c .if4 .left)
+    settled-runs _ _ _ _ _ (sym (some .before .complete .ensures) ∙ some .if1 .left) (sym (gap .before .is-gap .ensures) ∙ gap .if2 .taken) (sym (c .before .before .before .enabled .ensures) ∙ c .before .before .if3 .taken) (sym (c .before .restarts-timer .ensures) ∙ c .if4 .left)
 
 returns-4 : tie.Need-returns-4
 returns-4 c =
     let gap = c .before .before in
     let some = gap .before .before in
-    settled-disabled _ _ _ _ _ (sym (some .before .nothing-missing .ensures) ∙ some .if1 .left) (sym (gap .before .is-gap .ensures) ∙ gap .if2 .taken) (sym (c .before .enabled .ensures) ∙ c .if3 .left)
+    settled-disabled _ _ _ _ _ (sym (some .before .complete .ensures) ∙ some .if1 .left) (sym (gap .before .is-gap .ensures) ∙ gap .if2 .taken) (sym (c .before .enabled .ensures) ∙ c .if3 .left)
 
 returns-5 : tie.Need-returns-5
 returns-5 c =
-    settled-no-gap _ _ _ _ _ (sym (c .before .before .before .nothing-missing .ensures) ∙ c .before .before .if1 .left) (sym (c .before .is-gap .ensures) ∙ c .if2 .left)
+    settled-no-gap _ _ _ _ _ (sym (c .before .before .before .complete .ensures) ∙ c .before .before .if1 .left) (sym (c .before .is-gap .ensures) ∙ c .if2 .left)
 
 pub settled-spec : {M : Type 1} → statement M
 settled-spec =
     tie.close
     (tie.spec
-    nothing-missing-requires
+    complete-requires
     rest-requires
     returns
     is-gap-requires
