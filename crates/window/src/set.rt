@@ -116,15 +116,13 @@ pub fn lowest(n: u32) -> Bits
     requires { ⌜ (1 ≤ n) × (n ≤ maxWindow) ⌝ }
     ensures { λ r. ⌜ r ≡ setOf (2 ^ n - 1) ⌝ }
 {
+    let last = u64::MAX >> ((2 * WORD - n) % WORD);
     if n <= WORD {
-        return Bits {
-            low: u64::MAX >> (WORD - n),
-            high: 0,
-        };
+        return Bits { low: last, high: 0 };
     }
     Bits {
         low: u64::MAX,
-        high: u64::MAX >> (2 * WORD - n),
+        high: last,
     }
 }
 
@@ -133,13 +131,14 @@ pub fn below(s: Bits, n: u32) -> bool
     requires { ⌜ (1 ≤ n) × (n ≤ maxWindow) ⌝ }
     ensures { λ r. ⌜ r ≡ ltb (val s) (2 ^ n) ⌝ }
 {
+    let last = u64::MAX >> ((2 * WORD - n) % WORD);
     if n <= WORD {
         if s.high != 0 {
             return false;
         }
-        return s.low <= u64::MAX >> (WORD - n);
+        return s.low <= last;
     }
-    s.high <= u64::MAX >> (2 * WORD - n)
+    s.high <= last
 }
 
 pub fn holds(s: Bits, k: u32) -> bool
