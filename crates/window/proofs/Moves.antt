@@ -1,7 +1,12 @@
 -- What the set's operations leave of a window's positions: what is missing, and what is processed when a number d ahead arrives.
-use mathlib.Core.Path.{_≡_, ap, ap₂, _∙_}
-use Prim.Native.Nat.{ℕ, _+_, _-_, _*_, _%_, _^_, _≤_}
+use mathlib.Core.Path.{_≡_, sym, ap, ap₂, _∙_}
+use mathlib.Core.Logic.{inl, inr}
+use Prim.Native.Nat.{ℕ, _+_, _-_, _*_, _%_, _^_, _≤_, _<_}
+use native.Mathlib.Omega.{arith}
 use lib.Bits.{bitAnd}
+use lib.Dec.{eqb}
+use borrow.Author.Tests.{eq-eqb, ne-eqb, eqb-false}
+use Rattle.config.proofs.Tests.{split, tests}
 use Rattle.window.specs.Set.{maxWindow, val, setOf}
 use Rattle.window.specs.Window.{Valid, missingOf}
 use Rattle.window.specs.Arrival.{movedOf}
@@ -9,6 +14,17 @@ use Rattle.window.specs.declared.set.Bits.{Bits}
 use Rattle.window.specs.declared.window.ReceiveWindow.{ReceiveWindow}
 use Rattle.window.proofs.Words.{val-is}
 use Rattle.window.proofs.Operations.{cut-mask, missing-is}
+
+-- nothing is missing where the set has every position
+pub complete-is : (w : ReceiveWindow) → Valid w → eqb (val (w .bits)) (2 ^ w .size - 1) ≡ eqb (missingOf w) 0
+unfolding missingOf
+complete-is w v = go (2 ^ w .size) (val (w .bits)) (v .inside)
+  where
+    go : (p n : ℕ) → n < p → eqb n (p - 1) ≡ eqb (p - 1 - n) 0
+    go p n l = elim (split (eqb n (p - 1))) [
+      | inl q ↦ q ∙ sym (eq-eqb (p - 1 - n) 0 (omega (arith, tests)))
+      | inr q ↦ q ∙ sym (ne-eqb (p - 1 - n) 0 (λ z. eqb-false n (p - 1) q (omega arith)))
+    ]
 
 -- `all` are the positions of the window
 module _ (w : ReceiveWindow) {all : Bits} (ea : all ≡ setOf (2 ^ w .size - 1)) {r : Bits} where

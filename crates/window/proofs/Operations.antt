@@ -1,13 +1,10 @@
 -- What the set's operations do to its number; N is how many positions there are.
-use mathlib.Core.Path.{_≡_, refl, sym, ap, _∙_, subst}
-use mathlib.Core.Bool.{Bool, true, false}
+use mathlib.Core.Path.{_≡_, sym, ap, _∙_, subst}
 use Prim.Native.Nat.{ℕ, _+_, _-_, _*_, _/_, _%_, _^_, _≤_, _<_}
-use native.Mathlib.Nat.{add-mul, one-mul, zero-mul, mul-assoc, mul-comm, mul-mod-left, le-trans, le-of-eq, mod-eq-of-lt, sub-add-cancel, mul-lt-mul-of-pos-right, lt-irrefl, div-add-mod', div-eq-of-lt, le-div-iff-mul-le, mul-add-mod-self-right}
+use native.Mathlib.Nat.{add-mul, mul-assoc, mul-comm, mul-mod-left, mod-eq-of-lt, sub-add-cancel, div-add-mod', mul-add-mod-self-right}
 use native.Mathlib.Omega.{arith}
-use lib.Dec.{eqb, ltb}
 use lib.Pow.{pow-pos, pow-add, mod-mod-pow, not-mod, shr-lt}
 use lib.Bits.{bitAnd, and-mask, and-high}
-use borrow.Author.Tests.{eq-eqb, ne-eqb, ltb-true, ltb-false}
 use Rattle.window.specs.Set.{maxWindow}
 
 -- ---- shift
@@ -46,15 +43,3 @@ from-is m k h b =
   where
     less : (a b : ℕ) → 1 ≤ b → (a - 1) - (b - 1) ≡ a - b
     less a b p = omega arith
-
--- ---- tests
-
--- nothing lies at n and above
-pub none-from : (x n : ℕ) → eqb (x / 2 ^ n * 2 ^ n) 0 ≡ ltb x (2 ^ n)
-none-from x n = go (ltb x (2 ^ n)) refl
-  where
-    go : (t : Bool) → ltb x (2 ^ n) ≡ t → eqb (x / 2 ^ n * 2 ^ n) 0 ≡ t
-    go true e = eq-eqb (x / 2 ^ n * 2 ^ n) 0 (ap (λ (y : ℕ). y * 2 ^ n) (div-eq-of-lt (ltb-true x (2 ^ n) e)) ∙ zero-mul (2 ^ n))
-    go false e =
-        let one : 1 ≤ x / 2 ^ n = le-div-iff-mul-le (pow-pos n) .1 (le-trans (le-of-eq (one-mul (2 ^ n))) (ltb-false x (2 ^ n) e)) in
-        ne-eqb (x / 2 ^ n * 2 ^ n) 0 (λ z. lt-irrefl 0 (subst (λ (y : ℕ). 0 < y) z (subst (λ (y : ℕ). y < x / 2 ^ n * 2 ^ n) (zero-mul (2 ^ n)) (mul-lt-mul-of-pos-right one (pow-pos n)))))

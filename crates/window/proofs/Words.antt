@@ -3,13 +3,13 @@ use mathlib.Core.Path.{_≡_, sym, ap, ap₂, _∙_, subst}
 use mathlib.Core.Bool.{false}
 use mathlib.Core.Logic.{inl, inr}
 use Prim.Native.Nat.{ℕ, zero, suc, _+_, _-_, _*_, _/_, _%_, _^_, _≤_, _<_}
-use native.Mathlib.Nat.{add-zero, zero-add, one-mul, zero-mul, mul-assoc, mul-comm, add-mul, add-comm, add-assoc, sub-add-cancel, mul-add-mod-self-right, mul-add-div-right, mod-lt, le-trans, le-add-right, le-add-left, zero-lt-suc, lt-irrefl, lt-of-lt-of-le, le-of-eq, mod-eq-of-lt, pos-of-ne-zero, mul-le-mul-right, mul-lt-mul-of-pos-right}
+use native.Mathlib.Nat.{add-zero, zero-add, one-mul, zero-mul, mul-assoc, mul-comm, add-mul, add-comm, add-assoc, sub-add-cancel, mul-add-mod-self-right, mul-add-div-right, mod-lt, le-trans, le-add-right, le-add-left, zero-lt-suc, lt-irrefl, lt-of-lt-of-le, le-of-eq, mod-eq-of-lt, le-of-lt, pos-of-ne-zero, div-eq-of-lt, mul-le-mul-right, mul-lt-mul-of-pos-right}
 use native.Mathlib.Omega.{arith}
 use lib.Dec.{lit<, eqb, leb, ltb, eqb·suc-zero}
 use lib.Arith.{le-zero, digits-lt}
 use lib.Pow.{pow-pos, pow-lt, pow-mono, pow-add, high, low, split, mod-pow-add, shr-lt, shr-shr, ones-lt, ones-split}
 use lib.Bits.{bitOr, bitAnd, or-shifted, and-mask, or-disjoint, or-block, or-lt, or-zero-r, and-block, and-zero-r}
-use borrow.Author.Tests.{eq-eqb, ne-eqb, eqb-false, lt-ltb, le-ltb, le-leb, lt-leb, ltb-true, ltb-false}
+use borrow.Author.Tests.{eq-eqb, ne-eqb, eqb-true, eqb-false, lt-ltb, le-ltb, le-leb, lt-leb, ltb-true, ltb-false}
 use Rattle.config.proofs.Tests.{split as test, tests}
 use Rattle.window.specs.Set.{maxWindow, val, setOf, has}
 use Rattle.window.specs.declared.set.Bits.{Bits}
@@ -171,6 +171,28 @@ module _ (h l : ℕ) (hl : l < 2 ^ 64) where
             q ∙ sym (le-ltb (join h l) (2 ^ (k + 64))
             (le-trans (le-of-eq (pow-add 2 k 64)) (le-trans (mul-le-mul-right (2 ^ 64) (ltb-false h (2 ^ k) q)) (le-add-right (h * 2 ^ 64) l))))
       ]
+
+  -- all the n lowest positions, the same
+  pub all-low : (n j : ℕ) → j + n ≡ 64 → join h l < 2 ^ n → eqb l ((2 ^ 64 - 1) / 2 ^ j) ≡ eqb (join h l) (2 ^ n - 1)
+  all-low n j e b =
+      let z : h ≡ 0 = sym (high h 64 hl) ∙ div-eq-of-lt (lt-of-lt-of-le b (pow-mono {j = 64} (omega arith))) in
+      ap (eqb l) (word-ones n j e) ∙ ap (λ (x : ℕ). eqb x (2 ^ n - 1)) (sym (ap (λ (x : ℕ). join x l) z ∙ under l))
+
+  module _ (n : ℕ) (b : 64 < n) where
+    parts : 2 ^ n - 1 ≡ join (2 ^ (n - 64) - 1) (2 ^ 64 - 1)
+    parts = ap (λ (x : ℕ). 2 ^ x - 1) (sym (sub-add-cancel {n = n} {m = 64} (le-of-lt b))) ∙ ones-split (n - 64) 64
+
+    pub all-not : (l ≡ 2 ^ 64 - 1 → ⊥) → false ≡ eqb (join h l) (2 ^ n - 1)
+    all-not f =
+        sym (ne-eqb (join h l) (2 ^ n - 1) (λ z. f (sym (low h 64 hl) ∙ ap (λ (x : ℕ). x % 2 ^ 64) (z ∙ parts) ∙ low (2 ^ (n - 64) - 1) 64 (ones-lt 64))))
+
+    pub all-high : (j : ℕ) → j + n ≡ maxWindow → l ≡ 2 ^ 64 - 1 → eqb h ((2 ^ 64 - 1) / 2 ^ j) ≡ eqb (join h l) (2 ^ n - 1)
+    all-high j e el = ap (eqb h) (word-ones (n - 64) j (omega arith)) ∙ elim (test (eqb h (2 ^ (n - 64) - 1))) [
+      | inl q ↦ q ∙ sym (eq-eqb (join h l) (2 ^ n - 1) (ap₂ join (eqb-true h (2 ^ (n - 64) - 1) q) el ∙ sym parts))
+      | inr q ↦
+          q ∙ sym (ne-eqb (join h l) (2 ^ n - 1)
+          (λ z. eqb-false h (2 ^ (n - 64) - 1) q (sym (high h 64 hl) ∙ ap (λ (x : ℕ). x / 2 ^ 64) (z ∙ parts) ∙ high (2 ^ (n - 64) - 1) 64 (ones-lt 64))))
+    ]
 
 -- the n lowest positions, for n up to a word and for n beyond it
 pub lowest-low : (n j : ℕ) → j + n ≡ 64 → words 0 ((2 ^ 64 - 1) / 2 ^ j) ≡ setOf (2 ^ n - 1)

@@ -141,6 +141,21 @@ pub fn below(s: Bits, n: u32) -> bool
     s.high <= last
 }
 
+// Whether a set that is below n has every position there.
+pub fn is_lowest(s: Bits, n: u32) -> bool
+    requires { ⌜ (1 ≤ n) × (n ≤ maxWindow) × (val s < 2 ^ n) ⌝ }
+    ensures { λ r. ⌜ r ≡ eqb (val s) (2 ^ n - 1) ⌝ }
+{
+    let last = u64::MAX >> ((2 * WORD - n) % WORD);
+    if n <= WORD {
+        return s.low == last;
+    }
+    if s.low != u64::MAX {
+        return false;
+    }
+    s.high == last
+}
+
 pub fn holds(s: Bits, k: u32) -> bool
     requires { ⌜ k < maxWindow ⌝ }
     ensures { λ r. ⌜ r ≡ has (val s) k ⌝ }

@@ -67,7 +67,9 @@ pub fn complete(w: ReceiveWindow) -> bool
     requires { ⌜ Valid w ⌝ }
     ensures { λ r. ⌜ r ≡ eqb (missingOf w) 0 ⌝ }
 {
-    set::empty(missing_set(w))
+    let bits = w.bits;
+    let size = w.size;
+    set::is_lowest(bits, size)
 }
 
 // From the oldest to the newest missing number.

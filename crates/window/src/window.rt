@@ -1,7 +1,5 @@
 // The window and its operations. Each takes the window by value and hands it back with its answer.
 ghost use mathlib.Core.Path.{_≡_};
-ghost use Rattle.window.specs.Window.{Valid};
-ghost use Rattle.window.specs.Arrival.{acceptOf};
 ghost use Rattle.window.specs.Marking.{inRange};
 ghost use Rattle.window.specs.Answers.{startAnswer, newAnswer, resetAnswer, classAnswer, acceptAnswer, processedAnswer, missingAnswer, requestAnswer, markAllAnswer, markAnswer};
 use super::set;
@@ -137,17 +135,6 @@ impl SeqRange {
     }
 }
 
-// `valid::accept`, with the usual case first, where the call is: it is short enough to stand there whole.
-fn take(w: ReceiveWindow, seq: SeqNum) -> Taken
-    requires { ⌜ Valid w ⌝ }
-    ensures { λ r. ⌜ r ≡ acceptOf w seq ⌝ }
-{
-    if valid::in_order(w, seq) {
-        return valid::accept_next(w, seq);
-    }
-    valid::accept(w, seq)
-}
-
 impl ReceiveWindow {
     // The highest position is -1, and all before it are processed.
     pub fn new(size: u32) -> Started
@@ -205,7 +192,17 @@ impl ReceiveWindow {
         ensures { λ r. ⌜ r ≡ acceptAnswer self seq ⌝ }
     {
         if valid::is_valid(self) {
-            let taken = take(self, seq);
+            if valid::in_order(self, seq) {
+                let next = valid::accept_next(self, seq);
+                let window = next.window;
+                let class = next.class;
+                let lost = next.lost;
+                return Accepted {
+                    window,
+                    answer: Acceptance::Heard { class, lost },
+                };
+            }
+            let taken = valid::accept(self, seq);
             let window = taken.window;
             let class = taken.class;
             let lost = taken.lost;

@@ -1,20 +1,15 @@
--- No position is in the set of what is missing.
-use mathlib.Core.Path.{ap, _∙_}
-use Prim.Native.Nat.{ℕ}
-use lib.Dec.{eqb}
-use Rattle.window.proofs.Words.{val-is}
+-- Nothing is missing where every position of the window is set.
+use mathlib.Core.Path.{_∙_}
+use Rattle.window.proofs.Moves.{complete-is}
 use borrow.Author.Needs.{needs}
 use Rattle.window.proofs.valid.complete.Statement.{statement}
 use Rattle.window.proofs.valid.complete.Tie as tie
 
-missing-set-requires : tie.Need-missing-set-requires
-missing-set-requires c κs = search needs
-
-empty-requires : tie.Need-empty-requires
-empty-requires c κs = search needs
+is-lowest-requires : tie.Need-is-lowest-requires
+is-lowest-requires c κs = let v = c .before .pre in (v .some, v .most, v .inside)
 
 returns : tie.Need-returns
-returns c = c .empty .ensures ∙ ap (λ (x : ℕ). eqb x 0) (val-is _ _ (c .before .missing-set .ensures))
+returns c = c .is-lowest .ensures ∙ complete-is _ (c .before .before .pre)
 
 pub complete-spec : {M : Type 1} → statement M
-complete-spec = tie.close (tie.spec missing-set-requires empty-requires returns)
+complete-spec = tie.close (tie.spec is-lowest-requires returns)
