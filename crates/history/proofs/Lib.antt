@@ -4,6 +4,7 @@ pub mod Runs
 pub mod Walk
 pub mod Room
 mod Pushes
+pub mod Past
 pub mod StateTest
 pub mod View
 pub mod Flat

@@ -1,37 +1,22 @@
 -- The state test: each way out of the walk and of the test, and what a state that passes is.
-use mathlib.Core.Path.{_≡_, refl, sym, ap, _∙_}
-use mathlib.Core.Logic.{_⊎_, inl, inr, ⊎-elim}
-use mathlib.Core.Bool.{Bool, true, false, not, _&&_, and-true, and-false}
+use mathlib.Core.Path.{_≡_, refl, sym, _∙_}
+use mathlib.Core.Logic.{⊎-elim}
+use mathlib.Core.Bool.{Bool, true, false, _&&_, and-true, and-false}
 use mathlib.Core.List.{List}
-use Prim.Native.Nat.{ℕ, zero, suc, _+_, _*_, _-_, _/_, _%_, _≤_, _<_}
+use Prim.Native.Nat.{ℕ, zero, suc, _+_, _-_, _≤_, _<_, min}
 use native.Mathlib.Omega.{arith}
-use borrow.Author.Tests.{lt-ltb, le-ltb, le-leb, lt-leb, eq-eqb, ne-eqb, leb-true, eqb-true, eqb-false, not-true, not-false}
-use lib.ListN.{length, getD}
+use borrow.Author.Tests.{lt-ltb, le-ltb, le-leb, lt-leb, eq-eqb, ne-eqb, leb-true, eqb-true, not-true, not-false}
+use lib.ListN.{length}
 use lib.Dec.{leb, ltb, eqb, eqb·suc-zero}
-use Rattle.config.specs.Sequence.{turn, after}
 use Rattle.config.specs.Range.{within, outside}
-use Rattle.config.proofs.Tests.{split, tests, lifts, and-left, and-right}
-use Rattle.history.specs.Headers.{lengthAt, entrySize, nextAt, headerAt, wordsFrom, numbered}
-use Rattle.history.specs.State.{newestAt, unsentTake, walkOk, stateOk}
+use Rattle.config.proofs.Tests.{split, tests, and-left, and-right}
+use Rattle.history.specs.Headers.{nextAt, headerAt, wordsFrom, numbered}
+use Rattle.history.specs.Walk.{newestFrom, passes, Past, Walked}
+use Rattle.history.specs.State.{newestAt, unsentTake, walkOk, stateOk, backAt, Answers}
 use Rattle.history.specs.declared.history.SendHistory.{SendHistory}
-use Rattle.history.proofs.Slots.{lt-or-ge}
-use Rattle.history.proofs.Walk.{header-none}
-
--- ---- tests
-
-eqb-turn : (a b : ℕ) → eqb a b ≡ eqb b a
-eqb-turn a b =
-    ⊎-elim
-    (λ (e : eqb a b ≡ true). let f : eqb b a ≡ true = omega (arith, tests, lifts) in e ∙ sym f)
-    (λ (e : eqb a b ≡ false). let f : eqb b a ≡ false = omega (arith, tests, lifts) in e ∙ sym f)
-    (split (eqb a b))
-
-eqb-less : (s w u : ℕ) → s ≤ u → eqb (s + w) u ≡ eqb w (u - s)
-eqb-less s w u h =
-    ⊎-elim
-    (λ (e : eqb (s + w) u ≡ true). let f : eqb w (u - s) ≡ true = omega (arith, tests, lifts) in e ∙ sym f)
-    (λ (e : eqb (s + w) u ≡ false). let f : eqb w (u - s) ≡ false = omega (arith, tests, lifts) in e ∙ sym f)
-    (split (eqb (s + w) u))
+use Rattle.history.specs.declared.history.Tested.{Tested}
+use Rattle.history.specs.declared.headers.Stop.{Stop}
+use Rattle.history.proofs.Past.{no-yes, past-none, past-on, past-fails}
 
 -- what a test passed may be used in the next
 and-under : (w u : ℕ) (l d f : Bool) → (w ≡ u → d ≡ f) → (eqb w u && (l && d)) ≡ (eqb w u && (l && f))
@@ -41,126 +26,73 @@ and-under w u l d f h =
     (λ (e : eqb w u ≡ false). rw e)
     (split (eqb w u))
 
--- `off`: at the number m the other two differ
-off-true : (k m x y : ℕ) → (eqb k m && not (eqb x y)) ≡ true → (k ≡ m) × (x ≡ y → ⊥)
-off-true k m x y h = (eqb-true k m (and-left (eqb k m) _ h), eqb-false x y (not-true (eqb x y) (and-right (eqb k m) _ h)))
-
-off-false : (k m x y : ℕ) → (eqb k m && not (eqb x y)) ≡ false → k ≡ m → x ≡ y
-off-false k m x y h e = eqb-true x y (not-false (eqb x y) (rw (eq-eqb k m e) at h))
-
--- a header is its number, eight zero bits and its length
-upper-bits : (x n : ℕ) → x ≡ n * turn + x % 256 → x / 256 ≡ n * 256
-upper-bits x n e = omega arith
-
-whole-header : (x n : ℕ) → x / 256 ≡ n * 256 → x ≡ n * turn + x % 256
-whole-header x n e = omega arith
-
 -- ---- the walk
 
-module _ (b : List ℕ) (last unsent words : ℕ) (i n u : ℕ) where
-  module _ (k : ℕ) (some : 0 < k) where
-    one : k ≡ suc (k - 1)
-    one = omega arith
+-- the newest header is the one that the walk came by last
+newest-is : (k : ℕ) (b : List ℕ) (i p : ℕ) → newestFrom (suc k) b i p ≡ headerAt k b i
+unfolding newestFrom headerAt
+newest-is zero b i p = refl
+newest-is (suc k) b i p = newest-is k b (nextAt b i) i
 
-    pub walk-long : 64 < lengthAt b i → walkOk b last unsent words k i n u ≡ false
-    unfolding walkOk numbered
-    walk-long h = rw one (rw (lt-leb _ _ h))
+newest-at : (last k : ℕ) (b : List ℕ) (i : ℕ) → eqb (newestFrom k b i last) last ≡ newestAt last b k i
+unfolding newestFrom
+newest-at last zero b i = eq-eqb last last refl
+newest-at last (suc k) b i =
+    let e : suc k - 1 ≡ k = omega arith in
+    rw (newest-is k b i last, eqb·suc-zero k, e)
 
-    pub walk-header : lengthAt b i ≤ 64 → (getD b i 0 / 256 ≡ n * 256 → ⊥) → walkOk b last unsent words k i n u ≡ false
-    unfolding walkOk numbered
-    walk-header l h = rw one (rw (le-leb _ _ l, ne-eqb (getD b i 0) (n * turn + lengthAt b i) (λ e. h (upper-bits (getD b i 0) n e))))
-
-    pub walk-words : u < entrySize b i → walkOk b last unsent words k i n u ≡ false
-    unfolding walkOk wordsFrom
-    walk-words h =
-        rw one
-        (let f : eqb (entrySize b i + wordsFrom (k - 1) b (nextAt b i)) u ≡ false = ne-eqb (entrySize b i + wordsFrom (k - 1) b (nextAt b i)) u (λ e. omega arith) in
-        rw (f, and-false))
-
-  pub walk-last : (k : ℕ) → (eqb k 1 && not (eqb i last)) ≡ true → walkOk b last unsent words k i n u ≡ false
-  unfolding walkOk headerAt
-  walk-last k h =
-      let f = off-true k 1 i last h in
-      rw (f .0, ne-eqb _ _ (f .1), and-false, and-false)
-
-  pub walk-unsent : (k : ℕ) → (eqb k unsent && not (eqb u words)) ≡ true → walkOk b last unsent words k i n u ≡ false
+module _ (b : List ℕ) (last unsent words k i n u : ℕ) where
+  pub walk-fails : passes k b i n u ≡ false → walkOk b last unsent words k i n u ≡ false
   unfolding walkOk
-  walk-unsent k h =
-      let f = off-true k unsent u words h in
-      let z : unsent - unsent ≡ 0 = omega arith in
-      let t : ltb unsent unsent ≡ false = le-ltb unsent unsent (omega arith) in
-      let w : ℕ = wordsFrom unsent b i in
-      let l : Bool = newestAt last b unsent i in
-      let no : (eqb w u && (l && eqb w words)) ≡ false = and-under w u l (eqb w words) false (λ e. ne-eqb w words (λ g. f .1 (sym e ∙ g))) ∙ rw (and-false, and-false) in
-      rw (f .0, z, header-none, t, no, and-false)
-
-  -- the newest header, and the unwritten words, as the walk goes on
-  newest-turn : (j : ℕ) → (eqb (suc j) 1 && not (eqb i last)) ≡ false → newestAt last b (suc j) i ≡ newestAt last b j (nextAt b i)
-  unfolding headerAt
-  newest-turn zero h = eq-eqb _ _ (off-false 1 1 i last h refl)
-  newest-turn (suc j) h =
-      let x : suc (suc j) - 1 ≡ suc j = omega arith in
-      let y : suc j - 1 ≡ j = omega arith in
-      rw (x, y, eqb·suc-zero (suc j), eqb·suc-zero j)
-
-  unsent-turn : (j : ℕ) → (eqb (suc j) unsent && not (eqb u words)) ≡ false → wordsFrom (suc j) b i ≡ u
-      → unsentTake unsent words b (suc j) i ≡ unsentTake unsent words b j (nextAt b i)
-  unfolding headerAt
-  unsent-turn j h e =
+  walk-fails h =
       ⊎-elim
-      (λ (p : suc j < unsent). rw (lt-ltb _ _ p, lt-ltb j unsent (omega arith)))
-      (λ (p : unsent ≤ suc j).
-      ⊎-elim
-      (λ (q : j < unsent).
-      let s : suc j ≡ unsent = omega arith in
-      let z : unsent - unsent ≡ 0 = omega arith in
-      let t : ltb unsent unsent ≡ false = le-ltb unsent unsent (omega arith) in
-      rw (lt-ltb j unsent q, s, z, t) (eq-eqb _ _ (ap (λ (m : ℕ). wordsFrom m b i) (sym s) ∙ e ∙ off-false (suc j) unsent u words h s)))
-      (λ (q : unsent ≤ j).
-      let s : suc j - unsent ≡ suc (j - unsent) = omega arith in
-      rw (le-ltb (suc j) unsent p, le-ltb j unsent q, s))
-      (lt-or-ge j unsent))
-      (lt-or-ge (suc j) unsent)
+      (λ (e : numbered k b i n ≡ true).
+      let f : leb (wordsFrom k b i) u ≡ false = rw e at h in
+      rw (e, ne-eqb (wordsFrom k b i) u (λ g. omega (arith, tests))))
+      (λ (e : numbered k b i n ≡ false). rw e)
+      (split (numbered k b i n))
 
-  module _ (short : lengthAt b i ≤ 64) (header : getD b i 0 / 256 ≡ n * 256) (fits : entrySize b i ≤ u) where
-    numbered-turn : (j : ℕ) → numbered (suc j) b i n ≡ numbered j b (nextAt b i) (after n 1)
-    unfolding numbered
-    numbered-turn j = rw (le-leb _ _ short, eq-eqb (getD b i 0) (n * turn + lengthAt b i) (whole-header (getD b i 0) n header))
+  pub walk-lost : (d at seq prev w e : ℕ) → Past b i n last d at seq prev (u - w) → w ≤ u → d + e ≤ k → ((j : ℕ) → passes (e + j) b at seq w ≡ false) → false ≡ walkOk b last unsent words k i n u
+  walk-lost d at seq prev w e x l m h =
+      let f : d + (e + (k - (d + e))) ≡ k = omega arith in
+      sym (walk-fails (past-fails b i n last d at seq prev u w (e + (k - (d + e))) k x l f (h (k - (d + e)))))
 
-    words-turn : (j : ℕ) → eqb (wordsFrom (suc j) b i) u ≡ eqb (wordsFrom j b (nextAt b i)) (u - entrySize b i)
-    unfolding wordsFrom
-    words-turn j = eqb-less (entrySize b i) (wordsFrom j b (nextAt b i)) u fits
+  -- behind the written entries w words are left
+  module _ (at seq prev w : ℕ) (x : Past b i n last (k - unsent) at seq prev (u - w)) (few : unsent ≤ k) (l : w ≤ u) where
+    all-words : wordsFrom k b i ≡ u - w + wordsFrom unsent b at
+    all-words = let e : k - unsent + unsent ≡ k = omega arith in rw e at (x .taken unsent)
 
-    walk-suc : (j : ℕ) → (eqb (suc j) 1 && not (eqb i last)) ≡ false → (eqb (suc j) unsent && not (eqb u words)) ≡ false
-        → walkOk b last unsent words (suc j) i n u ≡ walkOk b last unsent words j (nextAt b i) (after n 1) (u - entrySize b i)
+    unsent-words : unsentTake unsent words b k i ≡ eqb (wordsFrom unsent b at) words
+    unfolding headerAt
+    unsent-words =
+        let e : k - unsent + 0 ≡ k - unsent = omega arith in
+        let f : headerAt (k - unsent) b i ≡ at = rw e at (x .place 0) in
+        rw (le-ltb k unsent few, f)
+
+    pub walk-unsent : (w ≡ words → ⊥) → walkOk b last unsent words k i n u ≡ false
     unfolding walkOk
-    walk-suc j p q =
-        ap (λ (t : Bool). numbered (suc j) b i n && t) (and-under (wordsFrom (suc j) b i) u (newestAt last b (suc j) i) _ _ (unsent-turn j q))
-        ∙ rw (numbered-turn j, words-turn j, newest-turn j p)
+    walk-unsent h =
+        rw
+        (unsent-words, and-under (wordsFrom k b i) u (newestAt last b k i) (eqb (wordsFrom unsent b at) words) false (λ e. ne-eqb (wordsFrom unsent b at) words (λ f. h (omega (arith, all-words)))), and-false, and-false, and-false)
 
-    pub walk-turn : (k : ℕ) → 0 < k → (eqb k 1 && not (eqb i last)) ≡ false → (eqb k unsent && not (eqb u words)) ≡ false
-        → walkOk b last unsent words k i n u ≡ walkOk b last unsent words (k - 1) (nextAt b i) (after n 1) (u - entrySize b i)
-    walk-turn k some p q =
-        let e = one k some in
-        ap (λ (m : ℕ). walkOk b last unsent words m i n u) e ∙ walk-suc (k - 1) (rw e at p) (rw e at q)
+    module _ (at' seq' prev' w' : ℕ) (y : Past b i n last k at' seq' prev' (u - w')) (l' : w' ≤ u) where
+      none-left : wordsFrom k b i ≡ u - w'
+      unfolding wordsFrom
+      none-left = let e : k + 0 ≡ k = omega arith in omega (arith, rw e at (y .taken 0))
 
-  -- nothing is left to walk
-  pub walk-off : (k : ℕ) → k ≤ 0 → (eqb 0 unsent && not (eqb u words)) ≡ true → walkOk b last unsent words k i n u ≡ false
-  walk-off k p h = let z : k ≡ 0 = omega arith in rw z (walk-unsent 0 h)
+      pub walk-left : (w' ≡ 0 → ⊥) → walkOk b last unsent words k i n u ≡ false
+      unfolding walkOk
+      walk-left h = rw (ne-eqb (wordsFrom k b i) u (λ e. h (omega (arith, none-left))), and-false)
 
-  pub walk-end : (k : ℕ) → k ≤ 0 → (eqb 0 unsent && not (eqb u words)) ≡ false → walkOk b last unsent words k i n u ≡ eqb u 0
-  unfolding walkOk numbered wordsFrom
-  walk-end k p h =
-      let z : k ≡ 0 = omega arith in
-      rw z
-      (and-under 0 u true (unsentTake unsent words b 0 i) true (λ e. by-unsent e (lt-or-ge 0 unsent))
-      ∙ rw and-true (eqb-turn 0 u))
-    where
-      by-unsent : 0 ≡ u → (0 < unsent) ⊎ (unsent ≤ 0) → unsentTake unsent words b 0 i ≡ true
-      by-unsent e (inl q) = rw (lt-ltb _ _ q)
-      by-unsent e (inr q) =
-          let z : unsent ≡ 0 = omega arith in
-          rw z (eq-eqb _ _ (e ∙ off-false 0 unsent u words h (sym z)))
+      pub walk-all : w ≡ words → w' ≡ 0 → walkOk b last unsent words k i n u ≡ eqb prev' last
+      unfolding walkOk numbered newestFrom
+      walk-all s z =
+          let e : k + 0 ≡ k = omega arith in
+          let f : numbered k b i n ≡ true = rw e at (y .numbers 0) in
+          let g : newestFrom k b i last ≡ prev' = rw e at (y .newest 0) in
+          let q : wordsFrom k b i ≡ u = omega (arith, none-left) in
+          let t : wordsFrom unsent b at ≡ words = omega (arith, all-words) in
+          rw (unsent-words, eq-eqb (wordsFrom unsent b at) words t, f, eq-eqb (wordsFrom k b i) u q, and-true, ← newest-at last k b i, g)
 
 -- ---- the state
 
@@ -198,3 +130,68 @@ module _ (h : SendHistory) (b : List ℕ) (unsent words : ℕ) where
           pub test-walk : (t : Bool) → t ≡ walkOk b (h .last) unsent words (h .count) (h .head) (h .oldest) (h .used) → unsent ≤ h .count → t ≡ stateOk h b unsent words
           unfolding stateOk
           test-walk t e p = rw (size-in (h .size) s, eq-eqb _ _ l, lt-ltb _ _ i, le-leb _ _ r, le-leb _ _ p, e)
+
+-- ---- the answer
+
+pub answers-no : (t : Bool) (h : SendHistory) (b : List ℕ) (unsent back : ℕ) (r : Tested) → r .ok ≡ false → false ≡ t → Answers t h b unsent back r
+answers-no t h b unsent back r e f = record { answer = e ∙ f; place = λ g. no-yes g e }
+
+-- ---- the walk in three parts: up to the last `again` written entries, these, and the unwritten ones
+
+abbrev startOf : SendHistory → Stop
+startOf h = record { lost = false; at = h .head; seq = h .oldest; prev = h .last; words = h .used }
+
+module _ (h : SendHistory) (b : List ℕ) (unsent words back : ℕ) (few : unsent ≤ h .count) (again : ℕ) (a : again ≡ min back (h .count - unsent)) (f : Stop) (x : Walked b (startOf h) (h .count - unsent - again) f) where
+  abbrev answer : Bool
+  answer = walkOk b (h .last) unsent words (h .count) (h .head) (h .oldest) (h .used)
+
+  pub first-lost : f .lost ≡ true → false ≡ answer
+  first-lost e =
+      let z : h .used - h .used ≡ 0 = omega arith in
+      walk-lost b (h .last) unsent words (h .count) (h .head) (h .oldest) (h .used) 0 (h .head) (h .oldest) (h .last) (h .used) (h .count - unsent - again) (rw z (past-none b (h .head) (h .oldest) (h .last))) (omega arith) (omega arith) (x .stops e)
+
+  module _ (p : f .lost ≡ false) where
+    pub back-place : (f .at ≡ backAt h b unsent back) × (f .at < length b)
+    unfolding headerAt
+    back-place =
+        let g = x .goes p in
+        let e : h .count - unsent - again + 0 ≡ h .count - unsent - min back (h .count - unsent) = omega arith in
+        (sym (rw e at (g .2 .place 0)), g .0)
+
+    module _ (s : Stop) (y : Walked b f again s) where
+      pub second-lost : s .lost ≡ true → false ≡ answer
+      second-lost e =
+          let g = x .goes p in
+          walk-lost b (h .last) unsent words (h .count) (h .head) (h .oldest) (h .used) _ _ _ _ _ again (g .2) (g .1) (omega arith) (y .stops e)
+
+      module _ (q : s .lost ≡ false) where
+        both : (s .words ≤ h .used) × Past b (h .head) (h .oldest) (h .last) (h .count - unsent) (s .at) (s .seq) (s .prev) (h .used - s .words)
+        both =
+            let g = x .goes p in
+            let k = y .goes q in
+            let gw : f .words ≤ h .used = g .1 in
+            let kw : s .words ≤ f .words = k .1 in
+            let e : h .count - unsent - again + again ≡ h .count - unsent = omega arith in
+            (omega arith, rw e at (past-on b (h .head) (h .oldest) (h .last) (h .count - unsent - again) (f .at) (f .seq) (f .prev) (h .used) (f .words) again (s .at) (s .seq) (s .prev) (s .words) (g .2) gw (k .2) kw))
+
+        pub unsent-off : (s .words ≡ words → ⊥) → false ≡ answer
+        unsent-off o = sym (walk-unsent b (h .last) unsent words (h .count) (h .head) (h .oldest) (h .used) _ _ _ (s .words) (both .1) few (both .0) o)
+
+        module _ (t : Stop) (z : Walked b s unsent t) where
+          pub last-lost : t .lost ≡ true → false ≡ answer
+          last-lost e = walk-lost b (h .last) unsent words (h .count) (h .head) (h .oldest) (h .used) _ _ _ _ _ unsent (both .1) (both .0) (omega arith) (z .stops e)
+
+          module _ (r : t .lost ≡ false) where
+            whole : (t .words ≤ h .used) × Past b (h .head) (h .oldest) (h .last) (h .count) (t .at) (t .seq) (t .prev) (h .used - t .words)
+            whole =
+                let k = z .goes r in
+                let bw : s .words ≤ h .used = both .0 in
+                let kw : t .words ≤ s .words = k .1 in
+                let e : h .count - unsent + unsent ≡ h .count = omega arith in
+                (omega arith, rw e at (past-on b (h .head) (h .oldest) (h .last) (h .count - unsent) (s .at) (s .seq) (s .prev) (h .used) (s .words) unsent (t .at) (t .seq) (t .prev) (t .words) (both .1) bw (k .2) kw))
+
+            pub words-left : (t .words ≡ 0 → ⊥) → false ≡ answer
+            words-left o = sym (walk-left b (h .last) unsent words (h .count) (h .head) (h .oldest) (h .used) _ _ _ (s .words) (both .1) few (both .0) _ _ _ (t .words) (whole .1) (whole .0) o)
+
+            pub newest-told : s .words ≡ words → t .words ≡ 0 → eqb (t .prev) (h .last) ≡ answer
+            newest-told o n = sym (walk-all b (h .last) unsent words (h .count) (h .head) (h .oldest) (h .used) _ _ _ (s .words) (both .1) few (both .0) _ _ _ (t .words) (whole .1) (whole .0) o n)

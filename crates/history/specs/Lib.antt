@@ -1,6 +1,7 @@
 -- What the send history and the request ring hold, and what their operations do.
 pub mod Ring
 pub mod Headers
+pub mod Walk
 pub mod State
 pub mod Push
 pub mod Entries

@@ -1,5 +1,5 @@
 -- 01, "State test": the history's part of number 13.
-use Prim.Native.Nat.{ℕ, _-_, _≤_, _<_}
+use Prim.Native.Nat.{ℕ, _-_, _≤_, _<_, min}
 use mathlib.Core.Path.{_≡_}
 use mathlib.Core.Bool.{Bool, true, _&&_, _||_}
 use mathlib.Core.List.{List}
@@ -8,6 +8,7 @@ use lib.Dec.{ltb, leb, eqb}
 use Rattle.config.specs.Range.{within}
 use Rattle.history.specs.Headers.{headerAt, wordsFrom, numbered}
 use Rattle.history.specs.declared.history.SendHistory.{SendHistory}
+use Rattle.history.specs.declared.history.Tested.{Tested}
 
 -- a start: nothing held, and the next number is 0
 abbrev pub fresh : ℕ → SendHistory
@@ -39,6 +40,15 @@ stateOk h b unsent words =
     && (leb (h .used) (h .size)
     && (leb unsent (h .count)
     && walkOk b (h .last) unsent words (h .count) (h .head) (h .oldest) (h .used)))))
+
+-- the place of the header `back` before the unwritten ones, or of the oldest where fewer are written
+abbrev pub backAt : SendHistory → List ℕ → ℕ → ℕ → ℕ
+backAt h b unsent back = headerAt (h .count - unsent - min back (h .count - unsent)) b (h .head)
+
+-- the answer of a test, and where it is yes the place that its walk came by
+pub record Answers (t : Bool) (h : SendHistory) (b : List ℕ) (unsent back : ℕ) (r : Tested) : Type 0 where
+  pub answer : r .ok ≡ t
+  pub place : r .ok ≡ true → (r .at ≡ backAt h b unsent back) × (r .at < length b)
 
 -- a state that passes the test, whatever of it is unwritten
 pub record Good (h : SendHistory) (b : List ℕ) : Type 0 where

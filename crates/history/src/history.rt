@@ -1,11 +1,13 @@
 // The commands that were queued, the oldest that still fit, numbered without a gap.
 ghost use mathlib.Core.Path.{_≡_};
-ghost use mathlib.Core.Bool.{_&&_, not};
-ghost use Prim.Native.Nat.{_≤_, _<_};
-ghost use lib.Dec.{eqb, ltb};
+ghost use mathlib.Core.Bool.{false};
+ghost use Prim.Native.Nat.{_≤_, _<_, min};
+ghost use lib.Dec.{ltb};
 ghost use lib.ListN.{length};
 ghost use Rattle.config.specs.Sequence.{after, ahead};
-ghost use Rattle.history.specs.State.{fresh, cleared, stateOk, walkOk};
+ghost use Rattle.history.specs.State.{fresh, cleared, stateOk, walkOk, Answers};
+use super::headers;
+use super::headers::Stop;
 use super::ring;
 use config::sequence;
 use config::sequence::SeqNum;
@@ -15,8 +17,6 @@ use config::sequence::SeqNum;
 pub const MIN_WORDS: usize = 65;
 
 pub const MAX_WORDS: usize = 32768;
-// The most words of one command.
-pub const MAX_PL: u32 = 64;
 
 pub struct SendHistory {
     // C: the words of the lent slice, 65 to 32,768.
@@ -31,6 +31,12 @@ pub struct SendHistory {
     pub oldest: SeqNum,
     // The place of the newest header; anything when no command is held.
     pub last: usize,
+}
+
+// What the state test answers, and a place that its walk came by.
+pub struct Tested {
+    pub ok: bool,
+    pub at: usize,
 }
 
 impl SendHistory {
@@ -76,72 +82,81 @@ impl SendHistory {
     pub fn state_ok(self, buf: &[u32], unsent: usize, unsent_words: usize) -> bool
         ensures { λ r. ⌜ r ≡ stateOk self (now (buf .entry)) unsent «unsent_words» ⌝ }
     {
+        let tested = self.state_walk(buf, unsent, unsent_words, 0);
+        tested.ok
+    }
+
+    // The same test, and from its walk the place of the header `back` before the unwritten ones, or of
+    // the oldest where fewer are written.
+    pub fn state_walk(self, buf: &[u32], unsent: usize, unsent_words: usize, back: usize) -> Tested
+        ensures { λ r. ⌜ Answers (stateOk self (now (buf .entry)) unsent «unsent_words») self (now (buf .entry)) unsent back r ⌝ }
+    {
         if config::range::outside(MIN_WORDS, MAX_WORDS, self.size) {
-            return false;
+            return refused();
         }
         if buf.len() != self.size {
-            return false;
+            return refused();
         }
         if self.size <= self.head {
-            return false;
+            return refused();
         }
         if self.size < self.used {
-            return false;
+            return refused();
         }
         if self.count < unsent {
-            return false;
+            return refused();
         }
-        walks(self, buf, unsent, unsent_words)
+        walks(self, buf, unsent, unsent_words, back)
     }
 }
 
-// Whether `k` is `m` while `a` is not `b`.
-fn off(k: usize, m: usize, a: usize, b: usize) -> bool
-    ensures { λ r. ⌜ r ≡ (eqb k m && not (eqb a b)) ⌝ }
+fn refused() -> Tested
+    ensures { λ r. ⌜ r .ok ≡ false ⌝ }
 {
-    if k == m {
-        return a != b;
-    }
-    false
+    Tested { ok: false, at: 0 }
 }
 
-// One walk over the headers, from the oldest on: `left` entries and `words` words are still to come.
-fn walks(h: SendHistory, buf: &[u32], unsent: usize, unsent_words: usize) -> bool
-    requires { ⌜ (h .head < length (now buf)) × (65 ≤ length (now buf)) × (length (now buf) ≤ 32768) ⌝ }
-    ensures { λ r. ⌜ r ≡ walkOk (now (buf .entry)) (h .last) unsent «unsent_words» (h .count) (h .head) (h .oldest) (h .used) ⌝ }
+fn least(a: usize, b: usize) -> usize
+    ensures { λ r. ⌜ r ≡ min a b ⌝ }
 {
-    let last = h.last;
-    let mut at = h.head;
-    let mut left = h.count;
-    let mut seq = h.oldest;
-    let mut words = h.used;
-    while 0 < left {
-        let header = buf[at];
-        let pl = header % 0x100;
-        if MAX_PL < pl {
-            return false;
-        }
-        // The number, and eight zero bits below it.
-        if header / 0x100 != (seq as u32) * 0x100 {
-            return false;
-        }
-        let n = 1 + (pl as usize);
-        if words < n {
-            return false;
-        }
-        if off(left, 1, at, last) {
-            return false;
-        }
-        if off(left, unsent, words, unsent_words) {
-            return false;
-        }
-        at = ring::slot(buf.len(), at, n);
-        words -= n;
-        seq = sequence::add(seq, 1);
-        left -= 1;
+    if a <= b { a } else { b }
+}
+
+// One walk over the headers, from the oldest on, with a stop before the last `back` written entries and
+// one behind the written ones.
+fn walks(h: SendHistory, buf: &[u32], unsent: usize, unsent_words: usize, back: usize) -> Tested
+    requires { ⌜ (h .head < length (now buf)) × (length (now buf) ≤ 32768) × (h .used ≤ length (now buf)) × (unsent ≤ h .count) ⌝ }
+    ensures { λ r. ⌜ Answers (walkOk (now (buf .entry)) (h .last) unsent «unsent_words» (h .count) (h .head) (h .oldest) (h .used)) h (now (buf .entry)) unsent back r ⌝ }
+{
+    let written = h.count - unsent;
+    let again = least(back, written);
+    let start = Stop {
+        lost: false,
+        at: h.head,
+        seq: h.oldest,
+        prev: h.last,
+        words: h.used,
+    };
+    let first = headers::walk(buf, start, written - again);
+    if first.lost {
+        return refused();
     }
-    if off(0, unsent, words, unsent_words) {
-        return false;
+    let second = headers::walk(buf, first, again);
+    if second.lost {
+        return refused();
     }
-    words == 0
+    if second.words != unsent_words {
+        return refused();
+    }
+    let all = headers::walk(buf, second, unsent);
+    if all.lost {
+        return refused();
+    }
+    if all.words != 0 {
+        return refused();
+    }
+    Tested {
+        ok: all.prev == h.last,
+        at: first.at,
+    }
 }

@@ -11,13 +11,15 @@
 //
 //   RetransmitQueue, a record with 16 places of which `size` are used: requests, oldest first.
 //
-//   history   the state, its numbers, `clear`, and `state_ok`, the state test
+//   history   the state, its numbers, `clear`, and `state_ok`, the state test; `state_walk` is the same
+//             test, and hands on a place that its walk over the headers came by
 //   queue     the requests; `push`, and `state_ok`
 //   valid     what a sender calls once it has made those tests: `push`, `append_to_last`, `index_of`,
 //             `write_entry` and their like; `push_request`, `front`, `set_front`, `pop`
 //
 // A state that fails its test is refused as `InvalidState`. Nothing is shifted: the oldest leave by
 // moving the head, and words go in and out as at most two straight runs.
+mod headers;
 pub mod history;
 pub mod queue;
 mod ring;
