@@ -116,7 +116,8 @@ fn refused() -> Tested
     Tested { ok: false, at: 0 }
 }
 
-fn least(a: usize, b: usize) -> usize
+// The smaller of the two.
+pub fn least(a: usize, b: usize) -> usize
     ensures { λ r. ⌜ r ≡ min a b ⌝ }
 {
     if a <= b { a } else { b }

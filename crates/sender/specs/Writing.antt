@@ -1,6 +1,7 @@
 -- 01, "History, repeats, idle" and "Write the stream": a write, over settings, a state and a payload that were tested.
 -- Waiting retransmits come first, then a due idle command is queued, then up to R of the last written commands, then new ones.
-use Prim.Native.Nat.{ℕ, zero, suc, _+_, _-_, _*_, min}
+use Prim.Native.Nat.{ℕ, zero, suc, _+_, _-_, _*_, _<_, min}
+use mathlib.Core.Path.{_≡_}
 use mathlib.Core.Bool.{Bool, true, false, cond, not, _||_}
 use mathlib.Core.List.{List, [], _∷_, _++_}
 use lib.ListN.{length, take}
@@ -137,6 +138,10 @@ sizesOf (c ∷ cs) = sizeOf c + sizesOf cs
 -- the commands fit together
 abbrev pub fitAll : PayloadWriter → List ℕ → List Packet → Bool
 fitAll p b cs = leb (startOf p + sizesOf cs) (limitOf p (length b))
+
+-- the first of up to r written commands to repeat stands at the place
+abbrev pub AgainAt : Sender → List ℕ → ℕ → ℕ → Type 0
+AgainAt s ring r place = (place ≡ headerAt (writtenCount s - min r (writtenCount s)) ring (s .history .head)) × (place < length ring)
 
 -- the oldest dropped first if they don't fit beside the first new one
 unfoldable pub repeatsOf : PayloadWriter → List ℕ → Packet → List Packet → List Packet

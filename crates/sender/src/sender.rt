@@ -227,9 +227,10 @@ impl Sender {
                 answer: Writing::Refused(why),
             },
             Check::Passed => {
-                if valid::is_valid(self, &ring[..]) {
+                let tested = valid::test(self, &ring[..], cfg.fec_repeats as usize);
+                if tested.ok {
                     if packet::valid::is_valid(p, buf.len()) {
-                        return writing::write(self, cfg, time, p, buf, ring);
+                        return writing::write(self, cfg, time, p, buf, ring, tested.at);
                     }
                     return Wrote {
                         sender: self,

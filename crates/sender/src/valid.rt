@@ -1,5 +1,5 @@
-// The calls over settings and a state that were tested: `is_valid` is the test of the state, and the
-// others require what it says.
+// The calls over settings and a state that were tested: `is_valid` and `test` are the test of the
+// state, and the others require what it says.
 ghost use mathlib.Core.Path.{_≡_};
 ghost use mathlib.Core.Bool.{true, false};
 ghost use Prim.Native.Nat.{_+_, _≤_, _<_};
@@ -8,7 +8,7 @@ ghost use Rattle.config.specs.Settings.{checkOf};
 ghost use Rattle.config.specs.declared.settings.Check.the-variants.{Passed};
 ghost use Rattle.config.specs.Sequence.{turn};
 ghost use Rattle.command.specs.Messages.{wholeOf};
-ghost use Rattle.history.specs.State.{Good};
+ghost use Rattle.history.specs.State.{Good, Answers};
 ghost use Rattle.history.specs.Headers.{lengthAt};
 ghost use Rattle.history.specs.Queue.{Fit};
 ghost use Rattle.sender.specs.State.{idleOk, validOf, fresh, startOf, resetOf};
@@ -36,6 +36,7 @@ use config::sequence::SeqNum;
 use config::settings::Check;
 use config::settings::StreamConfig;
 use history::history::SendHistory;
+use history::history::Tested;
 use history::queue::Push;
 use history::queue::RetransmitQueue;
 
@@ -55,16 +56,29 @@ fn idle_ok(idle: IdleTimer) -> bool
 pub fn is_valid(s: Sender, ring: &[u32]) -> bool
     ensures { λ r. ⌜ r ≡ validOf s (now (ring .entry)) ⌝ }
 {
+    let tested = test(s, ring, 0);
+    tested.ok
+}
+
+// The same test, and from its walk the place of the header `back` before the unwritten ones, or of the
+// oldest where fewer are written.
+pub fn test(s: Sender, ring: &[u32], back: usize) -> Tested
+    ensures { λ r. ⌜ Answers (validOf s (now (ring .entry))) (s .history) (now (ring .entry)) (s .unsent) back r ⌝ }
+{
     let history = s.history;
     let queue = s.queue;
-    if history.state_ok(ring, s.unsent, s.unsent_words) {
+    let tested = history.state_walk(ring, s.unsent, s.unsent_words, back);
+    if tested.ok {
         if queue.state_ok() {
             let idle = s.idle;
-            return idle_ok(idle);
+            return Tested {
+                ok: idle_ok(idle),
+                at: tested.at,
+            };
         }
-        return false;
+        return Tested { ok: false, at: 0 };
     }
-    false
+    tested
 }
 
 // Nothing held, nothing waits.

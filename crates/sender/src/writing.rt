@@ -15,12 +15,13 @@ ghost use Rattle.config.specs.declared.settings.Check.the-variants.{Passed};
 ghost use Rattle.packet.specs.Write.{validOf as payloadValid, freeOf};
 ghost use Rattle.command.specs.Write.{errorPacket};
 ghost use Rattle.history.specs.Headers.{lengthAt, headerAt, wordsFrom, entriesFrom};
+ghost use Rattle.history.specs.State.{Good};
 ghost use Rattle.history.specs.Entries.{Short};
 ghost use Rattle.history.specs.Queue.{Fit, popped};
 ghost use Rattle.history.specs.Written.{entryPacket};
 ghost use Rattle.sender.specs.State.{validOf};
 ghost use Rattle.sender.specs.Requests.{writtenCount, notWritten, withQueue};
-ghost use Rattle.sender.specs.Writing.{rowOf, packetsFrom, reachOf, answerTo, restOf, servedOf, lastTime, later, idleNext, idledOf, repeatsOf, newRow, newOf, writtenBy};
+ghost use Rattle.sender.specs.Writing.{rowOf, packetsFrom, reachOf, answerTo, restOf, servedOf, lastTime, later, idleNext, idledOf, AgainAt, repeatsOf, newRow, newOf, writtenBy};
 ghost use Rattle.sender.specs.declared.sender.IdleTimer.the-variants.{Waiting};
 use super::sender::Idle;
 use super::sender::IdleTimer;
@@ -34,6 +35,8 @@ use command::retransmit::RetransmitRequest;
 use config::refusal::Refusal;
 use config::sequence;
 use config::settings::StreamConfig;
+use history::history::SendHistory;
+use history::history::least;
 use packet::writer::PayloadWriter;
 use packet::writer::Write;
 
@@ -98,12 +101,6 @@ fn write_error(err: RetransmitError, p: PayloadWriter, buf: &mut [u8]) -> Row
             whole: false,
         },
     }
-}
-
-fn least(a: usize, b: usize) -> usize
-    ensures { λ r. ⌜ r ≡ min a b ⌝ }
-{
-    if a <= b { a } else { b }
 }
 
 // How many commands a request is answered with, of the `left` ones from its number on; count 0 asks
@@ -446,8 +443,20 @@ fn write_row(
     }
 }
 
+// The place of the header of entry `k`: `place` where it is known, else found by a walk.
+fn place_of(h: SendHistory, ring: &[u32], k: usize, known: bool, place: usize) -> usize
+    requires { ⌜ Good h (now ring) × (k ≤ h .count) × (known ≡ true → (place ≡ headerAt k (now ring) (h .head)) × (place < length (now ring))) ⌝ }
+    ensures { λ r. ⌜ (r ≡ headerAt k (now (ring .entry)) (h .head)) × (r < length (now (ring .entry))) ⌝ }
+{
+    if known {
+        return place;
+    }
+    history::valid::index_of(h, ring, k)
+}
+
 // Writes up to R of the last written commands, and the new ones; `before` commands were written
-// before. 3 when the first new one is too large for an empty payload.
+// before, and where `known` the first to repeat stands at `place`. 3 when the first new one is too
+// large for an empty payload.
 fn write_new(
     s: Sender,
     cfg: StreamConfig,
@@ -456,8 +465,10 @@ fn write_new(
     p: PayloadWriter,
     buf: &mut [u8],
     ring: &[u32],
+    known: bool,
+    place: usize,
 ) -> Wrote
-    requires { ⌜ (validOf s (now ring) ≡ true) × (payloadValid p (length (now buf)) ≡ true) × (before ≤ 350) ⌝ }
+    requires { ⌜ (validOf s (now ring) ≡ true) × (payloadValid p (length (now buf)) ≡ true) × (before ≤ 350) × (known ≡ true → AgainAt s (now ring) (cfg .«fec_repeats») place) ⌝ }
     ensures { λ r. ⌜ (r, now (buf .exit)) ≡ newOf s cfg time before p (now (buf .entry)) (now (ring .entry)) ⌝ }
 {
     if s.unsent == 0 {
@@ -473,7 +484,7 @@ fn write_new(
     let history = s.history;
     let written = history.count - s.unsent;
     let k = least(cfg.fec_repeats as usize, written);
-    let at = history::valid::index_of(history, ring, written - k);
+    let at = place_of(history, ring, written - k, known, place);
     let last = walk(ring, at, k);
     let first = last.at;
     if packet::valid::free_words(p, buf.len()) <= history::valid::pl(ring, first) {
@@ -497,7 +508,9 @@ fn write_new(
     write_row(s, cfg, time, before, p, buf, ring, again)
 }
 
-// The whole write: serving, the idle command, then repeats and new commands.
+// The whole write: serving, the idle command, then repeats and new commands. The first command to
+// repeat stands at `place`, and still does where a command was unwritten at the start: then no idle
+// command is queued.
 pub fn write(
     s: Sender,
     cfg: StreamConfig,
@@ -505,8 +518,9 @@ pub fn write(
     p: PayloadWriter,
     buf: &mut [u8],
     ring: &mut [u32],
+    place: usize,
 ) -> Wrote
-    requires { ⌜ (checkOf cfg ≡ Passed) × (validOf s (now ring) ≡ true) × (payloadValid p (length (now buf)) ≡ true) ⌝ }
+    requires { ⌜ (checkOf cfg ≡ Passed) × (validOf s (now ring) ≡ true) × (payloadValid p (length (now buf)) ≡ true) × AgainAt s (now ring) (cfg .«fec_repeats») place ⌝ }
     ensures { λ r. ⌜ (r, now (buf .exit), now (ring .exit)) ≡ writtenBy s cfg time p (now (buf .entry)) (now (ring .entry)) ⌝ }
 {
     let served = serve(s, p, buf, &ring[..]);
@@ -523,5 +537,15 @@ pub fn write(
         };
     }
     let idled = queue_idle(next, cfg, time, ring);
-    write_new(idled, cfg, time, served.written, payload, buf, &ring[..])
+    write_new(
+        idled,
+        cfg,
+        time,
+        served.written,
+        payload,
+        buf,
+        &ring[..],
+        0 < s.unsent,
+        place,
+    )
 }

@@ -327,9 +327,10 @@ impl DataStream {
                 answer: Writing::Refused(why),
             },
             Check::Passed => {
-                if valid::is_valid(self, &ring[..]) {
+                let tested = valid::test(self, &ring[..], cfg.fec_repeats as usize);
+                if tested.ok {
                     if packet::valid::is_valid(p, buf.len()) {
-                        return valid::write_data(self, cfg, time, p, buf, ring);
+                        return valid::write_data(self, cfg, time, p, buf, ring, tested.at);
                     }
                 }
                 Wrote {

@@ -1,4 +1,4 @@
-// The calls over settings and states that were tested: `is_valid` is the test of both ends.
+// The calls over settings and states that were tested: `is_valid` and `test` are the test of both ends.
 ghost use mathlib.Core.Path.{_≡_};
 ghost use mathlib.Core.Bool.{true};
 ghost use Prim.Native.Nat.{_≤_};
@@ -6,7 +6,9 @@ ghost use lib.ListN.{length};
 ghost use Rattle.config.specs.Settings.{checkOf};
 ghost use Rattle.config.specs.declared.settings.Check.the-variants.{Passed};
 ghost use Rattle.packet.specs.Write.{validOf as payloadValid};
+ghost use Rattle.history.specs.State.{Answers};
 ghost use Rattle.sender.specs.State.{validOf as senderValid};
+ghost use Rattle.sender.specs.Writing.{AgainAt};
 ghost use Rattle.stream.specs.State.{validOf};
 ghost use Rattle.stream.specs.Answers.{earlier as earlierOf};
 ghost use Rattle.stream.specs.Writing.{sentAfter, dataWritten};
@@ -14,6 +16,7 @@ use super::stream::DataStream;
 use super::stream::Deadline;
 use super::stream::Wrote;
 use config::settings::StreamConfig;
+use history::history::Tested;
 use packet::writer::PayloadWriter;
 use receiver::receiver::Request;
 use sender::sender::Writing;
@@ -29,6 +32,19 @@ pub fn is_valid(s: DataStream, ring: &[u32]) -> bool
         return sender::valid::is_valid(sender, ring);
     }
     false
+}
+
+// The same test, and from the sender's walk the place of the header `back` before the unwritten ones,
+// or of the oldest where fewer are written.
+pub fn test(s: DataStream, ring: &[u32], back: usize) -> Tested
+    ensures { λ r. ⌜ Answers (validOf s (now (ring .entry))) (s .sender .history) (now (ring .entry)) (s .sender .unsent) back r ⌝ }
+{
+    let receiver = s.receiver;
+    let sender = s.sender;
+    if receiver::valid::is_valid(receiver) {
+        return sender::valid::test(sender, ring, back);
+    }
+    Tested { ok: false, at: 0 }
 }
 
 // The earlier of the two ends' due times.
@@ -64,13 +80,14 @@ fn write_after(
     p: PayloadWriter,
     buf: &mut [u8],
     ring: &mut [u32],
+    place: usize,
 ) -> Wrote
-    requires { ⌜ (n ≤ 1) × (checkOf cfg ≡ Passed) × (senderValid (s .sender) (now ring) ≡ true) × (payloadValid p (length (now buf)) ≡ true) ⌝ }
+    requires { ⌜ (n ≤ 1) × (checkOf cfg ≡ Passed) × (senderValid (s .sender) (now ring) ≡ true) × (payloadValid p (length (now buf)) ≡ true) × AgainAt (s .sender) (now ring) (cfg .«fec_repeats») place ⌝ }
     ensures { λ r. ⌜ (r, now (buf .exit), now (ring .exit)) ≡ sentAfter n s cfg time p (now (buf .entry)) (now (ring .entry)) ⌝ }
 {
     let before = s.sender;
     let receiver = s.receiver;
-    let wrote = sender::writing::write(before, cfg, time, p, buf, ring);
+    let wrote = sender::writing::write(before, cfg, time, p, buf, ring, place);
     let sender = wrote.sender;
     let payload = wrote.payload;
     let answer = wrote.answer;
@@ -92,7 +109,7 @@ fn write_after(
     }
 }
 
-// A due request, then the sender's commands.
+// A due request, then the sender's commands, of which the first to repeat stands at `place`.
 pub fn write_data(
     s: DataStream,
     cfg: StreamConfig,
@@ -100,8 +117,9 @@ pub fn write_data(
     p: PayloadWriter,
     buf: &mut [u8],
     ring: &mut [u32],
+    place: usize,
 ) -> Wrote
-    requires { ⌜ (checkOf cfg ≡ Passed) × (validOf s (now ring) ≡ true) × (payloadValid p (length (now buf)) ≡ true) ⌝ }
+    requires { ⌜ (checkOf cfg ≡ Passed) × (validOf s (now ring) ≡ true) × (payloadValid p (length (now buf)) ≡ true) × AgainAt (s .sender) (now ring) (cfg .«fec_repeats») place ⌝ }
     ensures { λ r. ⌜ (r, now (buf .exit), now (ring .exit)) ≡ dataWritten s cfg time p (now (buf .entry)) (now (ring .entry)) ⌝ }
 {
     let sender = s.sender;
@@ -125,7 +143,7 @@ pub fn write_data(
                 more: true,
             }),
         },
-        Request::Nothing => write_after(0, stream, cfg, time, payload, buf, ring),
-        Request::Written => write_after(1, stream, cfg, time, payload, buf, ring),
+        Request::Nothing => write_after(0, stream, cfg, time, payload, buf, ring, place),
+        Request::Written => write_after(1, stream, cfg, time, payload, buf, ring, place),
     }
 }

@@ -14,7 +14,7 @@ enum-known-idle : tie.Need-enum-known-idle
 enum-known-idle c = search needs
 
 returns : tie.Need-returns
-returns c = idled-unsent _ _ _ _ _ (c .before .before .before .idle .given .1) (c .if1 .taken)
+returns c = idled-unsent _ _ _ _ (c .if1 .taken)
 
 returns-2 : tie.Need-returns-2
 returns-2 c = idled-early _ _ _ _ _ (c .before .before .before .before .before .idle .given .1) (c .before .before .if1 .left) (c .if2 .taken)

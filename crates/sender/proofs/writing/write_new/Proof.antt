@@ -20,18 +20,20 @@ cast-least c = search needs
 least-requires : tie.Need-least-requires
 least-requires c κs = search needs
 
-sub-index-of : tie.Need-sub-index-of
-sub-index-of c = search needs
+sub-place-of : tie.Need-sub-place-of
+sub-place-of c = search needs
 
-index-of-requires : tie.Need-index-of-requires
-index-of-requires c κs = (valid-good _ _ (c .before .before .before .before .before .before .before .before .before .pre .0), omega (arith, c .least .ensures))
+place-of-requires : tie.Need-place-of-requires
+place-of-requires c κs =
+    let p = c .before .before .before .before .before .before .before .before .before .pre in
+    (valid-good _ _ (p .0), omega (arith, c .least .ensures), λ e. (rw (c .least .ensures) (p .3 e .0), p .3 e .1))
 
 walk-requires : tie.Need-walk-requires
 walk-requires c κs =
     let v = c .before .before .before .before .before .before .before .before .before .before .pre .0 in
     let g = valid-good _ _ v in
     let few = least-few _ _ _ (c .before .least .ensures) in
-    let at = c .index-of .ensures in
+    let at = c .place-of .ensures in
     (at .1, omega (arith, g .ring, g .least), omega (arith, g .ring, g .most), last-short _ _ v _ _ few (at .0), last-words _ _ v _ _ few (at .0))
 
 free-words-requires : tie.Need-free-words-requires
@@ -44,14 +46,14 @@ returns-2 : tie.Need-returns-2
 returns-2 c =
     let start = c .before .before .before .before .before .before .before .before .before .before .before .before .before .before .before .before in
     let w = c .before .before .before .before .before .walk .ensures in
-    let e = w .0 ∙ last-end _ _ (start .pre .0) _ _ (least-few _ _ _ (c .before .before .before .before .before .before .before .least .ensures)) (c .before .before .before .before .before .before .index-of .ensures .0) in
+    let e = w .0 ∙ last-end _ _ (start .pre .0) _ _ (least-few _ _ _ (c .before .before .before .before .before .before .before .least .ensures)) (c .before .before .before .before .before .before .place-of .ensures .0) in
     new-large (start .args .s) (start .args .cfg) (start .args .time) _ _ _ _ (c .before .before .before .before .before .before .before .before .before .before .before .before .if1 .left) _ e (omega (arith, c .before .before .if2 .taken, c .before .before .before .pl .ensures, c .before .before .before .before .free-words .ensures)) (c .if3 .taken)
 
 returns-3 : tie.Need-returns-3
 returns-3 c =
     let start = c .before .before .before .before .before .before .before .before .before .before .before .before .before .before .before .before in
     let w = c .before .before .before .before .before .walk .ensures in
-    let e = w .0 ∙ last-end _ _ (start .pre .0) _ _ (least-few _ _ _ (c .before .before .before .before .before .before .before .least .ensures)) (c .before .before .before .before .before .before .index-of .ensures .0) in
+    let e = w .0 ∙ last-end _ _ (start .pre .0) _ _ (least-few _ _ _ (c .before .before .before .before .before .before .before .least .ensures)) (c .before .before .before .before .before .before .place-of .ensures .0) in
     new-more (start .args .s) (start .args .cfg) (start .args .time) _ _ _ _ (c .before .before .before .before .before .before .before .before .before .before .before .before .if1 .left) _ e (omega (arith, c .before .before .if2 .taken, c .before .before .before .pl .ensures, c .before .before .before .before .free-words .ensures)) (c .if3 .left)
 
 repeats-requires : tie.Need-repeats-requires
@@ -59,7 +61,7 @@ repeats-requires c κs =
     let v = c .before .before .before .before .before .before .before .before .before .before .before .before .before .before .before .pre .0 in
     let g = valid-good _ _ v in
     let few = least-few _ _ _ (c .before .before .before .before .before .before .least .ensures) in
-    let at = c .before .before .before .before .before .index-of .ensures in
+    let at = c .before .before .before .before .before .place-of .ensures in
     let w = c .before .before .before .before .walk .ensures in
     (at .1, omega (arith, g .ring, g .least), omega (arith, g .ring, g .most), last-short _ _ v _ _ few (at .0), w .2, w .1, omega (arith, c .before .if2 .left, c .before .before .pl .ensures, c .before .before .before .free-words .ensures))
 
@@ -68,7 +70,7 @@ write-row-requires c κs =
     let p = c .before .before .before .before .before .before .before .before .before .before .before .before .before .before .before .before .before .pre in
     let few = least-few _ _ _ (c .before .before .before .before .before .before .before .before .least .ensures) in
     let r = c .before .repeats .ensures in
-    (p .0, p .1, p .2, omega (arith, r .1, c .before .before .before .before .before .before .before .before .least .ensures), again-place _ _ (p .0) _ _ few (c .before .before .before .before .before .before .before .index-of .ensures .0) _ _ (r .1) (r .2), r .3, r .4)
+    (p .0, p .1, p .2, omega (arith, r .1, c .before .before .before .before .before .before .before .before .least .ensures), again-place _ _ (p .0) _ _ few (c .before .before .before .before .before .before .before .place-of .ensures .0) _ _ (r .1) (r .2), r .3, r .4)
 
 same-length : tie.Need-same-length
 same-length c = search needs
@@ -78,7 +80,7 @@ returns-4 c =
     let start = c .before .before .before .before .before .before .before .before .before .before .before .before .before .before .before .before .before .before .before .before in
     let v = start .pre .0 in
     let few = least-few _ _ _ (c .before .before .before .before .before .before .before .before .before .before .before .least .ensures) in
-    let at = c .before .before .before .before .before .before .before .before .before .before .index-of .ensures .0 in
+    let at = c .before .before .before .before .before .before .before .before .before .before .place-of .ensures .0 in
     let r = c .before .before .before .before .repeats .ensures in
     let e = c .before .before .before .before .before .before .before .before .before .walk .ensures .0 ∙ last-end _ _ v _ _ few at in
     let a = again-place _ _ v _ _ few at _ _ (r .1) (r .2) in
@@ -92,8 +94,8 @@ write-new-spec =
     sub-written
     cast-least
     least-requires
-    sub-index-of
-    index-of-requires
+    sub-place-of
+    place-of-requires
     walk-requires
     free-words-requires
     pl-requires

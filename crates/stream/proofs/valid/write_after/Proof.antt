@@ -15,8 +15,8 @@ enum-known-answer c = search needs
 enum-known-answer-2 : tie.Need-enum-known-answer-2
 enum-known-answer-2 c = search needs
 
-add-t23 : tie.Need-add-t23
-add-t23 c =
+add-t24 : tie.Need-add-t24
+add-t24 c =
     let pre = c .before .before .before .before .before .before .before .before .before .before .before .before .before .before .before .before .before .pre in
     let few = written-most _ _ _ _ _ _ (pre .2) (pre .3) _ _ _ (c .before .before .before .before .before .before .before .before .before .before .write .ensures) _ (c .before .before .answer2 .given .1) in
     omega (arith, pre .0)
@@ -46,7 +46,7 @@ write-after-spec =
     write-requires
     enum-known-answer
     enum-known-answer-2
-    add-t23
+    add-t24
     same-length
     same-length-2
     returns

@@ -23,7 +23,7 @@ enum-told-2 c = search needs
 write-after-requires : tie.Need-write-after-requires
 write-after-requires c κs =
     let pre = c .before .before .before .before .before .before .before .before .before .before .before .before .before .before .pre in
-    (omega arith, pre .0, valid-sender _ _ (pre .1), taken-valid _ _ _ _ (pre .2) _ _ (c .before .before .before .before .before .before .before .before .write-request .ensures))
+    (omega arith, pre .0, valid-sender _ _ (pre .1), taken-valid _ _ _ _ (pre .2) _ _ (c .before .before .before .before .before .before .before .before .write-request .ensures), pre .3)
 
 enum-told-3 : tie.Need-enum-told-3
 enum-told-3 c = search needs
@@ -31,7 +31,7 @@ enum-told-3 c = search needs
 write-after-requires-2 : tie.Need-write-after-requires-2
 write-after-requires-2 c κs =
     let pre = c .before .before .before .before .before .before .before .before .before .before .before .before .before .before .pre in
-    (omega arith, pre .0, valid-sender _ _ (pre .1), taken-valid _ _ _ _ (pre .2) _ _ (c .before .before .before .before .before .before .before .before .write-request .ensures))
+    (omega arith, pre .0, valid-sender _ _ (pre .1), taken-valid _ _ _ _ (pre .2) _ _ (c .before .before .before .before .before .before .before .before .write-request .ensures), pre .3)
 
 same-length : tie.Need-same-length
 same-length c = search needs

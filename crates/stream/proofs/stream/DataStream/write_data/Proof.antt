@@ -14,15 +14,22 @@ enum-known-why c = search needs
 enum-told : tie.Need-enum-told
 enum-told c = search needs
 
+cast-test : tie.Need-cast-test
+cast-test c = search needs
+
+test-requires : tie.Need-test-requires
+test-requires c κs = search needs
+
 is-valid-requires : tie.Need-is-valid-requires
 is-valid-requires c κs = search needs
 
-is-valid-requires-2 : tie.Need-is-valid-requires-2
-is-valid-requires-2 c κs = search needs
-
 write-data-requires : tie.Need-write-data-requires
-write-data-requires c κs =
-    (sym (c .before .before .before .before .before .before .before .before .before .check .ensures) ∙ c .before .before .before .before .before .before .before .enum-told .given .1, sym (c .before .before .before .before .before .is-valid .ensures) ∙ c .before .before .before .before .if1 .taken, sym (c .before .before .before .is-valid2 .ensures) ∙ c .before .before .if2 .taken)
+write-data-requires c κs = (
+  sym (c .before .before .before .before .before .before .before .before .before .before .check .ensures) ∙ c .before .before .before .before .before .before .before .before .enum-told .given .1,
+  sym (c .before .before .before .before .before .test .ensures .answer) ∙ c .before .before .before .before .if1 .taken,
+  sym (c .before .before .before .is-valid .ensures) ∙ c .before .before .if2 .taken,
+  c .before .before .before .before .before .test .ensures .place (c .before .before .before .before .if1 .taken),
+)
 
 same-length : tie.Need-same-length
 same-length c = search needs
@@ -32,7 +39,7 @@ same-length-2 c = search needs
 
 returns : tie.Need-returns
 returns c =
-    c .before .before .before .before .write-data .ensures ∙ write-written _ _ _ _ _ _ (sym (c .before .before .before .before .before .before .before .before .before .before .before .before .before .before .check .ensures) ∙ c .before .before .before .before .before .before .before .before .before .before .before .before .enum-told .given .1) (sym (c .before .before .before .before .before .before .before .before .before .before .is-valid .ensures) ∙ c .before .before .before .before .before .before .before .before .before .if1 .taken) (sym (c .before .before .before .before .before .before .before .before .is-valid2 .ensures) ∙ c .before .before .before .before .before .before .before .if2 .taken)
+    c .before .before .before .before .write-data .ensures ∙ write-written _ _ _ _ _ _ (sym (c .before .before .before .before .before .before .before .before .before .before .before .before .before .before .before .check .ensures) ∙ c .before .before .before .before .before .before .before .before .before .before .before .before .before .enum-told .given .1) (sym (c .before .before .before .before .before .before .before .before .before .before .test .ensures .answer) ∙ c .before .before .before .before .before .before .before .before .before .if1 .taken) (sym (c .before .before .before .before .before .before .before .before .is-valid .ensures) ∙ c .before .before .before .before .before .before .before .if2 .taken)
 
 returns-2 : tie.Need-returns-2
 returns-2 c = write-settings _ _ _ _ _ _ _ (sym (c .before .before .before .check .ensures) ∙ c .before .why .given .1)
@@ -42,14 +49,13 @@ same-length-3 c = search needs
 
 returns-3 : tie.Need-returns-3
 returns-3 c =
-    write-payload _ _ _ _ _ _ (sym (c .before .before .before .before .before .before .before .check .ensures) ∙ c .before .before .before .before .before .enum-told .given .1) (sym (c .before .before .before .is-valid .ensures) ∙ c .before .before .if1 .taken) (sym (c .before .is-valid2 .ensures) ∙ c .if2 .left)
+    write-payload _ _ _ _ _ _ (sym (c .before .before .before .before .before .before .before .before .check .ensures) ∙ c .before .before .before .before .before .before .enum-told .given .1) (sym (c .before .before .before .test .ensures .answer) ∙ c .before .before .if1 .taken) (sym (c .before .is-valid .ensures) ∙ c .if2 .left)
 
 same-length-4 : tie.Need-same-length-4
 same-length-4 c = search needs
 
 returns-4 : tie.Need-returns-4
-returns-4 c =
-    write-refused _ _ _ _ _ _ (sym (c .before .before .before .before .before .check .ensures) ∙ c .before .before .before .enum-told .given .1) (sym (c .before .is-valid .ensures) ∙ c .if1 .left)
+returns-4 c = write-refused _ _ _ _ _ _ (sym (c .before .before .before .before .before .before .check .ensures) ∙ c .before .before .before .before .enum-told .given .1) (sym (c .before .test .ensures .answer) ∙ c .if1 .left)
 
 pub write-data-spec : {M : Type 1} → statement M
 write-data-spec =
@@ -58,8 +64,9 @@ write-data-spec =
     check-requires
     enum-known-why
     enum-told
+    cast-test
+    test-requires
     is-valid-requires
-    is-valid-requires-2
     write-data-requires
     same-length
     same-length-2
