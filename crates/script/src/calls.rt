@@ -1,74 +1,176 @@
-// One call: its name, its fields, what it runs.
+// One call: its name and fields, and what it runs.
+ghost use Rattle.io.specs.Counts.{Counts};
+use super::answers;
 use super::codec;
-use super::fields;
-use super::names;
-use super::names::Name;
-use super::session::Answer;
-use super::session::Answered;
-use super::session::Part;
 use super::session::Session;
 use super::streams;
-use super::streams::Done;
-use super::streams::Paid;
-use stream::stream::DataStream;
+use text::forms;
+use text::forms::Answer;
+use text::lines;
 
-// What a call leaves and answers.
-pub struct Called {
-    pub session: Session,
-    pub stream: DataStream,
-    pub answer: Answer,
+// The entries of the table in `read`, in its order; 0 is no call.
+pub const CFG: usize = 1;
+
+pub const OPEN: usize = 2;
+
+pub const RAW: usize = 3;
+
+pub const SENDDATA: usize = 4;
+
+pub const SENDREQUEST: usize = 5;
+
+pub const SENDERROR: usize = 6;
+
+pub const NEW: usize = 7;
+
+pub const QUEUE: usize = 8;
+
+pub const REQUEST: usize = 9;
+
+pub const DATA: usize = 10;
+
+pub const POLL: usize = 11;
+
+pub const ERROR: usize = 12;
+
+pub const NAK: usize = 13;
+
+pub const RESET: usize = 14;
+
+pub const DEADLINE: usize = 15;
+
+pub const WANTS: usize = 16;
+
+pub const WRITE: usize = 17;
+
+pub const TAKE: usize = 18;
+
+pub const READ: usize = 19;
+
+pub const PAYLOAD: usize = 20;
+
+pub const BUFFER: usize = 21;
+
+pub const STATE: usize = 22;
+
+pub const MEMORY: usize = 23;
+
+// A call, its figures and bytes in their order, and how many words it has.
+pub struct Call {
+    pub kind: usize,
+    pub words: usize,
+    pub a: u64,
+    pub b: u64,
+    pub c: u64,
+    pub d: u64,
+    pub e: u64,
+    pub f: u64,
+    pub g: u64,
+    pub h: u64,
 }
 
-fn answers(session: Session, stream: DataStream, answer: Answer) -> Called {
-    Called {
-        session,
-        stream,
-        answer,
+// The most words that a call takes.
+fn most(kind: usize) -> usize {
+    match kind {
+        QUEUE => 256,
+        DATA => 255,
+        _ => 300,
     }
 }
 
-fn of_session(stream: DataStream, a: Answered) -> Called {
-    let answer = a.answer;
-    answers(a.session, stream, answer)
-}
-
-fn of_stream(session: Session, d: Done) -> Called {
-    let answer = d.answer;
-    answers(session, d.stream, answer)
-}
-
-fn of_both(session: Session, p: Paid) -> Called {
-    let answer = p.answer;
-    answers(session.with_payload(p.payload), p.stream, answer)
-}
-
-// A call without fields that prints what is there.
-fn show(session: Session, stream: DataStream, line: &[u8], at: usize, part: Part) -> Called {
-    if at != line.len() {
-        return answers(session, stream, Answer::Bad);
+// The call, or 0 where a figure or the words are past what it takes: X 1, BUFFER 2,048.
+fn taken(c: Call, length: usize) -> usize {
+    let kind = c.kind;
+    if lines::LIMIT < length {
+        return 0;
     }
-    answers(session, stream, Answer::Show(part))
+    if most(kind) < c.words {
+        return 0;
+    }
+    match kind {
+        CFG => {
+            if 1 < c.e {
+                return 0;
+            }
+            kind
+        }
+        OPEN => {
+            if 2048 < c.b {
+                return 0;
+            }
+            kind
+        }
+        _ => kind,
+    }
 }
 
-// Runs the call of a line.
-pub fn call(
-    s: Session,
-    stream: DataStream,
-    line: &[u8],
-    bytes: &mut [u8],
-    memory: &mut [u32],
-    buffer: &mut [u8],
-) -> Called {
-    let at = fields::end(line, 0);
-    match names::named(line, at) {
-        Name::Unknown => answers(s, stream, Answer::Bad),
-        Name::Codec(name) => { of_session(stream, codec::call(s, name, line, at, bytes, buffer)) }
-        Name::Stream(name) => of_stream(
-            s,
-            streams::call(s.settings, stream, name, line, at, bytes, memory),
-        ),
-        Name::Write => of_both(s, streams::write(s, stream, line, at, memory, buffer)),
-        Name::Take => of_both(s, streams::take(s, stream, line, at, buffer)),
-        Name::Show(part) => show(s, stream, line, at, part),
+// Reads the call of a line, and its words.
+pub fn read(line: &[u8], words: &mut [u32]) -> Call
+    ensures { λ r. ⌜ Counts (r .words) (now (words .exit)) ⌝ }
+{
+    let mut figures = [0u64; 8];
+    let found = forms::read(
+        b"cfg 44118418|open 88|raw xxx*|senddata 2*|sendrequest 22|senderror 12|\
+        new 888|queue *|request 22|data 82*|poll 8|error 12|nak |reset |deadline |wants 8|\
+        write 8|take |read .|payload |buffer |state |memory |",
+        line,
+        &mut figures,
+        words,
+    );
+    let mut c = Call {
+        kind: found.kind,
+        words: found.words,
+        a: figures[0],
+        b: figures[1],
+        c: figures[2],
+        d: figures[3],
+        e: figures[4],
+        f: figures[5],
+        g: figures[6],
+        h: figures[7],
+    };
+    let kind = taken(c, line.len());
+    c.kind = kind;
+    c
+}
+
+// A figure as wide as its field; the reading has kept it within.
+pub fn byte(n: u64) -> u8 {
+    (n % 0x100) as u8
+}
+
+pub fn half(n: u64) -> u16 {
+    (n % 0x1_0000) as u16
+}
+
+pub fn wide(n: u64) -> u32 {
+    (n % 0x1_0000_0000) as u32
+}
+
+// A line that is no call, and the calls that change nothing.
+fn said(kind: usize) -> Answer {
+    if kind == 0 {
+        return answers::plain(answers::BAD);
+    }
+    answers::plain(answers::SHOWN)
+}
+
+// Runs a call on the words and bytes that are lent to it.
+pub fn run(s: Session, c: Call, words: &[u32], memory: &mut [u32], buffer: &mut [u8]) -> Session {
+    let kind = c.kind;
+    match kind {
+        CFG => codec::cfg(s, c),
+        OPEN => codec::open(s, c, buffer),
+        RAW | SENDDATA | SENDREQUEST | SENDERROR => codec::sends(s, c, words, buffer),
+        NEW => streams::new(s, c, memory),
+        QUEUE => streams::queue(s, words, memory),
+        REQUEST => streams::request(s, c, &memory[..]),
+        DATA => streams::data(s, c),
+        POLL | ERROR | NAK => streams::events(s, c),
+        RESET => streams::reset(s, memory),
+        DEADLINE | WANTS => s.answers(streams::asks(s.stream, c, &memory[..])),
+        WRITE => streams::write(s, c, memory, buffer),
+        TAKE => streams::take(s, buffer),
+        _ => s.answers(said(kind)),
     }
 }

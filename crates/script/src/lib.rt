@@ -18,170 +18,80 @@
 // with # answer nothing. A line that is no call answers `bad`, a refusal `refused N` by its number; in
 // both cases nothing changes but what 01 says.
 //
-// lines gathers a line's bytes; names and fields take it apart; calls, codec and streams run it; show,
-// items and state write the answer; out holds what is still to be written.
+// calls names them and reads their fields; codec and streams run them; answers, items and state say what
+// is printed, and show puts the line together. Lines, fields and output are the crate `text`'s.
+mod answers;
 mod calls;
 mod codec;
-mod fields;
 mod items;
-mod lines;
-mod names;
-mod out;
 mod session;
 mod show;
 mod state;
 mod streams;
 
-ghost use Prim.Native.Nat.{_<_};
-ghost use Rattle.io.specs.Counts.{Counts};
-use out::Out;
+use calls::Call;
 use session::Session;
-use stream::stream::DataStream;
+use text::lines;
+use text::lines::Input;
+use text::out;
 
-// What a run holds between two lines.
-struct Progress {
-    session: Session,
-    stream: DataStream,
-    // The bytes of the line so far.
-    used: usize,
-    out: Out,
-}
-
-impl Progress {
-    // No byte of a line yet.
-    fn new(session: Session, stream: DataStream, out: Out) -> Progress {
-        Progress {
-            session,
-            stream,
-            used: 0,
-            out,
-        }
-    }
-
-    // The line goes on in the next block.
-    fn gathered(mut self, used: usize) -> Progress {
-        self.used = used;
-        self
-    }
-
-    // Writes the answers that wait.
-    fn flushed(mut self, out: &[u8]) -> Progress {
-        let to = self.out;
-        let none = to.flush(out);
-        self.out = none;
-        self
-    }
-}
-
-// A call, and its answer.
+// A call on the words and bytes that are lent to it, and its answer.
 fn answered(
-    p: Progress,
+    s: Session,
+    c: Call,
     line: &[u8],
-    bytes: &mut [u8],
+    words: &[u32],
     memory: &mut [u32],
     buffer: &mut [u8],
     out: &mut [u8],
-) -> Progress {
-    let called = calls::call(p.session, p.stream, line, bytes, memory, buffer);
-    let to = show::line(p.out, out, called, &memory[..], &buffer[..], &bytes[..]);
-    Progress::new(called.session, called.stream, to)
+) -> Session {
+    let mut done = calls::run(s, c, words, memory, buffer);
+    let waits = show::line(out, done, c, line, words, &memory[..], &buffer[..]);
+    done.waits = waits;
+    done
 }
 
 // A line without its end.
 fn whole(
-    p: Progress,
+    s: Session,
     line: &[u8],
-    bytes: &mut [u8],
     memory: &mut [u32],
     buffer: &mut [u8],
     out: &mut [u8],
-) -> Progress {
+) -> Session {
     if lines::skipped(line) {
-        return p.gathered(0);
+        return s;
     }
-    if lines::LIMIT < line.len() {
-        let to = p.out;
-        return Progress::new(p.session, p.stream, to.text(out, b"bad\n"));
-    }
-    answered(p, line, bytes, memory, buffer, out)
+    let mut words = [0u32; 300];
+    let c = calls::read(line, &mut words);
+    let n = c.words;
+    let m = streams::lent(&memory[..], s.words_lent(c));
+    let b = lines::lent(&buffer[..], s.bytes_lent(c));
+    answered(
+        s,
+        c,
+        line,
+        &words[..n],
+        &mut memory[..m],
+        &mut buffer[..b],
+        out,
+    )
 }
 
-// The lines of a block, each answered.
-fn block(
-    first: Progress,
-    input: &[u8],
-    line: &mut [u8],
-    bytes: &mut [u8],
-    memory: &mut [u32],
-    buffer: &mut [u8],
-    out: &mut [u8],
-) -> Progress {
-    let mut state = first;
-    let mut at = 0;
-    while at < input.len() {
-        let part = lines::gather(line, state.used, input, at);
-        if part.at == input.len() {
-            return state.gathered(part.used);
-        }
-        let n = lines::bare(&line[..], part.used);
-        state = whole(state, &line[..n], bytes, memory, buffer, out);
-        at = part.at + 1;
-    }
-    state
-}
-
-// Reads what input there is, as much as there is room for; nothing at its end.
-fn fetch(input: &mut [u8]) -> usize
-    ensures { λ r. ⌜ Counts r (now (input .exit)) ⌝ }
-{
-    let got = libc::read(0, input);
-    io::count(got, &input[..])
-}
-
-// The last line, where no newline ends it.
-fn last(
-    state: Progress,
-    line: &[u8],
-    bytes: &mut [u8],
-    memory: &mut [u32],
-    buffer: &mut [u8],
-    out: &mut [u8],
-) {
-    let n = session::lent(line, state.used);
-    let done = whole(state, &line[..n], bytes, memory, buffer, out);
-    done.flushed(&out[..]);
-}
-
-// The turns that are left after one that has read `n` bytes.
-fn to_go(turns: u64, n: usize) -> u64
-    requires { ⌜ 0 < turns ⌝ }
-    ensures { λ r. ⌜ r < turns ⌝ }
-{
-    if 0 < n {
-        return turns - 1;
-    }
-    0
-}
-
-// Block after block. A proved loop has to end, and nothing says that the input does: it counts down
-// from a number that no run uses up.
-fn all(
-    input: &mut [u8],
-    line: &mut [u8],
-    bytes: &mut [u8],
-    memory: &mut [u32],
-    buffer: &mut [u8],
-    out: &mut [u8],
-) {
-    let mut state = Progress::new(Session::new(), streams::first(memory), Out { used: 0 });
+// Line after line. A proved loop has to end, and nothing says that the input does: it counts down from
+// a number that no run uses up.
+fn all(input: &mut [u8], line: &mut [u8], memory: &mut [u32], buffer: &mut [u8], out: &mut [u8]) {
+    let mut session = streams::first(memory);
+    let mut from = Input::new();
     let mut turns = u64::MAX;
     while 0 < turns {
-        let n = fetch(input);
-        turns = to_go(turns, n);
-        let next = block(state, &input[..n], line, bytes, memory, buffer, out);
-        state = next.flushed(&out[..]);
+        from = lines::next(from, session.waits, input, line, &out[..]);
+        let n = lines::lent(&line[..], from.line);
+        session.waits = from.waits;
+        session = whole(session, &line[..n], memory, buffer, out);
+        turns = lines::to_go(turns, from.more);
     }
-    last(state, &line[..], bytes, memory, buffer, out);
+    out::flush(&out[..], session.waits);
 }
 
 // Reads all of standard input.
@@ -189,15 +99,7 @@ pub fn run() {
     let mut input = io::large_buffer();
     let mut out = io::large_buffer();
     let mut line = [0u8; 4098];
-    let mut bytes = [0u8; 2000];
     let mut memory = [0u32; 32768];
     let mut buffer = [0xAAu8; 2048];
-    all(
-        &mut input,
-        &mut line,
-        &mut bytes,
-        &mut memory,
-        &mut buffer,
-        &mut out,
-    );
+    all(&mut input, &mut line, &mut memory, &mut buffer, &mut out);
 }

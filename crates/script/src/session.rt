@@ -1,84 +1,70 @@
-// What a run holds beside the stream, and the answers to its calls. The bytes and words that are lent
-// lie beside both.
-ghost use Rattle.io.specs.Counts.{Counts};
-use config::refusal::Refusal;
+// What a run holds between two calls. The words and bytes that are lent lie beside it.
+use super::answers;
+use super::calls;
+use super::calls::Call;
 use config::settings::StreamConfig;
 use packet::writer::PayloadWriter;
-use receiver::receiver::Delivery;
-use receiver::receiver::Request;
-use receiver::receiver::StreamEvent;
-use sender::sender::RequestOutcome;
-use sender::sender::Written;
-use stream::stream::Deadline;
-use stream::stream::Wants;
+use stream::stream::DataStream;
+use text::forms::Answer;
 
 pub struct Session {
     pub settings: StreamConfig,
     pub payload: PayloadWriter,
     // How many bytes of the payload buffer are lent.
     pub room: usize,
-}
-
-// What is printed as it stands.
-pub enum Part {
-    Payload,
-    Buffer,
-    State,
-    Memory,
-}
-
-pub enum Answer {
-    Bad,
-    Done,
-    Refused(Refusal),
-    Requested(RequestOutcome),
-    // What the write has written, and the payload's length after it.
-    Written(Written, usize),
-    // The bytes to read, by their number.
-    Read(usize),
-    // A data command, and how many words it has.
-    Heard(Delivery, usize),
-    Event(StreamEvent),
-    Taken(Request),
-    Deadline(Deadline),
-    Wants(Wants),
-    Show(Part),
-}
-
-pub struct Answered {
-    pub session: Session,
+    pub stream: DataStream,
+    // To the last call.
     pub answer: Answer,
+    // The bytes of output that wait to be written.
+    pub waits: usize,
 }
 
 impl Session {
-    // The default settings, and a payload of 1,400 bytes.
-    pub fn new() -> Self {
+    // A run's start: the default settings, and a payload of 1,400 bytes.
+    pub fn new(stream: DataStream) -> Session {
         Session {
             settings: StreamConfig::DEFAULT,
             payload: PayloadWriter { len: 0, max: 1400 },
             room: 1400,
+            stream,
+            answer: answers::plain(answers::DONE),
+            waits: 0,
         }
     }
 
-    pub fn answers(self, answer: Answer) -> Answered {
-        Answered {
-            session: self,
-            answer,
-        }
-    }
-
-    pub fn with_payload(mut self, payload: PayloadWriter) -> Session {
-        self.payload = payload;
+    pub fn answers(mut self, answer: Answer) -> Session {
+        self.answer = answer;
         self
     }
-}
 
-// How many of the first `n` bytes there are.
-pub fn lent(bytes: &[u8], n: usize) -> usize
-    ensures { λ r. ⌜ Counts r (now (bytes .entry)) ⌝ }
-{
-    if bytes.len() < n {
-        return bytes.len();
+    pub fn pays(mut self, payload: PayloadWriter, answer: Answer) -> Session {
+        self.payload = payload;
+        self.answer = answer;
+        self
     }
-    n
+
+    pub fn goes_on(mut self, stream: DataStream, answer: Answer) -> Session {
+        self.stream = stream;
+        self.answer = answer;
+        self
+    }
+
+    // How many words of the memory are lent to a call: those of the stream, or those of the new one.
+    pub fn words_lent(self, c: Call) -> usize {
+        if c.kind == calls::NEW {
+            return c.b as usize;
+        }
+        let stream = self.stream;
+        let sender = stream.sender;
+        let history = sender.history;
+        history.size
+    }
+
+    // How many bytes of the payload buffer.
+    pub fn bytes_lent(self, c: Call) -> usize {
+        if c.kind == calls::OPEN {
+            return c.b as usize;
+        }
+        self.room
+    }
 }

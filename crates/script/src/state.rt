@@ -1,6 +1,7 @@
-// The whole state of a stream as one line, and words of its memory.
-use super::out::Out;
-use super::show;
+// The whole state of a stream as one line.
+use super::answers::bit;
+use super::answers::of;
+use super::answers::plain;
 use command::retransmit::RetransmitRequest;
 use history::history::SendHistory;
 use history::queue::RetransmitQueue;
@@ -10,168 +11,150 @@ use receiver::receiver::Timer;
 use sender::sender::IdleTimer;
 use sender::sender::Sender;
 use stream::stream::DataStream;
-use window::set::Bits;
+use text::forms;
+use text::forms::Answer;
+use text::out;
 use window::window::ReceiveWindow;
 
-// A name, and a figure.
-fn figure(to: Out, out: &mut [u8], name: &[u8], n: u64) -> Out {
-    let named = to.text(out, name);
-    named.decimal(out, n)
+// The entries of the table in `say`, in its order.
+const WINDOW: usize = 0;
+
+const STOPPED: usize = 1;
+
+const RUNNING: usize = 2;
+
+const FLAGS: usize = 3;
+
+const NOT_ASKED: usize = 4;
+
+const ASKED: usize = 5;
+
+const PLACES: usize = 6;
+
+const UNSENT: usize = 7;
+
+const OFF: usize = 8;
+
+const WAITING: usize = 9;
+
+const NONE_WAIT: usize = 10;
+
+const RING: usize = 11;
+
+const FIRST: usize = 12;
+
+const FURTHER: usize = 13;
+
+const HISTORY: usize = 14;
+
+fn say(to: &mut [u8], used: usize, answer: Answer) -> usize {
+    forms::say(
+        to,
+        used,
+        b"highest # bits @@| timer -| timer #,#| due # refused #| asked -| asked #,#| \
+        head # used # count # oldest #| last # unsent # unsentwords #| idle -| idle #,#,#| \
+        ring -| ring |#,#|;#,#| history |",
+        answer,
+    )
 }
 
-// A name, and 0 or 1.
-fn flag(to: Out, out: &mut [u8], name: &[u8], is: bool) -> Out {
-    let named = to.text(out, name);
-    show::flag(named, out, is)
+fn window(w: ReceiveWindow) -> Answer {
+    let b = w.bits;
+    of(WINDOW, w.highest as u64, b.high, b.low)
 }
 
-// Two figures, joined by a comma.
-fn pair(to: Out, out: &mut [u8], a: u64, b: u64) -> Out {
-    let first = to.decimal(out, a);
-    let comma = first.byte(out, b',');
-    comma.decimal(out, b)
-}
-
-// 64 bits as 16 digits.
-fn half(to: Out, out: &mut [u8], n: u64) -> Out {
-    let high = to.word(out, (n / 0x1_0000_0000) as u32);
-    high.word(out, (n % 0x1_0000_0000) as u32)
-}
-
-fn bits(to: Out, out: &mut [u8], b: Bits) -> Out {
-    let high = half(to, out, b.high);
-    half(high, out, b.low)
-}
-
-fn timer(to: Out, out: &mut [u8], t: Timer) -> Out {
-    let named = to.text(out, b" timer ");
+fn timer(t: Timer) -> Answer {
     match t {
-        Timer::Stopped => named.byte(out, b'-'),
-        Timer::Running(r) => pair(named, out, r.due, r.sent as u64),
+        Timer::Stopped => plain(STOPPED),
+        Timer::Running(r) => of(RUNNING, r.due, r.sent as u64, 0),
     }
 }
 
-fn request(to: Out, out: &mut [u8], q: RetransmitRequest) -> Out {
-    pair(to, out, q.seq as u64, q.count as u64)
-}
-
-fn asked(to: Out, out: &mut [u8], a: Asked) -> Out {
-    let named = to.text(out, b" asked ");
+fn asked(a: Asked) -> Answer {
     match a {
-        Asked::Nothing => named.byte(out, b'-'),
-        Asked::Request(q) => request(named, out, q),
+        Asked::Nothing => plain(NOT_ASKED),
+        Asked::Request(q) => of(ASKED, q.seq as u64, q.count as u64, 0),
     }
 }
 
-fn window(to: Out, out: &mut [u8], w: ReceiveWindow) -> Out {
-    let one = figure(to, out, b"highest ", w.highest as u64);
-    bits(one.text(out, b" bits "), out, w.bits)
-}
-
-fn receiver(to: Out, out: &mut [u8], r: Receiver) -> Out {
+fn receiver(to: &mut [u8], used: usize, r: Receiver) -> usize {
     let t = r.timer;
     let a = r.asked;
-    let one = window(to, out, r.window);
-    let two = timer(one, out, t);
-    let three = flag(two, out, b" due ", r.request_due);
-    let four = flag(three, out, b" refused ", r.refused);
-    asked(four, out, a)
+    let one = say(to, used, window(r.window));
+    let two = say(to, one, timer(t));
+    let three = say(to, two, of(FLAGS, bit(r.request_due), bit(r.refused), 0));
+    say(to, three, asked(a))
 }
 
-fn places(to: Out, out: &mut [u8], h: SendHistory) -> Out {
-    let one = figure(to, out, b" head ", h.head as u64);
-    let two = figure(one, out, b" used ", h.used as u64);
-    let three = figure(two, out, b" count ", h.count as u64);
-    let four = figure(three, out, b" oldest ", h.oldest as u64);
-    figure(four, out, b" last ", h.last as u64)
+fn places(h: SendHistory) -> Answer {
+    Answer {
+        form: PLACES,
+        a: h.head as u64,
+        b: h.used as u64,
+        c: h.count as u64,
+        d: h.oldest as u64,
+    }
 }
 
-fn idle(to: Out, out: &mut [u8], i: IdleTimer) -> Out {
-    let named = to.text(out, b" idle ");
+fn unsent(last: usize, commands: usize, words: usize) -> Answer {
+    of(UNSENT, last as u64, commands as u64, words as u64)
+}
+
+fn idle(i: IdleTimer) -> Answer {
     match i {
-        IdleTimer::Off => named.byte(out, b'-'),
-        IdleTimer::Waiting(w) => {
-            let first = pair(named, out, w.due, w.step as u64);
-            let comma = first.byte(out, b',');
-            comma.decimal(out, w.interval)
-        }
+        IdleTimer::Off => plain(OFF),
+        IdleTimer::Waiting(w) => of(WAITING, w.due, w.step as u64, w.interval),
     }
 }
 
-// The place after `at` in a ring of `size` places.
-fn after(at: usize, size: usize) -> usize {
-    if at < size {
-        if at + 1 < size {
-            return at + 1;
-        }
+// The ring's name, and whether a request follows.
+fn ring(waiting: usize) -> Answer {
+    if waiting == 0 {
+        return plain(NONE_WAIT);
     }
-    0
+    plain(RING)
+}
+
+// A request, which is the oldest at 0.
+fn request(q: RetransmitRequest, place: usize) -> Answer {
+    if place == 0 {
+        return of(FIRST, q.seq as u64, q.count as u64, 0);
+    }
+    of(FURTHER, q.seq as u64, q.count as u64, 0)
 }
 
 // The requests that wait, oldest first.
-fn waiting(to: Out, out: &mut [u8], q: RetransmitQueue) -> Out {
-    if q.len == 0 {
-        return to.byte(out, b'-');
-    }
+fn waiting(to: &mut [u8], used: usize, q: RetransmitQueue) -> usize {
     let items = q.items;
+    let mut o = say(to, used, ring(q.len));
     let mut at = q.head;
-    let mut o = request(to, out, items[at % 16]);
-    let mut i = 1;
+    let mut i = 0;
     while i < q.len {
-        at = after(at, q.size);
-        o = request(o.byte(out, b';'), out, items[at % 16]);
+        o = say(to, o, request(items[at % 16], i));
+        at = out::after(at, q.size);
         i += 1;
     }
     o
 }
 
-fn word_at(ring: &[u32], at: usize) -> u32 {
-    if at < ring.len() {
-        return ring[at];
-    }
-    0
-}
-
-// `n` words of the ring from place `head` on, round its end; `-` for none.
-pub fn words(to: Out, out: &mut [u8], ring: &[u32], head: usize, n: usize) -> Out {
-    if n == 0 {
-        return to.byte(out, b'-');
-    }
-    let mut o = to;
-    let mut at = head;
-    let mut k = 0;
-    while k < n {
-        o = o.word(out, word_at(ring, at));
-        at = after(at, ring.len());
-        k += 1;
-    }
-    o
-}
-
-fn unsent(to: Out, out: &mut [u8], s: Sender) -> Out {
-    let one = figure(to, out, b" unsent ", s.unsent as u64);
-    figure(one, out, b" unsentwords ", s.unsent_words as u64)
-}
-
-fn queue(to: Out, out: &mut [u8], q: RetransmitQueue) -> Out {
-    waiting(to.text(out, b" ring "), out, q)
-}
-
-fn history(to: Out, out: &mut [u8], h: SendHistory, ring: &[u32]) -> Out {
-    words(to.text(out, b" history "), out, ring, h.head, h.used)
-}
-
-fn sender(to: Out, out: &mut [u8], s: Sender, ring: &[u32]) -> Out {
+// The places and counts of the history, and the idle timer.
+fn figures(to: &mut [u8], used: usize, s: Sender) -> usize {
     let h = s.history;
     let i = s.idle;
-    let one = places(to, out, h);
-    let two = unsent(one, out, s);
-    let three = idle(two, out, i);
-    let four = queue(three, out, s.queue);
-    history(four, out, h, ring)
+    let one = say(to, used, places(h));
+    let two = say(to, one, unsent(h.last, s.unsent, s.unsent_words));
+    say(to, two, idle(i))
 }
 
-pub fn all(to: Out, out: &mut [u8], s: DataStream, ring: &[u32]) -> Out {
-    let heard = receiver(to, out, s.receiver);
-    sender(heard, out, s.sender, ring)
+fn sender(to: &mut [u8], used: usize, s: Sender, memory: &[u32]) -> usize {
+    let h = s.history;
+    let one = figures(to, used, s);
+    let two = waiting(to, one, s.queue);
+    let three = say(to, two, plain(HISTORY));
+    out::words(to, three, memory, h.head, h.used)
+}
+
+pub fn all(to: &mut [u8], used: usize, s: DataStream, memory: &[u32]) -> usize {
+    let o = receiver(to, used, s.receiver);
+    sender(to, o, s.sender, memory)
 }

@@ -7,56 +7,50 @@ use Rattle.script.proofs.all.Statement.{statement}
 use Rattle.script.proofs.all.Tie as tie
 
 abbrev Inv-loop : tie.InvT-loop
-Inv-loop input₀ line₀ bytes₀ memory₀ buffer₀ out₀ state₀ turns₀ input line bytes memory buffer out state turns = (length input ≡ length input₀)
-    × (length line ≡ length line₀)
-    × (length bytes ≡ length bytes₀)
-    × (length memory ≡ length memory₀)
-    × (length buffer ≡ length buffer₀)
-    × (length out ≡ length out₀)
+Inv-loop input₀ line₀ memory₀ buffer₀ out₀ session₀ from₀ turns₀ input line memory buffer out session from turns =
+    (length input ≡ length input₀) × (length line ≡ length line₀) × (length memory ≡ length memory₀) × (length buffer ≡ length buffer₀) × (length out ≡ length out₀)
 
 abbrev μ-loop : tie.MeasureT-loop
-μ-loop input₀ line₀ bytes₀ memory₀ buffer₀ out₀ state₀ turns₀ input line bytes memory buffer out state turns = turns
-
-new-requires : tie.Need-new-requires Inv-loop μ-loop
-new-requires c κs = search needs
+μ-loop input₀ line₀ memory₀ buffer₀ out₀ session₀ from₀ turns₀ input line memory buffer out session from turns =
+    turns
 
 first-requires : tie.Need-first-requires Inv-loop μ-loop
 first-requires c κs = search needs
 
-new-requires-2 : tie.Need-new-requires-2 Inv-loop μ-loop
-new-requires-2 c κs = search needs
+new-requires : tie.Need-new-requires Inv-loop μ-loop
+new-requires c κs = search needs
 
 loop-holds : tie.Need-loop-holds Inv-loop μ-loop
 loop-holds c = search needs
 
-fetch-requires : tie.Need-fetch-requires Inv-loop μ-loop
-fetch-requires c κs = search needs
+next-requires : tie.Need-next-requires Inv-loop μ-loop
+next-requires c κs = search needs
+
+lent-requires : tie.Need-lent-requires Inv-loop μ-loop
+lent-requires c κs = search needs
+
+slice-reshare-prefix-whole : tie.Need-slice-reshare-prefix-whole Inv-loop μ-loop
+slice-reshare-prefix-whole c = search needs
+
+slice-aggregate-whole : tie.Need-slice-aggregate-whole Inv-loop μ-loop
+slice-aggregate-whole c = search needs
+
+whole-requires : tie.Need-whole-requires Inv-loop μ-loop
+whole-requires c κs = search needs
 
 to-go-requires : tie.Need-to-go-requires Inv-loop μ-loop
 to-go-requires c κs = search needs
 
-slice-reshare-prefix-block : tie.Need-slice-reshare-prefix-block Inv-loop μ-loop
-slice-reshare-prefix-block c = search needs
-
-slice-aggregate-block : tie.Need-slice-aggregate-block Inv-loop μ-loop
-slice-aggregate-block c = search needs
-
-block-requires : tie.Need-block-requires Inv-loop μ-loop
-block-requires c κs = search needs
-
-flushed-requires : tie.Need-flushed-requires Inv-loop μ-loop
-flushed-requires c κs = search needs
-
 loop-less : tie.Need-loop-less Inv-loop μ-loop
-loop-less c = omega (arith, c .before .before .before .before .before .before .before .before .before .before .before .before)
+loop-less c = omega (arith, c .before .before .before .before .before .before .before .before .before .before .before .before .before .before .before .before .before .before .before .before .before .before)
 
 loop-again : tie.Need-loop-again Inv-loop μ-loop
 loop-again c =
-    let block = c .before .before .before .before .before .before .before .before .before .before .before in
-    omega (arith, block, block .before .before .before .before .before .before .before .before)
+    let line = c .before .before .before .before .before .before .before .before .before .before .before .before in
+    omega (arith, line, line .before .before .before .before .before .before .before .before .before .before)
 
-last-requires : tie.Need-last-requires Inv-loop μ-loop
-last-requires c κs = search needs
+flush-requires : tie.Need-flush-requires Inv-loop μ-loop
+flush-requires c κs = search needs
 
 same-length : tie.Need-same-length Inv-loop μ-loop
 same-length c = search needs
@@ -73,9 +67,6 @@ same-length-4 c = search needs
 same-length-5 : tie.Need-same-length-5 Inv-loop μ-loop
 same-length-5 c = search needs
 
-same-length-6 : tie.Need-same-length-6 Inv-loop μ-loop
-same-length-6 c = search needs
-
 returns : tie.Need-returns Inv-loop μ-loop
 returns c = search needs
 
@@ -85,23 +76,21 @@ all-spec =
     (tie.spec
     Inv-loop
     μ-loop
-    new-requires
     first-requires
-    new-requires-2
+    new-requires
     loop-holds
-    fetch-requires
+    next-requires
+    lent-requires
+    slice-reshare-prefix-whole
+    slice-aggregate-whole
+    whole-requires
     to-go-requires
-    slice-reshare-prefix-block
-    slice-aggregate-block
-    block-requires
-    flushed-requires
     loop-less
     loop-again
-    last-requires
+    flush-requires
     same-length
     same-length-2
     same-length-3
     same-length-4
     same-length-5
-    same-length-6
     returns)

@@ -1,10 +1,9 @@
--- The index stays below the buffer's length.
-use borrow.Author.Needs.{needs}
-use native.Mathlib.Omega.{arith}
-use lib.ListN.{length}
-use mathlib.Core.Path.{_≡_}
+-- The index stays below the length, and the buffer keeps its own.
 use Prim.Native.Nat.{_-_, _≤_}
-use lib.ListN.{length-set}
+use borrow.Author.Needs.{needs}
+use lib.ListN.{length, length-set}
+use mathlib.Core.Path.{_≡_}
+use native.Mathlib.Omega.{arith}
 use Rattle.script.proofs.codec.fill.Statement.{statement}
 use Rattle.script.proofs.codec.fill.Tie as tie
 

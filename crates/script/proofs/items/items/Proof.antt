@@ -1,19 +1,19 @@
 -- Each command leads on, up to the payload's end.
+use Prim.Native.Nat.{_-_, _≤_}
+use Rattle.packet.proofs.Reading.{next-advances}
 use borrow.Author.Needs.{needs}
-use native.Mathlib.Omega.{arith}
 use lib.ListN.{length}
 use mathlib.Core.Path.{_≡_}
-use Prim.Native.Nat.{_-_, _≤_}
 use mathlib.Core.Path.{sym, _∙_}
-use Rattle.packet.proofs.Reading.{next-advances}
+use native.Mathlib.Omega.{arith}
 use Rattle.script.proofs.items.items.Statement.{statement}
 use Rattle.script.proofs.items.items.Tie as tie
 
 abbrev Inv-loop : tie.InvT-loop
-Inv-loop out₀ payload from o₀ at₀ out o at = (at ≤ length payload) × (length out ≡ length out₀)
+Inv-loop to₀ used bytes from o₀ at₀ to o at = (at ≤ length bytes) × (length to ≡ length to₀)
 
 abbrev μ-loop : tie.MeasureT-loop
-μ-loop out₀ payload from o₀ at₀ out o at = length payload - at
+μ-loop to₀ used bytes from o₀ at₀ to o at = length bytes - at
 
 returns : tie.Need-returns Inv-loop μ-loop
 returns c = search needs
@@ -49,6 +49,9 @@ enum-known-header-2 c = c .match .keys2
 cut-requires : tie.Need-cut-requires Inv-loop μ-loop
 cut-requires c κs = search needs
 
+say-requires : tie.Need-say-requires Inv-loop μ-loop
+say-requires c κs = search needs
+
 same-length : tie.Need-same-length Inv-loop μ-loop
 same-length c = search needs
 
@@ -80,6 +83,7 @@ items-spec =
     loop-again
     enum-known-header-2
     cut-requires
+    say-requires
     same-length
     returns-2
     enum-told

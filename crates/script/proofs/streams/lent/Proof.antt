@@ -1,6 +1,6 @@
--- The number was tested against the length.
-use borrow.Author.Needs.{needs}
+-- The number was tested against the memory's length.
 use Rattle.io.proofs.Counting.{counts}
+use borrow.Author.Needs.{needs}
 use Rattle.script.proofs.streams.lent.Statement.{statement}
 use Rattle.script.proofs.streams.lent.Tie as tie
 
