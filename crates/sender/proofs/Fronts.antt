@@ -123,18 +123,20 @@ pub record Part (n : ℕ) (ws : List ℕ) : Type 0 where
   pub part : front n ws ≡ take (length (front n ws)) ws
   pub fits : length (front n ws) ≤ length ws
   pub few : length (front n ws) ≤ n
+  pub all : length ws ≤ n → length ws ≡ length (front n ws)
   pub rest : wholeOf (behind n ws) ≡ true
   pub clear : (max : ℕ) → above max ws ≡ false → above max (behind n ws) ≡ false
 
 -- nothing is taken
-part-none : (n : ℕ) (ws : List ℕ) → wholeOf ws ≡ true → front n ws ≡ [] → Part n ws
+part-none : (n : ℕ) (ws : List ℕ) → wholeOf ws ≡ true → (length ws ≤ n → length ws ≡ 0) → front n ws ≡ [] → Part n ws
 unfolding behind
-part-none n ws w e =
+part-none n ws w a e =
     let z : length (front n ws) ≡ 0 = ap length e in
     record {
       part = rw z e;
       fits = omega arith;
       few = omega arith;
+      all = λ h. omega (arith, a h);
       rest = rw z w;
       clear = λ max a. rw z a;
     }
@@ -158,14 +160,15 @@ part-more n m ws f h p =
       part = front-more ws m n f h ∙ ap (λ (x : List ℕ). take m ws ++ x) (p .part) ∙ rw l (sym (take-add m k ws));
       fits = omega (arith, p .fits, f .fits, length-drop m ws);
       few = omega (arith, p .few);
+      all = λ h. omega (arith, p .all (omega (arith, length-drop m ws)), f .fits, length-drop m ws);
       rest = rw d (p .rest);
       clear = λ max a. rw d (p .clear max (clear-first ws m max f a .1));
     }
 
 part-in : (f n : ℕ) (ws : List ℕ) → length ws ≤ f → wholeOf ws ≡ true → Part n ws
-part-in zero n [] l w = part-none n [] w (front-nil n)
+part-in zero n [] l w = part-none n [] w (λ h. refl) (front-nil n)
 part-in zero n (x ∷ ws) l w = absurd (let z : ⊥ = omega arith in z)
-part-in (suc f) n [] l w = part-none n [] w (front-nil n)
+part-in (suc f) n [] l w = part-none n [] w (λ h. refl) (front-nil n)
 part-in (suc f) n (x ∷ ws) l w =
     let g = first-of x ws w in
     let m : ℕ = messageWords x in
@@ -173,7 +176,7 @@ part-in (suc f) n (x ∷ ws) l w =
       | inl k ↦
           part-more n m (x ∷ ws) g (leb-true _ _ k)
           (part-in f (n - m) (drop m (x ∷ ws)) (omega (arith, length-drop m (x ∷ ws), g .some, g .fits)) (g .rest))
-      | inr k ↦ part-none n (x ∷ ws) w (front-stop (x ∷ ws) m n g (leb-false _ _ k))
+      | inr k ↦ part-none n (x ∷ ws) w (λ h. absurd (let z : ⊥ = omega (arith, leb-false m n k, g .fits) in z)) (front-stop (x ∷ ws) m n g (leb-false _ _ k))
     ]
 
 pub part-of : (n : ℕ) (ws : List ℕ) → wholeOf ws ≡ true → Part n ws

@@ -15,6 +15,9 @@ pub fn front_words(words: &[u32], n: usize) -> usize
     requires { ⌜ wholeOf (now words) ≡ true ⌝ }
     ensures { λ r. ⌜ (r ≡ length (front n (now (words .entry)))) × (r ≤ length (now (words .entry))) × (r ≤ n) ⌝ }
 {
+    if words.len() <= n {
+        return words.len();
+    }
     let mut at = 0;
     while at < words.len() {
         let m = message_words(words[at]);

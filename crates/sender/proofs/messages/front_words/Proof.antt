@@ -7,7 +7,7 @@ use borrow.Author.Needs.{needs}
 use lib.ListN.{length, drop}
 use Rattle.command.specs.Messages.{wholeOf}
 use Rattle.sender.specs.Commands.{front}
-use Rattle.sender.proofs.Fronts.{front-start, turn-fits, turn-whole, front-turn, front-here, front-end}
+use Rattle.sender.proofs.Fronts.{front-start, turn-fits, turn-whole, front-turn, front-here, front-end, part-of}
 use Rattle.sender.proofs.messages.front_words.Statement.{statement}
 use Rattle.sender.proofs.messages.front_words.Tie as tie
 
@@ -21,6 +21,9 @@ Inv-loop words n at₀ at =
 abbrev μ-loop : tie.MeasureT-loop
 μ-loop words n at₀ at = length words - at
 
+returns : tie.Need-returns Inv-loop μ-loop
+returns c = (part-of _ _ (c .before .before .pre) .all (c .if1 .taken), omega arith, c .if1 .taken)
+
 loop-holds : tie.Need-loop-holds Inv-loop μ-loop
 loop-holds c = (omega arith, omega arith, search needs, front-start _ _)
 
@@ -33,13 +36,13 @@ shared-slice-read-message-words c = search needs
 message-words-requires : tie.Need-message-words-requires Inv-loop μ-loop
 message-words-requires c κs = search needs
 
-sub-if1 : tie.Need-sub-if1 Inv-loop μ-loop
-sub-if1 c = search needs
+sub-if2 : tie.Need-sub-if2 Inv-loop μ-loop
+sub-if2 c = search needs
 
-returns : tie.Need-returns Inv-loop μ-loop
-returns c =
+returns-2 : tie.Need-returns-2 Inv-loop μ-loop
+returns-2 c =
     let turn = c .before .before .before in
-    (front-here _ _ (turn .loop-test .taken) (turn .before .loop .inv .2) _ (c .before .message-words .ensures .0) _ _ (turn .before .loop .inv .3) (c .if1 .taken), omega arith, omega arith)
+    (front-here _ _ (turn .loop-test .taken) (turn .before .loop .inv .2) _ (c .before .message-words .ensures .0) _ _ (turn .before .loop .inv .3) (c .if2 .taken), omega arith, omega arith)
 
 add-at : tie.Need-add-at Inv-loop μ-loop
 add-at c =
@@ -54,10 +57,10 @@ loop-again c =
     let turn = c .before .before .before in
     let l = turn .before .loop in
     let m = c .before .message-words .ensures .0 in
-    (omega (arith, turn-fits _ _ (turn .loop-test .taken) (l .inv .2) _ m), omega arith, turn-whole _ _ (turn .loop-test .taken) (l .inv .2) _ m, front-turn _ _ (turn .loop-test .taken) (l .inv .2) _ m _ _ (l .inv .3) (c .if1 .left))
+    (omega (arith, turn-fits _ _ (turn .loop-test .taken) (l .inv .2) _ m), omega arith, turn-whole _ _ (turn .loop-test .taken) (l .inv .2) _ m, front-turn _ _ (turn .loop-test .taken) (l .inv .2) _ m _ _ (l .inv .3) (c .if2 .left))
 
-returns-2 : tie.Need-returns-2 Inv-loop μ-loop
-returns-2 c =
+returns-3 : tie.Need-returns-3 Inv-loop μ-loop
+returns-3 c =
     let l = c .before .loop in
     (front-end _ _ _ _ (c .loop-test .left) (l .inv .3), omega arith, omega arith)
 
@@ -67,13 +70,14 @@ front-words-spec =
     (tie.spec
     Inv-loop
     μ-loop
+    returns
     loop-holds
     mul-message-words
     shared-slice-read-message-words
     message-words-requires
-    sub-if1
-    returns
+    sub-if2
+    returns-2
     add-at
     loop-less
     loop-again
-    returns-2)
+    returns-3)
