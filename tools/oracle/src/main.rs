@@ -1,7 +1,5 @@
 //! Answers the call script on standard input with the Rust: one line for each call. The script is that of
 //! the program `replay`. Everything that is not the Rust's own answer is in `normal.rs`.
-include!(concat!(env!("OUT_DIR"), "/source.rs"));
-mod identity;
 mod line;
 mod normal;
 mod world;

@@ -1,7 +1,7 @@
 //! What is not the Rust's own answer: the intended differences (docs/DIFFERENCES.md), in one place.
-use crate::command::CommandError;
-use crate::packet::PacketError;
-use crate::stream::{StreamConfig, StreamError};
+use zmidi_net::command::CommandError;
+use zmidi_net::packet::PacketError;
+use zmidi_net::stream::{StreamConfig, StreamError};
 
 /// The number of each refusal.
 pub fn packet(e: PacketError) -> u32 {

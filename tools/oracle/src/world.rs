@@ -2,11 +2,11 @@
 //!
 //! The ends are held apart, not as a `DataStream`, since the script takes a due request alone; `write` and
 //! `reset`, the deadline and `wants` are put together as `DataStream` does.
-use crate::command::{RetransmitError, RetransmitErrorReason, RetransmitRequest, SeqNum, UmpData};
+use zmidi_net::command::{RetransmitError, RetransmitErrorReason, RetransmitRequest, SeqNum, UmpData};
 use crate::line::Call;
 use crate::normal;
-use crate::packet::{command_packets, Header, MaxPayload, PacketItem, PayloadWriter, RawCommand};
-use crate::stream::{
+use zmidi_net::packet::{command_packets, Header, MaxPayload, PacketItem, PayloadWriter, RawCommand};
+use zmidi_net::stream::{
     Class, Ignored, Receiver, RequestOutcome, Sender, SeqRange, StreamConfig, StreamError, StreamEvent, Written,
 };
 

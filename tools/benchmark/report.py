@@ -1,0 +1,135 @@
+"""The page and the plot of a run of the benchmark."""
+import os
+
+here = os.path.dirname(os.path.abspath(__file__))
+
+
+def without(row, key):
+    """Of a row, what is left without its state tests."""
+    if "tests" not in row:
+        return None
+    if key == "time":
+        return row["ours"][0] - row["tests"][0]
+    return row["ours_count"] - row["tests_count"]
+
+
+def figure(x):
+    return "" if x is None else "%.1f" % x if x < 100 else "%.0f" % x
+
+
+def ratio(a, b):
+    return "" if a is None else "%.2f" % (a / b)
+
+
+def spread(side):
+    median, low, high = side
+    return "%.0f%%" % (100 * (high - low) / median)
+
+
+def table(rows):
+    lines = [
+        "| row | ns | tests | Rust | ratio | without tests | spread | instructions | tests | Rust | ratio | without tests |",
+        "|---|--:|--:|--:|--:|--:|--:|--:|--:|--:|--:|--:|",
+    ]
+    for r in rows:
+        tests, count = r.get("tests", (None,))[0], r.get("tests_count")
+        lines.append("| %s | %s | %s | %s | **%s** | %s | %s, %s | %s | %s | %s | **%s** | %s |" % (
+            r["name"], figure(r["ours"][0]), figure(tests), figure(r["rust"][0]), ratio(r["ours"][0], r["rust"][0]),
+            ratio(without(r, "time"), r["rust"][0]), spread(r["ours"]), spread(r["rust"]),
+            figure(r["ours_count"]), figure(count), figure(r["rust_count"]), ratio(r["ours_count"], r["rust_count"]),
+            ratio(without(r, "count"), r["rust_count"])))
+    return "\n".join(lines)
+
+
+def growth(rows):
+    lines = ["| row | ns | Rust | ratio | instructions | Rust | ratio |", "|---|--:|--:|--:|--:|--:|--:|"]
+    for r in rows:
+        lines.append("| %s | %s | %s | %s | %s | %s | %s |" % (
+            r["name"], figure(r["ours"][0]), figure(r["rust"][0]), ratio(r["ours"][0], r["rust"][0]),
+            figure(r["ours_count"]), figure(r["rust_count"]), ratio(r["ours_count"], r["rust_count"])))
+    return "\n".join(lines)
+
+
+def stacks(rows):
+    lines = ["| row | this library | the Rust |", "|---|--:|--:|"]
+    return "\n".join(lines + ["| %s | %d | %d |" % (r["name"], *r["stack"]) for r in rows])
+
+
+def page(machine, rounds, rows, ours, rust):
+    plain = [r for r in rows if not r["series"]]
+    text = open(here + "/page.md").read()
+    return text.format(
+        machine=machine, rounds=rounds, table=table(plain), growth=growth([r for r in rows if r["series"]]),
+        ours=sum(ours.values()), exports=sum(1 for n in ours if n.startswith("sirmjold_")), rust=sum(rust.values()),
+        stacks=stacks([r for r in plain if not r["name"].startswith("the same")]))
+
+
+# ---- the plot
+BLUE, PALE, GREY = "#2b6cb0", "#a3c4e8", "#777777"
+
+
+def text(x, y, words, size=11, anchor="start", colour="#222222"):
+    return '<text x="%.1f" y="%.1f" font-size="%d" text-anchor="%s" fill="%s">%s</text>' % (x, y, size, anchor, colour, words)
+
+
+def line(x1, y1, x2, y2, colour, width=1.0, dash=""):
+    dash = ' stroke-dasharray="%s"' % dash if dash else ""
+    return '<line x1="%.1f" y1="%.1f" x2="%.1f" y2="%.1f" stroke="%s" stroke-width="%.1f"%s/>' % (x1, y1, x2, y2, colour, width, dash)
+
+
+def bars(rows, left, top, width):
+    """Time as a part of the Rust's: with the state tests, and without them where they walk a history."""
+    most, step = 4.0, 17
+    scale = width / most
+    parts = [text(left, top - 26, "time, the Rust's = 1", 13)]
+    for k in range(int(most) + 1):
+        x = left + k * scale
+        parts += [line(x, top - 6, x, top + len(rows) * step, "#222222" if k == 1 else "#dddddd"), text(x, top - 10, k, 10, "middle", GREY)]
+    for i, r in enumerate(rows):
+        y = top + i * step
+        whole = r["ours"][0] / r["rust"][0]
+        part = without(r, "time")
+        shown = min(whole, most) * scale
+        parts.append('<rect x="%.1f" y="%.1f" width="%.1f" height="11" fill="%s"/>' % (left, y, shown, PALE if part is not None else BLUE))
+        if part is not None:
+            parts.append('<rect x="%.1f" y="%.1f" width="%.1f" height="11" fill="%s"/>' % (left, y, min(part / r["rust"][0], most) * scale, BLUE))
+        parts += [text(left - 6, y + 9, r["name"], 10, "end"), text(left + shown + 4, y + 9, "%.2f" % whole, 10, "start", GREY)]
+    return parts, top + len(rows) * step
+
+
+def curve(rows, title, left, top, width, height):
+    """ns against a size, both in powers of two."""
+    from math import log2
+    xs = [log2(max(1, int(r["series"][1]))) for r in rows]
+    values = [r[side][0] for r in rows for side in ("ours", "rust")]
+    low, high = log2(min(values)) - 0.3, log2(max(values)) + 0.3
+    wide = max(xs) - min(xs) or 1
+
+    def at(r, side):
+        x = left + (log2(max(1, int(r["series"][1]))) - min(xs)) / wide * width
+        return x, top + height - (log2(r[side][0]) - low) / (high - low) * height
+    parts = [text(left, top - 8, title, 11), line(left, top + height, left + width, top + height, GREY), line(left, top, left, top + height, GREY)]
+    for r in rows:
+        parts.append(text(at(r, "ours")[0], top + height + 13, r["series"][1], 9, "middle", GREY))
+    for side, colour in (("ours", BLUE), ("rust", GREY)):
+        points = [at(r, side) for r in rows]
+        parts.append('<polyline points="%s" fill="none" stroke="%s" stroke-width="1.6"/>' % (" ".join("%.1f,%.1f" % p for p in points), colour))
+        for (x, y), r in ((points[0], rows[0]), (points[-1], rows[-1])):
+            parts.append(text(x, y - 4, "%.0f" % r[side][0], 9, "middle", colour))
+    return parts
+
+
+def plot(rows):
+    plain = [r for r in rows if not r["series"]]
+    parts, bottom = bars(plain, 300, 60, 400)
+    parts += [text(300, bottom + 18, "dark: without the walk of the state test, where the row has one", 10, "start", GREY)]
+    titles = {}
+    for r in rows:
+        if r["series"]:
+            titles.setdefault(r["name"].rsplit(",", 1)[0], []).append(r)
+    y = bottom + 60
+    for i, (title, group) in enumerate(titles.items()):
+        parts += curve(group, title + " (ns)", 60 + i % 2 * 380, y + i // 2 * 190, 320, 130)
+    parts.append(text(60, y + 2 * 190, "blue: this library; grey: the Rust; both axes in powers of two", 10, "start", GREY))
+    return ('<svg xmlns="http://www.w3.org/2000/svg" width="800" height="%d" font-family="sans-serif">\n<rect width="100%%" height="100%%" fill="white"/>\n%s\n</svg>\n'
+            % (y + 2 * 190 + 20, "\n".join(parts)))

@@ -1,0 +1,163 @@
+//! The library's side, by its C functions.
+use crate::raw::{self, Delivery, STREAM_WORDS};
+use crate::side::{LARGE, LIMIT, PLACES, SMALL, Side, Stream, WINDOW, delivery, fold};
+
+const CFG: [u32; 8] = [100, 2, 5, 2, 1, 10, 3, 64];
+
+pub struct Ours;
+
+pub struct Ends<const C: usize> {
+    words: [u64; STREAM_WORDS],
+    ring: Box<[u32; C]>,
+}
+
+fn told(d: Delivery) -> u64 {
+    assert_eq!(d.refusal, 0);
+    delivery(d.class.into(), d.skipped, d.lost_first, d.lost_count)
+}
+
+/// The words of the messages of a data command.
+#[inline(always)]
+fn messages(body: &[u8], mut sum: u64) -> u64 {
+    let mut at = 0;
+    loop {
+        let m = unsafe { raw::sirmjold_messages_next(body.as_ptr(), body.len(), at) };
+        if m.kind != 2 {
+            return fold(sum, m.kind.into());
+        }
+        for k in at..m.next as usize {
+            sum = fold(sum, unsafe { raw::sirmjold_word(body.as_ptr(), body.len(), k) }.word.into());
+        }
+        at = m.next as usize;
+    }
+}
+
+/// Each command of a payload: its code and number to `data`, which is given the words' bytes where it is one of data.
+#[inline(always)]
+fn commands(payload: &[u8], mut data: impl FnMut(u64, u16, &[u8]) -> u64) -> u64 {
+    let place = unsafe { raw::sirmjold_packet_open(payload.as_ptr(), payload.len()) };
+    if place.refusal != 0 {
+        return 0;
+    }
+    let (mut at, mut sum) = (place.at as usize, 0);
+    loop {
+        let item = unsafe { raw::sirmjold_packet_next(payload.as_ptr(), payload.len(), at) };
+        if item.kind != 2 {
+            return fold(sum, item.kind.into());
+        }
+        let next = item.next as usize;
+        let body = &payload[at + 4..next];
+        let c = unsafe { raw::sirmjold_command_parse(item.code, item.len, item.csd1, item.csd2, body.as_ptr(), body.len()) };
+        sum = match c.kind {
+            1 => data(sum, c.seq, body),
+            kind => fold(sum, kind.into()),
+        };
+        at = next;
+    }
+}
+
+impl Side for Ours {
+    type Window = [u64; 4];
+    type Small = Ends<SMALL>;
+    type Large = Ends<LARGE>;
+
+    #[inline(never)]
+    fn read(payload: &[u8]) -> u64 {
+        commands(payload, |sum, seq, body| messages(body, fold(sum, seq.into())))
+    }
+
+    fn read_apart(payload: &[u8]) -> u64 {
+        Self::read(payload)
+    }
+
+    #[inline(never)]
+    fn write_data(buf: &mut [u8], seq: u16, words: &[u32]) -> usize {
+        let mut p = [0; 2];
+        let opened = unsafe { raw::sirmjold_payload_new(p.as_mut_ptr(), 2, LIMIT) };
+        let wrote =
+            unsafe { raw::sirmjold_ump_data_write(p.as_mut_ptr(), 2, buf.as_mut_ptr(), buf.len(), seq, words.as_ptr(), words.len()) };
+        assert_eq!(opened | wrote, 0);
+        p[0] as usize
+    }
+
+    fn window() -> [u64; 4] {
+        let mut w = [0; 4];
+        assert_eq!(unsafe { raw::sirmjold_window_starting_at(w.as_mut_ptr(), 4, WINDOW as u32, 0xFFFF) }, 0);
+        w
+    }
+
+    #[inline(never)]
+    fn accept(w: &mut [u64; 4], seq: u16) -> u64 {
+        told(unsafe { raw::sirmjold_window_accept(w.as_mut_ptr(), 4, seq) })
+    }
+}
+
+impl<const C: usize> Stream for Ends<C> {
+    fn fresh() -> Self {
+        let mut e = Ends { words: [0; STREAM_WORDS], ring: Box::new([0; C]) };
+        let started = unsafe {
+            raw::sirmjold_stream_new(e.words.as_mut_ptr(), STREAM_WORDS, CFG.as_ptr(), 8, WINDOW as u32, PLACES, e.ring.as_mut_ptr(), C)
+        };
+        assert_eq!(started, 0);
+        e
+    }
+
+    #[inline(never)]
+    fn send(&mut self, words: &[u32]) {
+        let sent = unsafe {
+            raw::sirmjold_stream_send_ump(self.words.as_mut_ptr(), STREAM_WORDS, CFG.as_ptr(), 8, self.ring.as_mut_ptr(), C, words.as_ptr(), words.len())
+        };
+        assert_eq!(sent, 0);
+    }
+
+    #[inline(never)]
+    fn write(&mut self, now: u64, buf: &mut [u8]) -> (usize, bool) {
+        let mut p = [0; 2];
+        let opened = unsafe { raw::sirmjold_payload_new(p.as_mut_ptr(), 2, LIMIT) };
+        let w = unsafe {
+            raw::sirmjold_stream_write_data(
+                self.words.as_mut_ptr(), STREAM_WORDS, CFG.as_ptr(), 8, now, p.as_mut_ptr(), 2, buf.as_mut_ptr(), buf.len(),
+                self.ring.as_mut_ptr(), C,
+            )
+        };
+        assert_eq!(opened | w.refusal, 0);
+        (p[0] as usize, w.more != 0)
+    }
+
+    #[inline(never)]
+    fn heard(&mut self, now: u64, seq: u16) -> u64 {
+        told(unsafe { raw::sirmjold_stream_on_ump_data(self.words.as_mut_ptr(), STREAM_WORDS, CFG.as_ptr(), 8, now, seq) })
+    }
+
+    #[inline(never)]
+    fn receive(&mut self, now: u64, payload: &[u8]) -> u64 {
+        commands(payload, |sum, seq, body| {
+            let d = self.heard(now, seq);
+            let sum = fold(sum, d);
+            if d & 3 == 2 { sum } else { messages(body, sum) }
+        })
+    }
+
+    #[inline(never)]
+    fn request(&mut self, seq: u16, count: u16) -> u64 {
+        let o = unsafe {
+            raw::sirmjold_stream_on_retransmit_request(self.words.as_mut_ptr(), STREAM_WORDS, CFG.as_ptr(), 8, self.ring.as_ptr(), C, seq, count)
+        };
+        assert_eq!(o.refusal, 0);
+        o.kind.into()
+    }
+
+    #[inline(never)]
+    fn poll(&mut self, now: u64) -> u64 {
+        let e = unsafe { raw::sirmjold_stream_poll(self.words.as_mut_ptr(), STREAM_WORDS, CFG.as_ptr(), 8, now) };
+        assert_eq!(e.refusal, 0);
+        e.kind.into()
+    }
+
+    #[inline(never)]
+    fn wants(&self, now: u64) -> bool {
+        let w = unsafe { raw::sirmjold_stream_wants_write(self.words.as_ptr(), STREAM_WORDS, self.ring.as_ptr(), C, now) };
+        assert_eq!(w.refusal, 0);
+        w.wants != 0
+    }
+}

@@ -1,0 +1,320 @@
+//! The rows: each makes a batch for a side. A batch does `units` units of work, goes on from the state that the
+//! last one left, and gives a sum of the answers.
+use crate::ours::Ours;
+use crate::rust::Rust;
+use crate::side::{LIMIT, Side, Stream, fold};
+use std::hint::black_box;
+
+pub type Batch = Box<dyn FnMut() -> u64>;
+
+pub struct Row {
+    pub name: String,
+    /// What one unit is.
+    pub unit: &'static str,
+    pub units: u32,
+    /// A series of rows over a size, and the size.
+    pub series: Option<(&'static str, usize)>,
+    pub ours: fn(usize) -> Batch,
+    pub rust: fn(usize) -> Batch,
+    /// The library's state tests of one unit alone, where a send history is walked.
+    pub tests: Option<fn(usize) -> Batch>,
+}
+
+const UNITS: u32 = 256;
+
+/// A message of one word.
+fn note(n: u32) -> u32 {
+    0x2090_0000 | (n & 0xFFFF)
+}
+
+/// A payload with data commands of `each` words, as many as fit in `bytes`; the last one shorter.
+fn payload(each: usize, bytes: usize) -> Vec<u8> {
+    let mut p = b"MIDI".to_vec();
+    let mut seq = 0u16;
+    while p.len() + 8 <= bytes {
+        let n = each.min((bytes - p.len()) / 4 - 1);
+        p.extend([0xFF, n as u8]);
+        p.extend(seq.to_be_bytes());
+        for k in 0..n {
+            p.extend(note(k as u32).to_be_bytes());
+        }
+        seq += 1;
+    }
+    p
+}
+
+fn reading<S: Side>(p: Vec<u8>) -> Batch {
+    Box::new(move || (0..UNITS).fold(0, |sum, _| fold(sum, S::read(black_box(&p)))))
+}
+
+fn reading_apart<S: Side>(p: Vec<u8>) -> Batch {
+    Box::new(move || (0..UNITS).fold(0, |sum, _| fold(sum, S::read_apart(black_box(&p)))))
+}
+
+fn read_blocks<S: Side>(bytes: usize) -> Batch {
+    reading::<S>(payload(64, bytes))
+}
+
+fn read_notes<S: Side>(bytes: usize) -> Batch {
+    reading::<S>(payload(1, bytes))
+}
+
+fn read_blocks_apart<S: Side>(bytes: usize) -> Batch {
+    reading_apart::<S>(payload(64, bytes))
+}
+
+fn read_notes_apart<S: Side>(bytes: usize) -> Batch {
+    reading_apart::<S>(payload(1, bytes))
+}
+
+/// The payload of `bytes` without its last four.
+fn read_cut<S: Side>(bytes: usize) -> Batch {
+    let mut p = payload(64, bytes);
+    p.truncate(bytes - 4);
+    reading::<S>(p)
+}
+
+fn write_command<S: Side>(words: usize) -> Batch {
+    let words: Vec<u32> = (0..words as u32).map(note).collect();
+    let mut buf = vec![0; LIMIT];
+    Box::new(move || {
+        (0..UNITS).fold(0, |sum, k| {
+            let len = S::write_data(&mut buf, k as u16, black_box(&words));
+            fold(sum, len as u64 + u64::from(buf[len - 1]))
+        })
+    })
+}
+
+/// Numbers that arrive, as steps from the number before: `steps` over and over.
+fn arrivals(steps: &'static [i16]) -> impl FnMut() -> u16 {
+    let (mut seq, mut k) = (0xFFFFu16, 0);
+    move || {
+        seq = seq.wrapping_add_signed(steps[k]);
+        k = (k + 1) % steps.len();
+        seq
+    }
+}
+
+/// In order; every fourth skipped; every fourth late; each twice.
+const ARRIVALS: [&[i16]; 4] = [&[1], &[1, 1, 2], &[1, 1, 2, -1, 2], &[1, 0]];
+
+fn accept<S: Side>(kind: usize) -> Batch {
+    let mut window = S::window();
+    let mut next = arrivals(ARRIVALS[kind]);
+    Box::new(move || (0..UNITS).fold(0, |sum, _| fold(sum, S::accept(&mut window, next()))))
+}
+
+fn hear<S: Side>(kind: usize) -> Batch {
+    let mut stream = S::Small::fresh();
+    let mut next = arrivals(ARRIVALS[kind]);
+    Box::new(move || (0..UNITS).fold(0, |sum, _| fold(sum, stream.heard(0, next()))))
+}
+
+/// Queues `words` words and writes a payload.
+fn queueing<T: Stream + 'static>(words: usize) -> Batch {
+    let words: Vec<u32> = (0..words as u32).map(note).collect();
+    let mut stream = T::fresh();
+    let mut buf = vec![0; LIMIT];
+    let mut now = 0;
+    let mut batch = move |units| {
+        (0..units).fold(0, |sum, _| {
+            now += 1;
+            stream.send(black_box(&words));
+            let (len, more) = stream.write(now, &mut buf);
+            fold(sum, len as u64 + u64::from(more) + u64::from(buf[len - 1]))
+        })
+    };
+    batch(8 * UNITS);
+    Box::new(move || batch(UNITS))
+}
+
+fn queue_small<S: Side>(words: usize) -> Batch {
+    queueing::<S::Small>(words)
+}
+
+fn queue_large<S: Side>(words: usize) -> Batch {
+    queueing::<S::Large>(words)
+}
+
+/// A stream that has written `entries` commands of one word.
+fn written<T: Stream>(entries: usize, buf: &mut [u8]) -> T {
+    let mut stream = T::fresh();
+    for k in 0..entries {
+        stream.send(&[note(k as u32)]);
+        stream.write(0, buf);
+    }
+    stream
+}
+
+/// Asks for the newest `count` of `entries` commands, and writes them.
+fn serving<T: Stream + 'static>(entries: usize, count: usize) -> Batch {
+    let mut buf = vec![0; LIMIT];
+    let mut stream: T = written(entries, &mut buf);
+    let first = (entries - count) as u16;
+    Box::new(move || {
+        (0..UNITS).fold(0, |sum, _| {
+            let outcome = stream.request(first, count as u16);
+            let (len, more) = stream.write(0, &mut buf);
+            fold(sum, outcome + len as u64 + u64::from(more) + u64::from(buf[len - 1]))
+        })
+    })
+}
+
+fn serve_small<S: Side>(count: usize) -> Batch {
+    serving::<S::Small>(128, count)
+}
+
+fn serve_large<S: Side>(count: usize) -> Batch {
+    serving::<S::Large>(2048, count)
+}
+
+fn serve_one<S: Side>(entries: usize) -> Batch {
+    serving::<S::Large>(entries, 1)
+}
+
+fn asking<T: Stream + 'static>(entries: usize) -> Batch {
+    let stream: T = written(entries, &mut [0; LIMIT]);
+    Box::new(move || (0..UNITS).fold(0, |sum, _| fold(sum, black_box(&stream).wants(1).into())))
+}
+
+fn ask_large<S: Side>(entries: usize) -> Batch {
+    asking::<S::Large>(entries)
+}
+
+/// The two state tests of a queue call, or of a request, and a write, over the history that commands of `words`
+/// words have filled: `wants` tests the state, and then looks at it.
+fn testing<T: Stream + 'static>(words: usize) -> Batch {
+    let words: Vec<u32> = (0..words as u32).map(note).collect();
+    let mut stream = T::fresh();
+    let mut buf = vec![0; LIMIT];
+    for _ in 0..8 * UNITS {
+        stream.send(&words);
+        stream.write(0, &mut buf);
+    }
+    Box::new(move || (0..2 * UNITS).fold(0, |sum, _| fold(sum, black_box(&stream).wants(1).into())))
+}
+
+fn test_small(words: usize) -> Batch {
+    testing::<<Ours as Side>::Small>(words)
+}
+
+fn test_large(words: usize) -> Batch {
+    testing::<<Ours as Side>::Large>(words)
+}
+
+fn poll<S: Side>(_: usize) -> Batch {
+    let mut stream = S::Small::fresh();
+    stream.heard(0, 0);
+    stream.heard(0, 2);
+    Box::new(move || (0..UNITS).fold(0, |sum, _| fold(sum, stream.poll(1))))
+}
+
+/// A console plays `words` words, its payload goes to the chamber unless it is each eighth, and both look at their
+/// timers.
+fn rounds<T: Stream + 'static>(words: usize) -> Batch {
+    let words: Vec<u32> = (0..words as u32).map(note).collect();
+    let (mut console, mut chamber) = (T::fresh(), T::fresh());
+    let mut buf = vec![0; LIMIT];
+    let mut now = 0u64;
+    let mut batch = move |units| {
+        (0..units).fold(0, |sum, _| {
+            now += 1;
+            console.send(black_box(&words));
+            let (len, more) = console.write(now, &mut buf);
+            let mut sum = fold(sum, len as u64 + u64::from(more));
+            if now % 8 != 0 {
+                sum = fold(sum, chamber.receive(now, &buf[..len]));
+            }
+            fold(sum, console.poll(now) + chamber.poll(now) + u64::from(chamber.wants(now)))
+        })
+    };
+    batch(8 * UNITS);
+    Box::new(move || batch(UNITS))
+}
+
+fn round_small<S: Side>(words: usize) -> Batch {
+    rounds::<S::Small>(words)
+}
+
+fn round_large<S: Side>(words: usize) -> Batch {
+    rounds::<S::Large>(words)
+}
+
+macro_rules! row {
+    ($name:expr, $unit:literal, $series:expr, $make:ident, $size:expr) => {
+        Row {
+            name: $name.to_string(),
+            unit: $unit,
+            units: UNITS,
+            series: $series,
+            ours: $make::<Ours>,
+            rust: $make::<Rust>,
+            tests: None,
+        }
+        .sized($size)
+    };
+    ($name:expr, $unit:literal, $series:expr, $make:ident, $size:expr, $tests:expr) => {{
+        let mut sized = row!($name, $unit, $series, $make, $size);
+        sized.row.tests = Some($tests);
+        sized
+    }};
+}
+
+/// A row with the size that its batches are made for.
+pub struct Sized {
+    pub row: Row,
+    pub size: usize,
+}
+
+impl Row {
+    fn sized(self, size: usize) -> Sized {
+        Sized { row: self, size }
+    }
+}
+
+pub fn rows() -> Vec<Sized> {
+    let mut rows = vec![
+        row!("read a payload, 1 word", "payload", None, read_notes, 12),
+        row!("read a payload, 174 commands of 1 word", "payload", None, read_notes, LIMIT),
+        row!("read a payload, 6 commands of up to 64 words", "payload", None, read_blocks, LIMIT),
+        row!("read a payload, cut in its last command", "payload", None, read_cut, LIMIT),
+        row!("the same steps apart, 1 word", "payload", None, read_notes_apart, 12),
+        row!("the same steps apart, 174 commands", "payload", None, read_notes_apart, LIMIT),
+        row!("the same steps apart, 6 commands", "payload", None, read_blocks_apart, LIMIT),
+        row!("write a command, 1 word", "command", None, write_command, 1),
+        row!("write a command, 64 words", "command", None, write_command, 64),
+    ];
+    let kinds = ["in order", "every fourth skipped", "every fourth late", "each twice"];
+    for (k, kind) in kinds.iter().enumerate() {
+        rows.push(row!(format!("accept a number, {kind}"), "number", None, accept, k));
+    }
+    for (k, kind) in kinds.iter().enumerate() {
+        rows.push(row!(format!("hear a command, {kind}"), "command", None, hear, k));
+    }
+    rows.extend([
+        row!("poll, a request is not due yet", "call", None, poll, 0),
+        row!("queue and write 1 word, history 256", "payload", None, queue_small, 1, test_small),
+        row!("queue and write 1 word, history 4096", "payload", None, queue_large, 1, test_large),
+        row!("queue and write 192 words, history 256", "payload", None, queue_small, 192, test_small),
+        row!("queue and write 192 words, history 4096", "payload", None, queue_large, 192, test_large),
+        row!("serve a request for 16 commands, history 256", "request", None, serve_small, 16, |_| test_small(1)),
+        row!("serve a request for 16 commands, history 4096", "request", None, serve_large, 16, |_| test_large(1)),
+        row!("a whole round, 1 word, history 256", "round", None, round_small, 1, test_small),
+        row!("a whole round, 16 words, history 256", "round", None, round_small, 16, test_small),
+        row!("a whole round, 192 words, history 256", "round", None, round_small, 192, test_small),
+        row!("a whole round, 1 word, history 4096", "round", None, round_large, 1, test_large),
+    ]);
+    for words in [1, 2, 4, 8, 16, 32, 64] {
+        rows.push(row!(format!("write a command by words, {words}"), "command", Some(("words", words)), write_command, words));
+    }
+    for bytes in [12, 100, 200, 400, 800, LIMIT] {
+        rows.push(row!(format!("read a payload by bytes, {bytes}"), "payload", Some(("bytes", bytes)), read_blocks, bytes));
+    }
+    for entries in [1, 8, 64, 256, 1024, 2048] {
+        rows.push(row!(format!("serve the newest by entries, {entries}"), "request", Some(("entries", entries)), serve_one, entries));
+    }
+    for entries in [0, 8, 64, 256, 1024, 2048] {
+        rows.push(row!(format!("ask whether to write by entries, {entries}"), "call", Some(("entries", entries)), ask_large, entries));
+    }
+    rows
+}

@@ -1,0 +1,47 @@
+//! What a console or a chamber does with a library: the same for the Rust and for this one, so that a row is
+//! one piece of code over either. Answers are folded into numbers, which must be the same on all sides.
+
+/// Both ends of a stream, with a window of 64 numbers and 4 request places.
+pub trait Stream {
+    fn fresh() -> Self;
+    fn send(&mut self, words: &[u32]);
+    /// Writes one payload: its length, and whether there is more.
+    fn write(&mut self, now: u64, buf: &mut [u8]) -> (usize, bool);
+    fn heard(&mut self, now: u64, seq: u16) -> u64;
+    /// Reads a payload as a chamber does: each data command is told to the stream, and the words of its messages
+    /// are handed on unless it is a duplicate.
+    fn receive(&mut self, now: u64, payload: &[u8]) -> u64;
+    fn request(&mut self, seq: u16, count: u16) -> u64;
+    fn poll(&mut self, now: u64) -> u64;
+    fn wants(&self, now: u64) -> bool;
+}
+
+pub trait Side {
+    type Window: 'static;
+    type Small: Stream + 'static;
+    type Large: Stream + 'static;
+    /// The kinds of a payload's commands, the messages and their words.
+    fn read(payload: &[u8]) -> u64;
+    /// The same with each step a call that is kept apart, as the library's C functions are.
+    fn read_apart(payload: &[u8]) -> u64;
+    /// One data command in a fresh payload; its length.
+    fn write_data(buf: &mut [u8], seq: u16, words: &[u32]) -> usize;
+    fn window() -> Self::Window;
+    fn accept(w: &mut Self::Window, seq: u16) -> u64;
+}
+
+pub const WINDOW: usize = 64;
+pub const PLACES: usize = 4;
+pub const LIMIT: usize = 1400;
+/// Words of the two histories.
+pub const SMALL: usize = 256;
+pub const LARGE: usize = 4096;
+
+pub fn fold(sum: u64, x: u64) -> u64 {
+    sum.rotate_left(5).wrapping_add(x)
+}
+
+/// A delivery as a number: class 0 new, 1 late, 2 a duplicate; what was skipped; what was lost.
+pub fn delivery(class: u64, skipped: u16, lost_first: u16, lost_count: u16) -> u64 {
+    class | u64::from(skipped) << 2 | u64::from(lost_first) << 18 | u64::from(lost_count) << 34
+}
