@@ -117,6 +117,20 @@ front-end ws at n l h inv =
 pub above-none : (ws : List ℕ) (at n : ℕ) (a : Bool) → length ws ≤ at → above n (drop at ws) ≡ a → true ≡ not a
 above-none ws at n a h inv = let t : a ≡ false = sym inv ∙ rw (drop-of-length-le ws h, above-nil) in rw t
 
+-- a size of four is enough for every message
+above-in : (f n : ℕ) (ws : List ℕ) → 4 ≤ n → length ws ≤ f → wholeOf ws ≡ true → above n ws ≡ false
+above-in zero n [] h l w = above-nil n
+above-in zero n (x ∷ ws) h l w = absurd (let z : ⊥ = omega arith in z)
+above-in (suc f) n [] h l w = above-nil n
+above-in (suc f) n (x ∷ ws) h l w =
+    let g = first-of x ws w in
+    let m : ℕ = messageWords x in
+    let k : m ≤ n = omega (arith, typeWords-range (x / 0x10000000) .1) in
+    above-more (x ∷ ws) m n g k ∙ above-in f n (drop m (x ∷ ws)) h (omega (arith, length-drop m (x ∷ ws), g .some, g .fits)) (g .rest)
+
+pub four-enough : (n : ℕ) (ws : List ℕ) → 4 ≤ n → wholeOf ws ≡ true → true ≡ not (above n ws)
+four-enough n ws h w = rw (above-in (length ws) n ws h (omega arith) w)
+
 -- ---- what a front is
 
 pub record Part (n : ℕ) (ws : List ℕ) : Type 0 where

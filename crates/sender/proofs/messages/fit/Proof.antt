@@ -7,7 +7,7 @@ use borrow.Author.Needs.{needs}
 use lib.ListN.{length, drop}
 use Rattle.command.specs.Messages.{wholeOf}
 use Rattle.sender.specs.Commands.{above}
-use Rattle.sender.proofs.Fronts.{turn-fits, turn-whole, above-turn, above-found, above-none}
+use Rattle.sender.proofs.Fronts.{turn-fits, turn-whole, above-turn, above-found, above-none, four-enough}
 use Rattle.sender.proofs.messages.fit.Statement.{statement}
 use Rattle.sender.proofs.messages.fit.Tie as tie
 
@@ -17,6 +17,9 @@ Inv-loop words max at₀ at =
 
 abbrev μ-loop : tie.MeasureT-loop
 μ-loop words max at₀ at = length words - at
+
+returns : tie.Need-returns Inv-loop μ-loop
+returns c = four-enough _ _ (c .if1 .taken) (c .before .before .pre)
 
 loop-holds : tie.Need-loop-holds Inv-loop μ-loop
 loop-holds c = (omega arith, search needs, refl)
@@ -30,10 +33,10 @@ shared-slice-read-message-words c = search needs
 message-words-requires : tie.Need-message-words-requires Inv-loop μ-loop
 message-words-requires c κs = search needs
 
-returns : tie.Need-returns Inv-loop μ-loop
-returns c =
+returns-2 : tie.Need-returns-2 Inv-loop μ-loop
+returns-2 c =
     let turn = c .before .before .before in
-    above-found _ _ (turn .loop-test .taken) (turn .before .loop .inv .1) _ (c .before .message-words .ensures .0) _ _ (turn .before .loop .inv .2) (c .if1 .taken)
+    above-found _ _ (turn .loop-test .taken) (turn .before .loop .inv .1) _ (c .before .message-words .ensures .0) _ _ (turn .before .loop .inv .2) (c .if2 .taken)
 
 add-at : tie.Need-add-at Inv-loop μ-loop
 add-at c =
@@ -48,10 +51,10 @@ loop-again c =
     let turn = c .before .before .before in
     let l = turn .before .loop in
     let m = c .before .message-words .ensures .0 in
-    (omega (arith, turn-fits _ _ (turn .loop-test .taken) (l .inv .1) _ m), turn-whole _ _ (turn .loop-test .taken) (l .inv .1) _ m, above-turn _ _ (turn .loop-test .taken) (l .inv .1) _ m _ _ (l .inv .2) (c .if1 .left))
+    (omega (arith, turn-fits _ _ (turn .loop-test .taken) (l .inv .1) _ m), turn-whole _ _ (turn .loop-test .taken) (l .inv .1) _ m, above-turn _ _ (turn .loop-test .taken) (l .inv .1) _ m _ _ (l .inv .2) (c .if2 .left))
 
-returns-2 : tie.Need-returns-2 Inv-loop μ-loop
-returns-2 c = above-none _ _ _ _ (c .loop-test .left) (c .before .loop .inv .2)
+returns-3 : tie.Need-returns-3 Inv-loop μ-loop
+returns-3 c = above-none _ _ _ _ (c .loop-test .left) (c .before .loop .inv .2)
 
 pub fit-spec : {M : Type 1} → statement M
 fit-spec =
@@ -59,12 +62,13 @@ fit-spec =
     (tie.spec
     Inv-loop
     μ-loop
+    returns
     loop-holds
     mul-message-words
     shared-slice-read-message-words
     message-words-requires
-    returns
+    returns-2
     add-at
     loop-less
     loop-again
-    returns-2)
+    returns-3)
