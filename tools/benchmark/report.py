@@ -55,12 +55,12 @@ def stacks(rows):
     return "\n".join(lines + ["| %s | %d | %d |" % (r["name"], *r["stack"]) for r in rows])
 
 
-def page(machine, rounds, rows, ours, rust):
+def page(machine, rounds, rows, ours, same, rust):
     plain = [r for r in rows if not r["series"]]
     text = open(here + "/page.md").read()
     return text.format(
         machine=machine, rounds=rounds, table=table(plain), growth=growth([r for r in rows if r["series"]]),
-        ours=sum(ours.values()), exports=sum(1 for n in ours if n.startswith("sirmjold_")), rust=sum(rust.values()),
+        ours=sum(ours.values()), same=same, exports=sum(1 for n in ours if n.startswith("sirmjold_")), rust=sum(rust.values()),
         stacks=stacks([r for r in plain if not r["name"].startswith("the same")]))
 
 
