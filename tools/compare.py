@@ -2,7 +2,9 @@
 """Runs call lists (CALLS.md of the papers) on `replay` and on the Rust, and compares every answer, and state and payload
 bytes after every call.
 
-    rt check replay && tools/compare.py [--calls N] [--seed S] [--random] [--keep FOLDER]
+    rt check replay && ZMIDI_NET_SOURCE=FOLDER tools/compare.py [--calls N] [--seed S] [--random] [--keep FOLDER]
+
+ZMIDI_NET_SOURCE has the Rust's packet.rs, command.rs and stream.rs.
 
 Parts: short lists, all of them, over small sizes; lists in which the sender's numbers pass a turn; random long lists over
 01's domain; payloads read back, cut and damaged (--random: the last two alone). With a history of 4,096 words the state
