@@ -30,6 +30,10 @@ use Rattle.capi.specs.Window.{windowLimits, windowFits, Narrow}
 use Rattle.capi.proofs.Within.{within-at, above-at, place, most, and-false, put-whole}
 
 -- ---- the tests
+and-true : (b : Bool) → b ≡ b && true
+and-true true = refl
+and-true false = refl
+
 module _ (ws : List ℕ) (n : ℕ) (ps : List (ℕ × ℕ)) where
   -- the length and the limits
   abbrev both : Bool
@@ -64,11 +68,7 @@ module _ (ws : List ℕ) where
   unfolding receiverFits within
   receiver-last l a b c d e f g h =
       rw (eq-eqb (length ws) 35 l, le-leb (at 0) 4294967295 a, le-leb (at 1) 65535 b, le-leb (at 4) 1 c, le-leb (at 6) 255 d, le-leb (at 7) 1 e, le-leb (at 8) 1 f, le-leb (at 9) 1 g, le-leb (at 10) 65535 h)
-      (last (leb (at 11) 65535))
-    where
-      last : (b : Bool) → b ≡ b && true
-      last true = refl
-      last false = refl
+      (and-true (leb (at 11) 65535))
 
   pub receiver-known : receiverFits ws ≡ true → ReceiverFit ws
   unfolding receiverFits
@@ -93,11 +93,7 @@ module _ (ws : List ℕ) where
 
   pub sender-last : length ws ≡ 35 → at 16 ≤ 65535 → at 23 ≤ 1 → leb (at 25) 65535 ≡ senderFits ws
   unfolding senderFits within
-  sender-last l a b = rw (eq-eqb (length ws) 35 l, le-leb (at 16) 65535 a, le-leb (at 23) 1 b) (last (leb (at 25) 65535))
-    where
-      last : (b : Bool) → b ≡ b && true
-      last true = refl
-      last false = refl
+  sender-last l a b = rw (eq-eqb (length ws) 35 l, le-leb (at 16) 65535 a, le-leb (at 23) 1 b) (and-true (leb (at 25) 65535))
 
   pub sender-known : senderFits ws ≡ true → SenderFit ws
   unfolding senderFits
@@ -128,11 +124,7 @@ module _ (ws : List ℕ) where
 
   pub window-last : length ws ≡ 4 → at 0 ≤ 4294967295 → leb (at 1) 65535 ≡ windowFits ws
   unfolding windowFits within
-  window-last l a = rw (eq-eqb (length ws) 4 l, le-leb (at 0) 4294967295 a) (last (leb (at 1) 65535))
-    where
-      last : (b : Bool) → b ≡ b && true
-      last true = refl
-      last false = refl
+  window-last l a = rw (eq-eqb (length ws) 4 l, le-leb (at 0) 4294967295 a) (and-true (leb (at 1) 65535))
 
   pub window-known : windowFits ws ≡ true → Narrow ws
   unfolding windowFits
