@@ -13,6 +13,8 @@ use Rattle.config.proofs.Tests.{split, tests, lifts}
 use Rattle.history.specs.Ring.{slotOf}
 use Rattle.history.specs.Headers.{lengthAt, entrySize, nextAt, headerAt, wordsFrom, headerOk, numbered}
 use Rattle.history.specs.Walk.{newestFrom, passes, Past, Ran, Walked}
+use Rattle.history.specs.State.{Good}
+use Rattle.history.specs.declared.history.SendHistory.{SendHistory}
 use Rattle.history.specs.declared.headers.Stop.{Stop}
 use Rattle.history.specs.declared.headers.Leg.{Leg}
 use Rattle.history.proofs.Slots.{slot-below}
@@ -167,3 +169,19 @@ module _ (b : List ℕ) (w : Stop) (k : ℕ) (r : Stop) where
   walked-all left at seq prev words z o l x e =
       let f : k - left ≡ k = omega arith in
       rw e (record { stops = λ g. no-yes g refl; goes = λ _. (o, l, rw f at x) })
+
+-- a walk from the oldest of a state that was tested is not lost
+pub walked-good : (h : SendHistory) (b : List ℕ) (k : ℕ) (r : Stop) → Good h b → k ≤ h .count
+    → Walked b (record { lost = false; at = h .head; seq = h .oldest; prev = h .last; words = h .used }) k r → (r .at ≡ headerAt k b (h .head)) × (r .at < length b)
+unfolding headerAt
+walked-good h b k r g l w =
+    ⊎-elim
+    (λ (e : r .lost ≡ true).
+    let f : k + (h .count - k) ≡ h .count = omega arith in
+    let all : passes (h .count) b (h .head) (h .oldest) (h .used) ≡ true = rw (g .headers, g .words) (le-leb (h .used) (h .used) (omega arith)) in
+    no-yes all (rw f at (w .stops e (h .count - k))))
+    (λ (e : r .lost ≡ false).
+    let f : k + 0 ≡ k = omega arith in
+    let p = w .goes e in
+    (sym (rw f at (p .2 .place 0)), p .0))
+    (split (r .lost))

@@ -53,20 +53,26 @@ fn run(buf: &[u32], at: usize, seq: SeqNum, before: usize, k: usize) -> Leg
     // The number in the upper half, over a length of 0.
     let mut want = (seq as u32) * 0x1_0000;
     let mut prev = before;
+    // The length of the entry before. Where the next one has it too, the place after that does not
+    // wait for its header to be read.
+    let mut same = 0;
     loop {
         // The length, if the number is right and bits 8 to 15 are zero; else more than 64.
         let pl = std::num::wrapping_sub_usize(buf[i] as usize, want as usize);
-        if MAX_PL < pl {
-            return Leg {
-                lost: true,
-                seq: 0,
-                prev: 0,
-                words: 0,
-                left: 0,
-            };
+        if pl != same {
+            if MAX_PL < pl {
+                return Leg {
+                    lost: true,
+                    seq: 0,
+                    prev: 0,
+                    words: 0,
+                    left: 0,
+                };
+            }
+            same = pl;
         }
         prev = i;
-        i += 1 + pl;
+        i += 1 + same;
         want = std::num::wrapping_add_u32(want, 0x1_0000);
         left -= 1;
         if left == 0 {

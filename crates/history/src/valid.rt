@@ -9,6 +9,8 @@ ghost use Rattle.history.specs.Queue.{Fit, waiting, asks, oldestOf, push
 ghost use mathlib.Core.Bool.{true};
 ghost use Rattle.packet.specs.Write.{validOf, writtenOf};
 ghost use Rattle.history.specs.Written.{entryPacket};
+use super::headers;
+use super::headers::Stop;
 use super::history::SendHistory;
 use super::queue::Ignored;
 use super::queue::Oldest;
@@ -52,13 +54,15 @@ pub fn index_of(h: SendHistory, buf: &[u32], k: usize) -> usize
     requires { ⌜ Good h (now buf) × (k ≤ h .count) ⌝ }
     ensures { λ r. ⌜ (r ≡ headerAt k (now (buf .entry)) (h .head)) × (r < length (now (buf .entry))) ⌝ }
 {
-    let mut at = h.head;
-    let mut left = k;
-    while 0 < left {
-        at = next_index(buf, at);
-        left -= 1;
-    }
-    at
+    let start = Stop {
+        lost: false,
+        at: h.head,
+        seq: h.oldest,
+        prev: h.last,
+        words: h.used,
+    };
+    let out = headers::walk(buf, start, k);
+    out.at
 }
 
 // The oldest entry leaves.
