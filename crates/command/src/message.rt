@@ -25,12 +25,22 @@ pub fn whole_messages(words: &[u32]) -> bool
     ensures { λ r. ⌜ r ≡ wholeOf (now (words .entry)) ⌝ }
 {
     let mut i = 0;
+    // The length of the message before. Where the next one has it too, the next index does not wait
+    // for the word that was read.
+    let mut same = 1;
     while i < words.len() {
         let n = message_words(words[i]);
-        if words.len() - i < n {
-            return false;
+        if n != same {
+            if words.len() - i < n {
+                return false;
+            }
+            same = n;
+        } else {
+            if words.len() - i < same {
+                return false;
+            }
         }
-        i += n;
+        i += same;
     }
     true
 }

@@ -76,17 +76,21 @@ module _ (p : PayloadWriter) (b : List ℕ) (c : Packet) where
       unfolding writtenOf
       written-done n e l ne ee = rw (v, le-ltb _ _ f, le-ltb _ _ l, ne, ee)
 
--- ---- the bytes of a command, as the code stores them: what it begins with, the header, the words in two runs
-encoded-runs : (b : List ℕ) (at code n csd1 csd2 : ℕ) (xs ys : List ℕ) → n ≡ length xs + length ys → at + 4 + 4 * n ≤ length b
+-- ---- the bytes of a command, as the code stores them: what it begins with, the header, the words in one run or two
+header-words : (b : List ℕ) (at code n csd1 csd2 : ℕ) (xs : List ℕ) → at + 4 + 4 * length xs ≤ length b
+    → spliced (spliced b at (code ∷ n ∷ csd1 ∷ csd2 ∷ [])) (at + 4) (bytesOf xs) ≡ spliced b at (code ∷ n ∷ csd1 ∷ csd2 ∷ bytesOf xs)
+header-words b at code n csd1 csd2 xs fits =
+    spliced-append b at (at + 4) (code ∷ n ∷ csd1 ∷ csd2 ∷ []) (bytesOf xs) (omega arith) (omega (arith, length-bytesOf xs))
+
+header-runs : (b : List ℕ) (at code n csd1 csd2 : ℕ) (xs ys : List ℕ) → at + 4 + 4 * (length xs + length ys) ≤ length b
     → spliced (spliced (spliced b at (code ∷ n ∷ csd1 ∷ csd2 ∷ [])) (at + 4) (bytesOf xs)) (at + 4 + 4 * length xs) (bytesOf ys)
-    ≡ spliced b at (encoded (packet code csd1 csd2 (xs ++ ys)))
-encoded-runs b at code n csd1 csd2 xs ys e fits =
+    ≡ spliced b at (code ∷ n ∷ csd1 ∷ csd2 ∷ bytesOf (xs ++ ys))
+header-runs b at code n csd1 csd2 xs ys fits =
     let lx = length-bytesOf xs in
     let ly = length-bytesOf ys in
-    ap (λ (l : List ℕ). spliced l (at + 4 + 4 * length xs) (bytesOf ys))
-    (spliced-append b at (at + 4) (code ∷ n ∷ csd1 ∷ csd2 ∷ []) (bytesOf xs) (omega arith) (omega arith))
+    ap (λ (l : List ℕ). spliced l (at + 4 + 4 * length xs) (bytesOf ys)) (header-words b at code n csd1 csd2 xs (omega arith))
     ∙ spliced-append b at (at + 4 + 4 * length xs) (code ∷ n ∷ csd1 ∷ csd2 ∷ bytesOf xs) (bytesOf ys) (omega arith) (omega arith)
-    ∙ rw (bytesOf-append xs ys, length-append xs ys, e)
+    ∙ rw (bytesOf-append xs ys)
 
 begun-length : (p : PayloadWriter) (b : List ℕ) → startOf p ≤ length b → length (begunOf p b) ≡ length b
 begun-length p b f = elim (split (eqb (p .len) 0)) [
@@ -104,17 +108,27 @@ begun-encoded p b c fits = elim (split (eqb (p .len) 0)) [
   | inr z ↦ rw z
 ]
 
-module _ (p : PayloadWriter) (b : List ℕ) (code csd1 csd2 n at : ℕ) (xs ys : List ℕ) where
-  pub placed-runs : (b₁ b₂ b₃ b₄ : List ℕ) → at ≡ startOf p → b₁ ≡ begunOf p b
-      → b₂ ≡ spliced b₁ at (code ∷ n ∷ csd1 ∷ csd2 ∷ [])
+module _ (p : PayloadWriter) (b : List ℕ) (code csd1 csd2 at : ℕ) where
+  pub placed-words : (xs b₁ b₂ b₃ : List ℕ) → at ≡ startOf p → b₁ ≡ begunOf p b
+      → b₂ ≡ spliced b₁ at (code ∷ length xs ∷ csd1 ∷ csd2 ∷ [])
+      → b₃ ≡ spliced b₂ (at + 4) (bytesOf xs)
+      → startOf p + (4 + 4 * length xs) ≤ length b
+      → b₃ ≡ placedOf p b (packet code csd1 csd2 xs)
+  placed-words xs b₁ b₂ b₃ e₀ e₁ e₂ e₃ fits =
+      let same = begun-length p b (omega arith) in
+      rw (e₃, e₂, e₁, e₀)
+      (header-words (begunOf p b) (startOf p) code (length xs) csd1 csd2 xs (omega arith)
+      ∙ begun-encoded p b (packet code csd1 csd2 xs) fits)
+
+  pub placed-runs : (xs ys b₁ b₂ b₃ b₄ : List ℕ) → at ≡ startOf p → b₁ ≡ begunOf p b
+      → b₂ ≡ spliced b₁ at (code ∷ (length xs + length ys) ∷ csd1 ∷ csd2 ∷ [])
       → b₃ ≡ spliced b₂ (at + 4) (bytesOf xs)
       → b₄ ≡ spliced b₃ (at + 4 + 4 * length xs) (bytesOf ys)
-      → n ≡ length xs + length ys
-      → startOf p + (4 + 4 * n) ≤ length b
+      → startOf p + (4 + 4 * (length xs + length ys)) ≤ length b
       → b₄ ≡ placedOf p b (packet code csd1 csd2 (xs ++ ys))
-  placed-runs b₁ b₂ b₃ b₄ e₀ e₁ e₂ e₃ e₄ en fits =
+  placed-runs xs ys b₁ b₂ b₃ b₄ e₀ e₁ e₂ e₃ e₄ fits =
       let long = length-append xs ys in
       let same = begun-length p b (omega arith) in
-      rw (e₄, e₃, e₂, e₁, e₀)
-      (encoded-runs (begunOf p b) (startOf p) code n csd1 csd2 xs ys en (omega arith)
+      rw (e₄, e₃, e₂, e₁, e₀, ← long)
+      (header-runs (begunOf p b) (startOf p) code (length (xs ++ ys)) csd1 csd2 xs ys (omega arith)
       ∙ begun-encoded p b (packet code csd1 csd2 (xs ++ ys)) (omega arith))

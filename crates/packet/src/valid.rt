@@ -6,8 +6,8 @@ ghost use mathlib.Core.List.{_++_, [], _∷_};
 ghost use Prim.Native.Nat.{_+_, _*_, _≤_, min};
 ghost use lib.ListN.{length};
 ghost use Rattle.packet.specs.Bytes.{spliced};
-ghost use Rattle.packet.specs.Layout.{packet};
-ghost use Rattle.packet.specs.Write.{validOf, limitOf, startOf, freeOf, begunOf, refusedOf, writtenOf, noFit};
+ghost use Rattle.packet.specs.Layout.{packet, sizeOf};
+ghost use Rattle.packet.specs.Write.{validOf, limitOf, startOf, freeOf, begunOf, placedOf, refusedOf, writtenOf, noFit};
 use super::bytes::put_word;
 use super::bytes::put_words;
 use super::writer::MAX_PAYLOAD;
@@ -103,6 +103,39 @@ fn refuse_fit(p: PayloadWriter) -> Wrote
     }
 }
 
+// Puts a command that fits behind what the payload holds, and gives the new length.
+fn put(p: PayloadWriter, buf: &mut [u8], code: u8, csd1: u8, csd2: u8, words: &[u32]) -> usize
+    requires { ⌜ (startOf p + sizeOf (packet code csd1 csd2 (now words)) ≤ limitOf p (length (now buf))) × (length (now words) ≤ 255) ⌝ }
+    ensures { λ r. ⌜ (r ≡ startOf p + sizeOf (packet code csd1 csd2 (now (words .entry)))) × (now (buf .exit) ≡ placedOf p (now (buf .entry)) (packet code csd1 csd2 (now (words .entry)))) ⌝ }
+{
+    let at = begin(p, buf);
+    let n = words.len();
+    put_header(buf, at, code, n as u8, csd1, csd2);
+    put_words(buf, at + 4, words);
+    at + 4 + 4 * n
+}
+
+// The same for a command whose words are those of `first` and then those of `second`.
+fn put_runs(
+    p: PayloadWriter,
+    buf: &mut [u8],
+    code: u8,
+    csd1: u8,
+    csd2: u8,
+    first: &[u32],
+    second: &[u32],
+) -> usize
+    requires { ⌜ (startOf p + (4 + 4 * (length (now first) + length (now second))) ≤ limitOf p (length (now buf))) × (length (now first) + length (now second) ≤ 255) ⌝ }
+    ensures { λ r. ⌜ (r ≡ startOf p + sizeOf (packet code csd1 csd2 (now (first .entry) ++ now (second .entry)))) × (now (buf .exit) ≡ placedOf p (now (buf .entry)) (packet code csd1 csd2 (now (first .entry) ++ now (second .entry)))) ⌝ }
+{
+    let at = begin(p, buf);
+    let n = first.len() + second.len();
+    put_header(buf, at, code, n as u8, csd1, csd2);
+    put_words(buf, at + 4, first);
+    put_words(buf, at + 4 + 4 * first.len(), second);
+    at + 4 + 4 * n
+}
+
 // Writes one command, whose words are those of `first` and then those of `second`.
 pub fn command_runs(
     p: PayloadWriter,
@@ -130,15 +163,9 @@ pub fn command_runs(
             answer: Write::Refused(Refusal::InvalidValue),
         };
     }
-    let at = begin(p, buf);
-    put_header(buf, at, code, n as u8, csd1, csd2);
-    put_words(buf, at + 4, first);
-    put_words(buf, at + 4 + 4 * first.len(), second);
+    let len = put_runs(p, buf, code, csd1, csd2, first, second);
     Wrote {
-        payload: PayloadWriter {
-            len: at + 4 + 4 * n,
-            max: p.max,
-        },
+        payload: PayloadWriter { len, max: p.max },
         answer: Write::Done,
     }
 }
@@ -155,5 +182,18 @@ pub fn command(
     requires { ⌜ validOf p (length (now buf)) ≡ true ⌝ }
     ensures { λ r. ⌜ (r, now (buf .exit)) ≡ writtenOf p (now (buf .entry)) (packet code csd1 csd2 (now (words .entry))) ⌝ }
 {
-    command_runs(p, buf, code, csd1, csd2, words, &words[..0])
+    if free_words(p, buf.len()) <= words.len() {
+        return refuse_fit(p);
+    }
+    if 255 < words.len() {
+        return Wrote {
+            payload: p,
+            answer: Write::Refused(Refusal::InvalidValue),
+        };
+    }
+    let len = put(p, buf, code, csd1, csd2, words);
+    Wrote {
+        payload: PayloadWriter { len, max: p.max },
+        answer: Write::Done,
+    }
 }

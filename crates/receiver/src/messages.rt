@@ -44,12 +44,18 @@ pub fn whole_words(body: &[u8]) -> usize
     ensures { λ r. ⌜ r ≡ length (wholeWords (wordsOf (now (body .entry)))) ⌝ }
 {
     let mut at = 0;
+    // The length of the last message. While lengths repeat, the next place follows from it and does
+    // not wait for the word that was read.
+    let mut same = 1;
     loop {
         let n = words_at(body, at);
-        if n == 0 {
-            return at;
+        if n != same {
+            if n == 0 {
+                return at;
+            }
+            same = n;
         }
-        at += n;
+        at += same;
     }
 }
 

@@ -1,12 +1,14 @@
 // The calls over settings and a state that were tested: `is_valid` is the test of the state, and the
 // others require what it says.
 ghost use mathlib.Core.Path.{_≡_};
-ghost use mathlib.Core.Bool.{true};
+ghost use mathlib.Core.Bool.{true, false};
 ghost use Prim.Native.Nat.{_^_, _≤_, min};
 ghost use lib.ListN.{length};
+ghost use Rattle.config.specs.Range.{within};
+ghost use Rattle.config.specs.Sequence.{ahead};
 ghost use Rattle.packet.specs.Write.{validOf as payloadValid};
 ghost use Rattle.window.specs.Window.{Valid};
-ghost use Rattle.window.specs.Arrival.{inOrder};
+ghost use Rattle.window.specs.Arrival.{reach, inOrder};
 ghost use Rattle.receiver.specs.Receiver.{validOf, restOf, freshOf, enabledOf, dueAfter, gapOf, isGap, restarts, settledOf, heardOf, quietOf, gaveUp, polledAt, polledOf, erroredBy, erroredOf, markedBy, nakedOf, withAsked, notDue, noFit, offeredOf, takenOf, deadlineOf};
 use super::receiver::Asked;
 use super::receiver::Deadline;
@@ -178,19 +180,10 @@ pub fn on_ump_data(r: Receiver, cfg: StreamConfig, now: u64, seq: SeqNum) -> Hea
     if window::valid::in_order(before, seq) {
         return heard_next(r, cfg, now, seq);
     }
-    let taken = window::valid::accept(before, seq);
-    let window = taken.window;
-    let class = taken.class;
-    let lost = taken.lost;
-    Heard {
-        receiver: settled(r, cfg, now, window, class),
-        answer: Hearing::Delivery(Delivery {
-            seq,
-            class,
-            gap: gap(before.highest, class),
-            lost,
-        }),
+    if window::valid::is_ahead(before, seq) {
+        return heard_ahead(r, cfg, now, seq);
     }
+    heard_behind(r, cfg, now, seq)
 }
 
 // The same, for the next number with nothing missing before it: nothing is missing after it.
@@ -205,6 +198,47 @@ fn heard_next(r: Receiver, cfg: StreamConfig, now: u64, seq: SeqNum) -> Heard
     let lost = taken.lost;
     Heard {
         receiver: rest(r.refused, window),
+        answer: Hearing::Delivery(Delivery {
+            seq,
+            class,
+            gap: gap(before.highest, class),
+            lost,
+        }),
+    }
+}
+
+// The same, for a number ahead.
+fn heard_ahead(r: Receiver, cfg: StreamConfig, now: u64, seq: SeqNum) -> Heard
+    requires { ⌜ (validOf r ≡ true) × (within 1 reach (ahead (r .window .highest) seq) ≡ true) ⌝ }
+    ensures { λ h. ⌜ h ≡ heardOf r cfg now seq ⌝ }
+{
+    let before = r.window;
+    let lost = window::valid::lost_to(before, seq);
+    let window = window::valid::moved_to(before, seq);
+    let class = window::valid::class_ahead(before, seq);
+    Heard {
+        receiver: settled(r, cfg, now, window, class),
+        answer: Hearing::Delivery(Delivery {
+            seq,
+            class,
+            gap: gap(before.highest, class),
+            lost,
+        }),
+    }
+}
+
+// The same, for a number that is not ahead.
+fn heard_behind(r: Receiver, cfg: StreamConfig, now: u64, seq: SeqNum) -> Heard
+    requires { ⌜ (validOf r ≡ true) × (within 1 reach (ahead (r .window .highest) seq) ≡ false) ⌝ }
+    ensures { λ h. ⌜ h ≡ heardOf r cfg now seq ⌝ }
+{
+    let before = r.window;
+    let taken = window::valid::accept_behind(before, seq);
+    let window = taken.window;
+    let class = taken.class;
+    let lost = taken.lost;
+    Heard {
+        receiver: settled(r, cfg, now, window, class),
         answer: Hearing::Delivery(Delivery {
             seq,
             class,

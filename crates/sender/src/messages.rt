@@ -19,12 +19,21 @@ pub fn front_words(words: &[u32], n: usize) -> usize
         return words.len();
     }
     let mut at = 0;
+    // The length of the message before, as in `command::message::whole_messages`.
+    let mut same = 1;
     while at < words.len() {
         let m = message_words(words[at]);
-        if n - at < m {
-            return at;
+        if m != same {
+            if n - at < m {
+                return at;
+            }
+            same = m;
+        } else {
+            if n - at < same {
+                return at;
+            }
         }
-        at += m;
+        at += same;
     }
     at
 }

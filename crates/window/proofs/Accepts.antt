@@ -1,6 +1,6 @@
 -- What `accept` leaves, position by position.
-use mathlib.Core.Path.{_≡_, refl, ap, sym, _∙_}
-use mathlib.Core.Bool.{Bool, true, false, _||_, cond}
+use mathlib.Core.Path.{_≡_, ap, sym, _∙_}
+use mathlib.Core.Bool.{true, false, _||_, cond}
 use Prim.Native.Nat.{ℕ, _+_, _-_, _^_, _≤_}
 use native.Mathlib.Omega.{arith}
 use lib.Bits.{bitOr}
@@ -13,7 +13,9 @@ use Rattle.window.specs.Arrival.{reach, newOf, lateAt, unchanged, accept
 use Rattle.window.specs.declared.set.Bits.{Bits}
 use Rattle.window.specs.declared.window.ReceiveWindow.{ReceiveWindow}
 use Rattle.window.specs.declared.window.Taken.{Taken}
+use Rattle.window.specs.declared.window.Class.{Class}
 use Rattle.window.specs.declared.window.Class.the-variants.{Late}
+use Rattle.window.specs.declared.window.Span.{Span}
 use Rattle.window.specs.declared.window.Span.the-variants.{Nothing}
 use Rattle.window.proofs.Ranges.{within-range}
 use Rattle.window.proofs.Positions.{unprocessed-in}
@@ -62,26 +64,24 @@ module _ (w : ReceiveWindow) (seq : ℕ) where
 
 -- ---- by what the code has at hand
 
-module _ (w : ReceiveWindow) (seq : ℕ) {dist : ℕ} (ed : dist ≡ ahead (w .highest) seq) where
-  pub accept-new-is : within 1 reach dist ≡ true → newOf w seq dist ≡ acceptOf w seq
-  accept-new-is e = ap (newOf w seq) ed ∙ sym (accept-as-new w seq (ap (within 1 reach) (sym ed) ∙ e))
+pub taken-is : (t : Taken) {n : ReceiveWindow} {k : Class} {l : Span} → n ≡ t .window → k ≡ t .class → l ≡ t .lost
+    → _≡_ {A = Taken} (record { window = n; class = k; lost = l }) t
+taken-is t en ek el = rw (en, ek, el)
 
-  pub accept-behind-is : within 1 reach dist ≡ false → {b : ℕ} → b ≡ ahead seq (w .highest) → cond (processed w b) (unchanged w) (lateAt w (b - 1)) ≡ acceptOf w seq
-  accept-behind-is e {b} eb = go (processed w (ahead seq (w .highest))) refl
-    where
-      out : within 1 reach (ahead (w .highest) seq) ≡ false
-      out = ap (within 1 reach) (sym ed) ∙ e
+module _ (w : ReceiveWindow) (seq : ℕ) {dist : ℕ} (ed : dist ≡ ahead (w .highest) seq) (e : within 1 reach (ahead (w .highest) seq) ≡ true) where
+  pub new-distance : (1 ≤ dist) × (dist ≤ reach)
+  new-distance = rw ed (within-range 1 reach (ahead (w .highest) seq) e)
 
-      go : (t : Bool) → processed w (ahead seq (w .highest)) ≡ t → cond (processed w b) (unchanged w) (lateAt w (b - 1)) ≡ acceptOf w seq
-      go true f = let g : processed w b ≡ true = ap (processed w) eb ∙ f in rw g (sym (accept-as-duplicate w seq out f))
-      go false f = let g : processed w b ≡ false = ap (processed w) eb ∙ f in rw g (ap (λ (x : ℕ). lateAt w (x - 1)) eb ∙ sym (accept-as-late w seq out f))
+  pub accept-new-is : newOf w seq dist ≡ acceptOf w seq
+  accept-new-is = ap (newOf w seq) ed ∙ sym (accept-as-new w seq e)
 
 abbrev late : ReceiveWindow → Bits → Taken
 late w s = record { window = record { size = w .size; highest = w .highest; bits = s }; class = Late; lost = Nothing }
 
-module _ (w : ReceiveWindow) (b : ℕ) where
-  pub behind-duplicate : processed w b ≡ true → unchanged w ≡ cond (processed w b) (unchanged w) (lateAt w (b - 1))
-  behind-duplicate e = rw e
+module _ (w : ReceiveWindow) (seq : ℕ) {b : ℕ} (eb : b ≡ ahead seq (w .highest)) (e : within 1 reach (ahead (w .highest) seq) ≡ false) where
+  pub behind-duplicate : processed w b ≡ true → unchanged w ≡ acceptOf w seq
+  behind-duplicate f = sym (accept-as-duplicate w seq e (ap (processed w) (sym eb) ∙ f))
 
-  pub behind-late : {s : Bits} → processed w b ≡ false → s ≡ setOf (bitOr (val (w .bits)) (2 ^ (b - 1))) → late w s ≡ cond (processed w b) (unchanged w) (lateAt w (b - 1))
-  behind-late {s} e es = ap (late w) es ∙ rw e
+  pub behind-late : {s : Bits} → processed w b ≡ false → s ≡ setOf (bitOr (val (w .bits)) (2 ^ (b - 1))) → late w s ≡ acceptOf w seq
+  behind-late f es =
+      ap (late w) es ∙ ap (λ (x : ℕ). lateAt w (x - 1)) eb ∙ sym (accept-as-late w seq e (ap (processed w) (sym eb) ∙ f))

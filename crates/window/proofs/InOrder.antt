@@ -1,5 +1,5 @@
 -- The next number, with nothing missing before it: it leaves a window with nothing missing.
-use mathlib.Core.Path.{_≡_, refl, sym, ap, _∙_, subst}
+use mathlib.Core.Path.{_≡_, refl, sym, ap, _∙_}
 use mathlib.Core.Bool.{true, false}
 use Prim.Native.Nat.{ℕ, _+_, _-_, _*_, _%_, _^_, _<_}
 use native.Mathlib.Nat.{mul-one}
@@ -19,8 +19,8 @@ use Rattle.window.specs.declared.window.Span.the-variants.{Nothing}
 use Rattle.window.proofs.Words.{of-words, val-of}
 use Rattle.window.proofs.Ranges.{within-yes}
 use Rattle.window.proofs.Losses.{loss-empty}
-use Rattle.window.proofs.Arrivals.{new-is}
-use Rattle.window.proofs.Accepts.{accept-as-new}
+use Rattle.window.proofs.Arrivals.{new-window-is, new-lost-is}
+use Rattle.window.proofs.Accepts.{accept-as-new, taken-is}
 
 -- ---- the test
 
@@ -63,9 +63,10 @@ module _ (w : ReceiveWindow) (v : Valid w) (seq : ℕ) (e : inOrder w seq ≡ tr
   accept-as-next = accept-as-new w seq (within-yes 1 reach (ahead (w .highest) seq) (omega (arith, next)) (omega (arith, next))) ∙ ap (newOf w seq) next
 
   pub accept-in-order : w .bits .low < 2 ^ 64 → _≡_ {A = Taken} (record { window = record { size = w .size; highest = seq; bits = w .bits }; class = New 0; lost = Nothing }) (acceptOf w seq)
-  unfolding val
+  unfolding val newOf
   accept-in-order b =
-      new-is w seq 1 {m = setOf (missingOf w)} refl (of-words (w .bits .high) (w .bits .low) b _ (all ∙ sym moved)) (loss-empty seq (w .size) (val (setOf (missingOf w))) 1 (omega arith) (omega arith) (val-of (missingOf w) ∙ none))
+      taken-is (newOf w seq 1) (new-window-is w seq 1 (of-words (w .bits .high) (w .bits .low) b _ (all ∙ sym moved))) refl
+      (new-lost-is w seq 1 {m = setOf (missingOf w)} refl (loss-empty seq (w .size) (val (setOf (missingOf w))) 1 (omega arith) (omega arith) (val-of (missingOf w) ∙ none)))
       ∙ sym accept-as-next
 
   pub in-order-complete : eqb (missingOf (acceptOf w seq .window)) 0 ≡ true

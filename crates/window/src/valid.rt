@@ -1,13 +1,14 @@
 // The operations over a state that was tested: `is_valid` is the test, and the others require what it says.
 // A layer above tests once for each of its calls.
 ghost use mathlib.Core.Path.{_≡_};
-ghost use mathlib.Core.Bool.{cond, true};
+ghost use mathlib.Core.Bool.{true, false};
 ghost use Prim.Native.Nat.{_+_, _-_, _*_, _%_, _^_, _≤_, _<_};
 ghost use lib.Dec.{eqb};
 ghost use Rattle.config.specs.Range.{within};
+ghost use Rattle.config.specs.Sequence.{ahead};
 ghost use Rattle.window.specs.Set.{maxWindow, val, setOf};
 ghost use Rattle.window.specs.Window.{Valid, validOf, freshOf, processed, isProcessed, missingOf, spanOf, missingSpan, requestOf};
-ghost use Rattle.window.specs.Arrival.{reach, lostOf, classOf, newOf, inOrder, unchanged, lateAt, acceptOf};
+ghost use Rattle.window.specs.Arrival.{reach, lostOf, classOf, inOrder, acceptOf};
 ghost use Rattle.window.specs.Marking.{hitAt, hitsOf, markOf};
 use super::set;
 use super::set::Bits;
@@ -104,6 +105,14 @@ fn is_new(d: u16) -> bool
     d <= REACH
 }
 
+// Whether the number is ahead of the highest. The others are read as behind it.
+pub fn is_ahead(w: ReceiveWindow, seq: SeqNum) -> bool
+    ensures { λ r. ⌜ r ≡ within 1 reach (ahead (w .highest) seq) ⌝ }
+{
+    let h = w.highest;
+    is_new(sequence::distance(h, seq))
+}
+
 // Whether the position `back` behind the highest is processed: the highest is, and so is all beyond the window.
 fn processed_at(w: ReceiveWindow, back: u32) -> bool
     requires { ⌜ Valid w ⌝ }
@@ -183,32 +192,54 @@ fn moved(s: Bits, d: u32) -> Bits
     set::shifted(set::with(set::shifted(s, 1), 0), d - 1)
 }
 
-// A number d ahead arrives.
-fn accept_new(w: ReceiveWindow, seq: SeqNum, d: u16) -> Taken
-    requires { ⌜ Valid w × (1 ≤ d) × (d ≤ reach) ⌝ }
-    ensures { λ r. ⌜ r ≡ newOf w seq d ⌝ }
+// The class of a number ahead.
+pub fn class_ahead(w: ReceiveWindow, seq: SeqNum) -> Class
+    requires { ⌜ within 1 reach (ahead (w .highest) seq) ≡ true ⌝ }
+    ensures { λ r. ⌜ r ≡ acceptOf w seq .class ⌝ }
+{
+    let h = w.highest;
+    let d = sequence::distance(h, seq);
+    let gap = d - 1;
+    Class::New(gap)
+}
+
+// What leaves the window unprocessed when a number ahead arrives. This is the one large step of an
+// arrival: it stays a call, and the steps beside it are small enough to be inlined at each caller.
+pub fn lost_to(w: ReceiveWindow, seq: SeqNum) -> Span
+    requires { ⌜ Valid w × (within 1 reach (ahead (w .highest) seq) ≡ true) ⌝ }
+    ensures { λ r. ⌜ r ≡ acceptOf w seq .lost ⌝ }
 {
     let size = w.size;
+    let h = w.highest;
+    lost(seq, size, missing_set(w), sequence::distance(h, seq) as u32)
+}
+
+// The window moved up to a number ahead.
+pub fn moved_to(w: ReceiveWindow, seq: SeqNum) -> ReceiveWindow
+    requires { ⌜ Valid w × (within 1 reach (ahead (w .highest) seq) ≡ true) ⌝ }
+    ensures { λ r. ⌜ r ≡ acceptOf w seq .window ⌝ }
+{
+    let size = w.size;
+    let h = w.highest;
     let bits = w.bits;
-    let all = set::lowest(size);
-    let gone = lost(seq, size, set::both(set::flipped(bits), all), d as u32);
-    let next = set::both(moved(bits, d as u32), all);
-    Taken {
-        window: ReceiveWindow {
-            size,
-            highest: seq,
-            bits: next,
-        },
-        class: Class::New(d - 1),
-        lost: gone,
+    let up = moved(bits, sequence::distance(h, seq) as u32);
+    let next = set::both(up, set::lowest(size));
+    ReceiveWindow {
+        size,
+        highest: seq,
+        bits: next,
     }
 }
 
-// A number `back` behind the highest arrives.
-fn accept_behind(w: ReceiveWindow, back: u32) -> Taken
-    requires { ⌜ Valid w ⌝ }
-    ensures { λ r. ⌜ r ≡ cond (processed w back) (unchanged w) (lateAt w (back - 1)) ⌝ }
+// A number that is not ahead arrives: it is Late or a Duplicate, and nothing leaves.
+pub fn accept_behind(w: ReceiveWindow, seq: SeqNum) -> Taken
+    requires { ⌜ Valid w × (within 1 reach (ahead (w .highest) seq) ≡ false) ⌝ }
+    ensures { λ r. ⌜ r ≡ acceptOf w seq ⌝ }
 {
+    let size = w.size;
+    let highest = w.highest;
+    let bits = w.bits;
+    let back = sequence::distance(seq, highest) as u32;
     if processed_at(w, back) {
         return Taken {
             window: w,
@@ -216,9 +247,6 @@ fn accept_behind(w: ReceiveWindow, back: u32) -> Taken
             lost: Span::Nothing,
         };
     }
-    let size = w.size;
-    let highest = w.highest;
-    let bits = w.bits;
     let late = set::with(bits, back - 1);
     Taken {
         window: ReceiveWindow {
@@ -229,19 +257,6 @@ fn accept_behind(w: ReceiveWindow, back: u32) -> Taken
         class: Class::Late,
         lost: Span::Nothing,
     }
-}
-
-// A number arrives: what it is, and what leaves the window unprocessed.
-pub fn accept(w: ReceiveWindow, seq: SeqNum) -> Taken
-    requires { ⌜ Valid w ⌝ }
-    ensures { λ r. ⌜ r ≡ acceptOf w seq ⌝ }
-{
-    let h = w.highest;
-    let d = sequence::distance(h, seq);
-    if is_new(d) {
-        return accept_new(w, seq, d);
-    }
-    accept_behind(w, sequence::distance(seq, h) as u32)
 }
 
 // Whether the number is the next one, with nothing missing before it.
@@ -256,7 +271,7 @@ pub fn in_order(w: ReceiveWindow, seq: SeqNum) -> bool
     false
 }
 
-// The same as `accept` for a number that is in order: the highest alone changes.
+// A number in order arrives: the highest alone changes.
 pub fn accept_next(w: ReceiveWindow, seq: SeqNum) -> Taken
     requires { ⌜ Valid w × (inOrder w seq ≡ true) ⌝ }
     ensures { λ r. ⌜ r ≡ acceptOf w seq ⌝ }

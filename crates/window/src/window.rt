@@ -1,7 +1,7 @@
 // The window and its operations. Each takes the window by value and hands it back with its answer.
 ghost use mathlib.Core.Path.{_≡_};
 ghost use Rattle.window.specs.Marking.{inRange};
-ghost use Rattle.window.specs.Answers.{startAnswer, newAnswer, resetAnswer, classAnswer, acceptAnswer, processedAnswer, missingAnswer, requestAnswer, markAllAnswer, markAnswer};
+ghost use Rattle.window.specs.Answers.{startAnswer, newAnswer, resetAnswer, classAnswer, heard as heardOf, acceptAnswer, processedAnswer, missingAnswer, requestAnswer, markAllAnswer, markAnswer};
 use super::set;
 use super::set::Bits;
 use super::valid;
@@ -49,7 +49,7 @@ pub enum Class {
     Duplicate,
 }
 
-// What `valid::accept` leaves and answers.
+// What the arrival of a number leaves and answers.
 pub struct Taken {
     pub window: ReceiveWindow,
     pub class: Class,
@@ -124,6 +124,19 @@ pub struct Extended {
     pub answer: Extent,
 }
 
+// The answer to a number that was taken.
+fn heard(taken: Taken) -> Accepted
+    ensures { λ r. ⌜ r ≡ heardOf taken ⌝ }
+{
+    let window = taken.window;
+    let class = taken.class;
+    let lost = taken.lost;
+    Accepted {
+        window,
+        answer: Acceptance::Heard { class, lost },
+    }
+}
+
 impl SeqRange {
     // Whether `seq` is one of the numbers.
     pub fn contains(self, seq: SeqNum) -> bool
@@ -193,23 +206,19 @@ impl ReceiveWindow {
     {
         if valid::is_valid(self) {
             if valid::in_order(self, seq) {
-                let next = valid::accept_next(self, seq);
-                let window = next.window;
-                let class = next.class;
-                let lost = next.lost;
+                return heard(valid::accept_next(self, seq));
+            }
+            if valid::is_ahead(self, seq) {
+                let lost = valid::lost_to(self, seq);
                 return Accepted {
-                    window,
-                    answer: Acceptance::Heard { class, lost },
+                    window: valid::moved_to(self, seq),
+                    answer: Acceptance::Heard {
+                        class: valid::class_ahead(self, seq),
+                        lost,
+                    },
                 };
             }
-            let taken = valid::accept(self, seq);
-            let window = taken.window;
-            let class = taken.class;
-            let lost = taken.lost;
-            return Accepted {
-                window,
-                answer: Acceptance::Heard { class, lost },
-            };
+            return heard(valid::accept_behind(self, seq));
         }
         Accepted {
             window: self,

@@ -1,4 +1,4 @@
-//! The library's side, by its C functions.
+//! The library's side, by its C functions, which are calls of their own.
 use crate::raw::{self, Delivery, STREAM_WORDS};
 use crate::side::{LARGE, LIMIT, PLACES, SMALL, Side, Stream, WINDOW, delivery, fold};
 
@@ -56,12 +56,53 @@ fn commands(payload: &[u8], mut data: impl FnMut(u64, u16, &[u8]) -> u64) -> u64
     }
 }
 
+/// Words of a window of 64 that only the last of its tests refuses: a position outside the window is set.
+const REFUSED: [u64; 4] = [WINDOW as u64, 0xFFFF, u64::MAX, 1];
+
+/// A call of a window that makes all its tests, and is refused by the last one.
+pub fn window_tests() -> u64 {
+    let mut w = REFUSED;
+    let d = unsafe { raw::sirmjold_window_accept(std::hint::black_box(&mut w).as_mut_ptr(), 4, 0) };
+    assert_eq!(d.refusal, 13);
+    d.refusal.into()
+}
+
+/// The same of a write into a payload: its length is no multiple of 4.
+pub fn payload_tests(buf: &mut [u8], words: &[u32]) -> u64 {
+    let mut p = [10, LIMIT as u64];
+    let wrote = unsafe {
+        raw::sirmjold_ump_data_write(std::hint::black_box(&mut p).as_mut_ptr(), 2, buf.as_mut_ptr(), buf.len(), 0, words.as_ptr(), words.len())
+    };
+    assert_eq!(wrote, 13);
+    wrote.into()
+}
+
+impl<const C: usize> Ends<C> {
+    /// A stream whose receiver's calls make all their tests, and are refused by the last one.
+    pub fn refused() -> Self {
+        let mut e = Self::fresh();
+        e.words[..4].copy_from_slice(&REFUSED);
+        e
+    }
+
+    pub fn heard_tests(&mut self) -> u64 {
+        let d = unsafe { raw::sirmjold_stream_on_ump_data(self.words.as_mut_ptr(), STREAM_WORDS, CFG.as_ptr(), 8, 0, 0) };
+        assert_eq!(d.refusal, 13);
+        d.refusal.into()
+    }
+
+    pub fn poll_tests(&mut self) -> u64 {
+        let e = unsafe { raw::sirmjold_stream_poll(self.words.as_mut_ptr(), STREAM_WORDS, CFG.as_ptr(), 8, 0) };
+        assert_eq!(e.refusal, 13);
+        e.refusal.into()
+    }
+}
+
 impl Side for Ours {
     type Window = [u64; 4];
     type Small = Ends<SMALL>;
     type Large = Ends<LARGE>;
 
-    #[inline(never)]
     fn read(payload: &[u8]) -> u64 {
         commands(payload, |sum, seq, body| messages(body, fold(sum, seq.into())))
     }
@@ -70,7 +111,6 @@ impl Side for Ours {
         Self::read(payload)
     }
 
-    #[inline(never)]
     fn write_data(buf: &mut [u8], seq: u16, words: &[u32]) -> usize {
         let mut p = [0; 2];
         let opened = unsafe { raw::sirmjold_payload_new(p.as_mut_ptr(), 2, LIMIT) };
@@ -86,7 +126,6 @@ impl Side for Ours {
         w
     }
 
-    #[inline(never)]
     fn accept(w: &mut [u64; 4], seq: u16) -> u64 {
         told(unsafe { raw::sirmjold_window_accept(w.as_mut_ptr(), 4, seq) })
     }
@@ -102,7 +141,6 @@ impl<const C: usize> Stream for Ends<C> {
         e
     }
 
-    #[inline(never)]
     fn send(&mut self, words: &[u32]) {
         let sent = unsafe {
             raw::sirmjold_stream_send_ump(self.words.as_mut_ptr(), STREAM_WORDS, CFG.as_ptr(), 8, self.ring.as_mut_ptr(), C, words.as_ptr(), words.len())
@@ -110,7 +148,6 @@ impl<const C: usize> Stream for Ends<C> {
         assert_eq!(sent, 0);
     }
 
-    #[inline(never)]
     fn write(&mut self, now: u64, buf: &mut [u8]) -> (usize, bool) {
         let mut p = [0; 2];
         let opened = unsafe { raw::sirmjold_payload_new(p.as_mut_ptr(), 2, LIMIT) };
@@ -124,12 +161,10 @@ impl<const C: usize> Stream for Ends<C> {
         (p[0] as usize, w.more != 0)
     }
 
-    #[inline(never)]
     fn heard(&mut self, now: u64, seq: u16) -> u64 {
         told(unsafe { raw::sirmjold_stream_on_ump_data(self.words.as_mut_ptr(), STREAM_WORDS, CFG.as_ptr(), 8, now, seq) })
     }
 
-    #[inline(never)]
     fn receive(&mut self, now: u64, payload: &[u8]) -> u64 {
         commands(payload, |sum, seq, body| {
             let d = self.heard(now, seq);
@@ -138,7 +173,6 @@ impl<const C: usize> Stream for Ends<C> {
         })
     }
 
-    #[inline(never)]
     fn request(&mut self, seq: u16, count: u16) -> u64 {
         let o = unsafe {
             raw::sirmjold_stream_on_retransmit_request(self.words.as_mut_ptr(), STREAM_WORDS, CFG.as_ptr(), 8, self.ring.as_ptr(), C, seq, count)
@@ -147,14 +181,12 @@ impl<const C: usize> Stream for Ends<C> {
         o.kind.into()
     }
 
-    #[inline(never)]
     fn poll(&mut self, now: u64) -> u64 {
         let e = unsafe { raw::sirmjold_stream_poll(self.words.as_mut_ptr(), STREAM_WORDS, CFG.as_ptr(), 8, now) };
         assert_eq!(e.refusal, 0);
         e.kind.into()
     }
 
-    #[inline(never)]
     fn wants(&self, now: u64) -> bool {
         let w = unsafe { raw::sirmjold_stream_wants_write(self.words.as_ptr(), STREAM_WORDS, self.ring.as_ptr(), C, now) };
         assert_eq!(w.refusal, 0);

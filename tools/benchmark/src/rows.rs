@@ -1,6 +1,6 @@
 //! The rows: each makes a batch for a side. A batch does `units` units of work, goes on from the state that the
 //! last one left, and gives a sum of the answers.
-use crate::ours::Ours;
+use crate::ours::{self, Ours};
 use crate::rust::Rust;
 use crate::side::{LIMIT, Side, Stream, fold};
 use std::hint::black_box;
@@ -16,7 +16,7 @@ pub struct Row {
     pub series: Option<(&'static str, usize)>,
     pub ours: fn(usize) -> Batch,
     pub rust: fn(usize) -> Batch,
-    /// The library's state tests of one unit alone, where a send history is walked.
+    /// The library's tests of one unit alone.
     pub tests: Option<fn(usize) -> Batch>,
 }
 
@@ -41,6 +41,31 @@ fn payload(each: usize, bytes: usize) -> Vec<u8> {
         seq += 1;
     }
     p
+}
+
+/// What a console plays: so many words each time, or 1 to 4 of them drawn anew.
+struct Load {
+    words: Vec<u32>,
+    drawn: bool,
+    seed: u32,
+}
+
+/// The count of words that stands for 1 to 4 drawn ones.
+const DRAWN: usize = 0;
+
+impl Load {
+    fn new(words: usize) -> Load {
+        let drawn = words == DRAWN;
+        Load { words: (0..if drawn { 4 } else { words as u32 }).map(note).collect(), drawn, seed: 1 }
+    }
+
+    fn next(&mut self) -> &[u32] {
+        if self.drawn {
+            self.seed = self.seed.wrapping_mul(1_664_525).wrapping_add(1_013_904_223);
+            return &self.words[..1 + (self.seed >> 30) as usize];
+        }
+        &self.words
+    }
 }
 
 fn reading<S: Side>(p: Vec<u8>) -> Batch {
@@ -112,14 +137,14 @@ fn hear<S: Side>(kind: usize) -> Batch {
 
 /// Queues `words` words and writes a payload.
 fn queueing<T: Stream + 'static>(words: usize) -> Batch {
-    let words: Vec<u32> = (0..words as u32).map(note).collect();
+    let mut load = Load::new(words);
     let mut stream = T::fresh();
     let mut buf = vec![0; LIMIT];
     let mut now = 0;
     let mut batch = move |units| {
         (0..units).fold(0, |sum, _| {
             now += 1;
-            stream.send(black_box(&words));
+            stream.send(black_box(load.next()));
             let (len, more) = stream.write(now, &mut buf);
             fold(sum, len as u64 + u64::from(more) + u64::from(buf[len - 1]))
         })
@@ -184,11 +209,11 @@ fn ask_large<S: Side>(entries: usize) -> Batch {
 /// The two state tests of a queue call, or of a request, and a write, over the history that commands of `words`
 /// words have filled: `wants` tests the state, and then looks at it.
 fn testing<T: Stream + 'static>(words: usize) -> Batch {
-    let words: Vec<u32> = (0..words as u32).map(note).collect();
+    let mut load = Load::new(words);
     let mut stream = T::fresh();
     let mut buf = vec![0; LIMIT];
     for _ in 0..8 * UNITS {
-        stream.send(&words);
+        stream.send(load.next());
         stream.write(0, &mut buf);
     }
     Box::new(move || (0..2 * UNITS).fold(0, |sum, _| fold(sum, black_box(&stream).wants(1).into())))
@@ -202,6 +227,27 @@ fn test_large(words: usize) -> Batch {
     testing::<<Ours as Side>::Large>(words)
 }
 
+/// The tests of a call of a window, of a receiver or of a payload alone: calls that the last test refuses.
+fn test_window(_: usize) -> Batch {
+    Box::new(|| (0..UNITS).fold(0, |sum, _| fold(sum, ours::window_tests())))
+}
+
+fn test_payload(words: usize) -> Batch {
+    let words: Vec<u32> = (0..words as u32).map(note).collect();
+    let mut buf = vec![0; LIMIT];
+    Box::new(move || (0..UNITS).fold(0, |sum, _| fold(sum, ours::payload_tests(&mut buf, black_box(&words)))))
+}
+
+fn test_hear(_: usize) -> Batch {
+    let mut stream = <Ours as Side>::Small::refused();
+    Box::new(move || (0..UNITS).fold(0, |sum, _| fold(sum, stream.heard_tests())))
+}
+
+fn test_poll(_: usize) -> Batch {
+    let mut stream = <Ours as Side>::Small::refused();
+    Box::new(move || (0..UNITS).fold(0, |sum, _| fold(sum, stream.poll_tests())))
+}
+
 fn poll<S: Side>(_: usize) -> Batch {
     let mut stream = S::Small::fresh();
     stream.heard(0, 0);
@@ -212,14 +258,14 @@ fn poll<S: Side>(_: usize) -> Batch {
 /// A console plays `words` words, its payload goes to the chamber unless it is each eighth, and both look at their
 /// timers.
 fn rounds<T: Stream + 'static>(words: usize) -> Batch {
-    let words: Vec<u32> = (0..words as u32).map(note).collect();
+    let mut load = Load::new(words);
     let (mut console, mut chamber) = (T::fresh(), T::fresh());
     let mut buf = vec![0; LIMIT];
     let mut now = 0u64;
     let mut batch = move |units| {
         (0..units).fold(0, |sum, _| {
             now += 1;
-            console.send(black_box(&words));
+            console.send(black_box(load.next()));
             let (len, more) = console.write(now, &mut buf);
             let mut sum = fold(sum, len as u64 + u64::from(more));
             if now % 8 != 0 {
@@ -281,25 +327,28 @@ pub fn rows() -> Vec<Sized> {
         row!("the same steps apart, 1 word", "payload", None, read_notes_apart, 12),
         row!("the same steps apart, 174 commands", "payload", None, read_notes_apart, LIMIT),
         row!("the same steps apart, 6 commands", "payload", None, read_blocks_apart, LIMIT),
-        row!("write a command, 1 word", "command", None, write_command, 1),
-        row!("write a command, 64 words", "command", None, write_command, 64),
+        row!("write a command, 1 word", "command", None, write_command, 1, test_payload),
+        row!("write a command, 64 words", "command", None, write_command, 64, test_payload),
     ];
     let kinds = ["in order", "every fourth skipped", "every fourth late", "each twice"];
     for (k, kind) in kinds.iter().enumerate() {
-        rows.push(row!(format!("accept a number, {kind}"), "number", None, accept, k));
+        rows.push(row!(format!("accept a number, {kind}"), "number", None, accept, k, test_window));
     }
     for (k, kind) in kinds.iter().enumerate() {
-        rows.push(row!(format!("hear a command, {kind}"), "command", None, hear, k));
+        rows.push(row!(format!("hear a command, {kind}"), "command", None, hear, k, test_hear));
     }
     rows.extend([
-        row!("poll, a request is not due yet", "call", None, poll, 0),
+        row!("poll, a request is not due yet", "call", None, poll, 0, test_poll),
         row!("queue and write 1 word, history 256", "payload", None, queue_small, 1, test_small),
         row!("queue and write 1 word, history 4096", "payload", None, queue_large, 1, test_large),
+        row!("queue and write 1 to 4 words, history 256", "payload", None, queue_small, DRAWN, test_small),
+        row!("queue and write 1 to 4 words, history 4096", "payload", None, queue_large, DRAWN, test_large),
         row!("queue and write 192 words, history 256", "payload", None, queue_small, 192, test_small),
         row!("queue and write 192 words, history 4096", "payload", None, queue_large, 192, test_large),
         row!("serve a request for 16 commands, history 256", "request", None, serve_small, 16, |_| test_small(1)),
         row!("serve a request for 16 commands, history 4096", "request", None, serve_large, 16, |_| test_large(1)),
         row!("a whole round, 1 word, history 256", "round", None, round_small, 1, test_small),
+        row!("a whole round, 1 to 4 words, history 256", "round", None, round_small, DRAWN, test_small),
         row!("a whole round, 16 words, history 256", "round", None, round_small, 16, test_small),
         row!("a whole round, 192 words, history 256", "round", None, round_small, 192, test_small),
         row!("a whole round, 1 word, history 4096", "round", None, round_large, 1, test_large),

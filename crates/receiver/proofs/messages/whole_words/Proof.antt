@@ -1,42 +1,56 @@
--- From every message on, the whole messages that are left have the words that are not counted yet.
-use mathlib.Core.Path.{_≡_}
+-- From every message on, the whole messages that are left have the words that are not counted yet. `same` is the length that was just read.
+use mathlib.Core.Path.{_≡_, sym, _∙_}
+use mathlib.Core.Logic.{⊎-elim}
 use Prim.Native.Nat.{_+_, _-_, _≤_}
 use native.Mathlib.Omega.{arith}
 use borrow.Author.Needs.{needs}
 use lib.ListN.{length, drop}
 use Rattle.packet.specs.Bytes.{wordsOf}
 use Rattle.packet.proofs.Reading.{length-wordsOf}
-use Rattle.receiver.specs.Messages.{wholeWords}
+use Rattle.command.specs.Messages.{messageAt}
+use Rattle.receiver.specs.Messages.{itemWords, wholeWords}
 use Rattle.receiver.proofs.Handed.{whole-fits, whole-turn, whole-end}
 use Rattle.receiver.proofs.messages.whole_words.Statement.{statement}
 use Rattle.receiver.proofs.messages.whole_words.Tie as tie
 
 abbrev Inv-loop : tie.InvT-loop
-Inv-loop body at₀ at =
-    (at ≤ length (wordsOf body)) × (at + length (wholeWords (drop at (wordsOf body))) ≡ length (wholeWords (wordsOf body)))
+Inv-loop body at₀ same₀ at same =
+    (at ≤ length (wordsOf body)) × (at + length (wholeWords (drop at (wordsOf body))) ≡ length (wholeWords (wordsOf body))) × (1 ≤ same)
 
 abbrev μ-loop : tie.MeasureT-loop
-μ-loop body at₀ at = length (wordsOf body) - at
+μ-loop body at₀ same₀ at same = length (wordsOf body) - at
+
+-- `same` after the tests: the words of the message at hand, of which there is one
+read : (c : tie.Joined1 Inv-loop μ-loop) → c .if1 .same ≡ itemWords (messageAt (wordsOf (c .before .before .before .before .args .body .now)) (c .before .before .loop .at))
+read c = ⊎-elim (λ (f, g, e). e) (λ (f, e). e ∙ sym (f .left)) (c .if1 .came) ∙ c .before .words-at .ensures
+
+some : (c : tie.Joined1 Inv-loop μ-loop) → 1 ≤ c .if1 .same
+some c = ⊎-elim (λ w. omega arith) (λ w. omega arith) (c .if1 .came)
+
+fits : (c : tie.Joined1 Inv-loop μ-loop) → c .before .before .loop .at + c .if1 .same ≤ length (wordsOf (c .before .before .before .before .args .body .now))
+fits c = whole-fits _ _ _ (read c) (c .before .before .loop .inv .0)
 
 loop-holds : tie.Need-loop-holds Inv-loop μ-loop
-loop-holds c = (omega arith, omega arith)
+loop-holds c = (omega arith, omega arith, omega arith)
 
 words-at-requires : tie.Need-words-at-requires Inv-loop μ-loop
 words-at-requires c κs = search needs
 
 returns : tie.Need-returns Inv-loop μ-loop
-returns c = whole-end _ _ _ (c .before .words-at .ensures) _ (c .before .before .loop .inv .1) (c .if1 .taken)
+returns c =
+    let w = c .before .before in
+    whole-end _ _ _ (w .words-at .ensures) _ (w .before .loop .inv .1) (c .if2 .taken)
 
 add-at : tie.Need-add-at Inv-loop μ-loop
-add-at c =
-    omega (arith, whole-fits _ _ _ (c .before .words-at .ensures) (c .before .before .loop .inv .0), length-wordsOf (c .before .before .before .before .args .body .now))
+add-at c = omega (arith, fits (c .before), length-wordsOf (c .before .before .before .before .before .args .body .now))
 
 loop-less : tie.Need-loop-less Inv-loop μ-loop
-loop-less c = omega (arith, whole-fits _ _ _ (c .before .words-at .ensures) (c .before .before .loop .inv .0))
+loop-less c = omega (arith, fits (c .before), some (c .before))
 
 loop-again : tie.Need-loop-again Inv-loop μ-loop
 loop-again c =
-    (whole-fits _ _ _ (c .before .words-at .ensures) (c .before .before .loop .inv .0), whole-turn _ _ _ (c .before .words-at .ensures) _ (c .before .before .loop .inv .1))
+    let j = c .before in
+    (fits j, whole-turn _ _ _ (read j) _ (j .before .before .loop .inv .1), some j)
 
 pub whole-words-spec : {M : Type 1} → statement M
 whole-words-spec =

@@ -1,7 +1,6 @@
--- The window takes the number and stays valid; the rest follows from its class.
+-- The number is in order, ahead or behind, and each way meets the contract.
 use mathlib.Core.Path.{sym, _∙_}
-use Rattle.receiver.proofs.Validity.{valid-window, valid-taken}
-use Rattle.receiver.proofs.Settled.{heard-of}
+use Rattle.receiver.proofs.Validity.{valid-window}
 use borrow.Author.Needs.{needs}
 use Rattle.receiver.proofs.valid.on_ump_data.Statement.{statement}
 use Rattle.receiver.proofs.valid.on_ump_data.Tie as tie
@@ -16,18 +15,22 @@ heard-next-requires c κs =
 returns : tie.Need-returns
 returns c = c .heard-next .ensures
 
-accept-requires : tie.Need-accept-requires
-accept-requires c κs = valid-window _ (c .before .before .before .pre)
+is-ahead-requires : tie.Need-is-ahead-requires
+is-ahead-requires c κs = search needs
 
-settled-requires : tie.Need-settled-requires
-settled-requires c κs = valid-taken _ (valid-window _ (c .before .before .before .before .before .pre)) _ _ (c .before .accept .ensures)
-
-gap-requires : tie.Need-gap-requires
-gap-requires c κs = search needs
+heard-ahead-requires : tie.Need-heard-ahead-requires
+heard-ahead-requires c κs =
+    (c .before .before .before .before .before .pre, sym (c .before .is-ahead .ensures) ∙ c .if2 .taken)
 
 returns-2 : tie.Need-returns-2
-returns-2 c =
-    heard-of _ _ _ _ _ _ _ (c .before .before .before .accept .ensures) (c .before .settled .ensures) (c .gap .ensures)
+returns-2 c = c .heard-ahead .ensures
+
+heard-behind-requires : tie.Need-heard-behind-requires
+heard-behind-requires c κs =
+    (c .before .before .before .before .before .pre, sym (c .before .is-ahead .ensures) ∙ c .if2 .left)
+
+returns-3 : tie.Need-returns-3
+returns-3 c = c .heard-behind .ensures
 
 pub on-ump-data-spec : {M : Type 1} → statement M
 on-ump-data-spec =
@@ -36,7 +39,8 @@ on-ump-data-spec =
     in-order-requires
     heard-next-requires
     returns
-    accept-requires
-    settled-requires
-    gap-requires
-    returns-2)
+    is-ahead-requires
+    heard-ahead-requires
+    returns-2
+    heard-behind-requires
+    returns-3)

@@ -1,6 +1,7 @@
--- From every message on, what the front still takes and what is passed make up the whole front.
-use mathlib.Core.Path.{_≡_}
+-- From every message on, what the front still takes and what is passed make up the whole front. Both ways through the branch leave in `same` the length of the message that was read.
+use mathlib.Core.Path.{_≡_, _∙_}
 use mathlib.Core.Bool.{true}
+use mathlib.Core.Logic.{⊎-elim}
 use Prim.Native.Nat.{_+_, _-_, _≤_}
 use native.Mathlib.Omega.{arith}
 use borrow.Author.Needs.{needs}
@@ -12,14 +13,14 @@ use Rattle.sender.proofs.messages.front_words.Statement.{statement}
 use Rattle.sender.proofs.messages.front_words.Tie as tie
 
 abbrev Inv-loop : tie.InvT-loop
-Inv-loop words n at₀ at =
+Inv-loop words n at₀ same₀ at same =
     (at ≤ length words)
     × (at ≤ n)
     × (wholeOf (drop at words) ≡ true)
     × (at + length (front (n - at) (drop at words)) ≡ length (front n words))
 
 abbrev μ-loop : tie.MeasureT-loop
-μ-loop words n at₀ at = length words - at
+μ-loop words n at₀ same₀ at same = length words - at
 
 returns : tie.Need-returns Inv-loop μ-loop
 returns c = (part-of _ _ (c .before .before .pre) .all (c .if1 .taken), omega arith, c .if1 .taken)
@@ -36,31 +37,42 @@ shared-slice-read-message-words c = search needs
 message-words-requires : tie.Need-message-words-requires Inv-loop μ-loop
 message-words-requires c κs = search needs
 
-sub-if2 : tie.Need-sub-if2 Inv-loop μ-loop
-sub-if2 c = search needs
+sub-if3 : tie.Need-sub-if3 Inv-loop μ-loop
+sub-if3 c = search needs
 
 returns-2 : tie.Need-returns-2 Inv-loop μ-loop
 returns-2 c =
-    let turn = c .before .before .before in
-    (front-here _ _ (turn .loop-test .taken) (turn .before .loop .inv .2) _ (c .before .message-words .ensures .0) _ _ (turn .before .loop .inv .3) (c .if2 .taken), omega arith, omega arith)
+    let turn = c .before .before .before .before in
+    (front-here _ _ (turn .loop-test .taken) (turn .before .loop .inv .2) _ (c .before .before .message-words .ensures .0) _ _ (turn .before .loop .inv .3) (c .if3 .taken), omega arith, omega arith)
 
-add-at : tie.Need-add-at Inv-loop μ-loop
-add-at c =
-    let turn = c .before .before .before in
-    omega (arith, turn-fits _ _ (turn .loop-test .taken) (turn .before .loop .inv .2) _ (c .before .message-words .ensures .0))
-
-loop-less : tie.Need-loop-less Inv-loop μ-loop
-loop-less c = search needs
-
-loop-again : tie.Need-loop-again Inv-loop μ-loop
-loop-again c =
-    let turn = c .before .before .before in
-    let l = turn .before .loop in
-    let m = c .before .message-words .ensures .0 in
-    (omega (arith, turn-fits _ _ (turn .loop-test .taken) (l .inv .2) _ m), omega arith, turn-whole _ _ (turn .loop-test .taken) (l .inv .2) _ m, front-turn _ _ (turn .loop-test .taken) (l .inv .2) _ m _ _ (l .inv .3) (c .if2 .left))
+sub-if4 : tie.Need-sub-if4 Inv-loop μ-loop
+sub-if4 c = search needs
 
 returns-3 : tie.Need-returns-3 Inv-loop μ-loop
 returns-3 c =
+    let turn = c .before .before .before .before in
+    (front-here _ _ (turn .loop-test .taken) (turn .before .loop .inv .2) _ (c .before .before .message-words .ensures .0) _ _ (turn .before .loop .inv .3) (omega arith), omega arith, omega arith)
+
+add-at : tie.Need-add-at Inv-loop μ-loop
+add-at c =
+    let turn = c .before .before .before .before in
+    let f = turn-fits _ _ (turn .loop-test .taken) (turn .before .loop .inv .2) _ (c .before .before .message-words .ensures .0) in
+    ⊎-elim (λ w. omega arith) (λ w. omega arith) (c .before .if2 .came)
+
+loop-less : tie.Need-loop-less Inv-loop μ-loop
+loop-less c = ⊎-elim (λ w. omega arith) (λ w. omega arith) (c .before .if2 .came)
+
+loop-again : tie.Need-loop-again Inv-loop μ-loop
+loop-again c =
+    let turn = c .before .before .before .before in
+    let l = turn .before .loop in
+    let same : c .before .if2 .same ≡ c .before .before .message-words .result = ⊎-elim (λ w. omega arith) (λ w. omega arith) (c .before .if2 .came) in
+    let few : c .before .if2 .same ≤ turn .before .before .before .before .args .n - l .at = ⊎-elim (λ w. omega arith) (λ w. omega arith) (c .before .if2 .came) in
+    let m = same ∙ c .before .before .message-words .ensures .0 in
+    (omega (arith, turn-fits _ _ (turn .loop-test .taken) (l .inv .2) _ m), omega arith, turn-whole _ _ (turn .loop-test .taken) (l .inv .2) _ m, front-turn _ _ (turn .loop-test .taken) (l .inv .2) _ m _ _ (l .inv .3) few)
+
+returns-4 : tie.Need-returns-4 Inv-loop μ-loop
+returns-4 c =
     let l = c .before .loop in
     (front-end _ _ _ _ (c .loop-test .left) (l .inv .3), omega arith, omega arith)
 
@@ -75,9 +87,11 @@ front-words-spec =
     mul-message-words
     shared-slice-read-message-words
     message-words-requires
-    sub-if2
+    sub-if3
     returns-2
+    sub-if4
+    returns-3
     add-at
     loop-less
     loop-again
-    returns-3)
+    returns-4)
