@@ -1,17 +1,14 @@
 -- Words within their limits, and words that are stored.
-use mathlib.Core.Path.{_≡_, refl, ap, sym, _∙_}
+use mathlib.Core.Path.{_≡_, refl}
 use mathlib.Core.Bool.{Bool, true, false, _&&_}
-use mathlib.Core.List.{List, [], _∷_, _++_, append-nil}
+use mathlib.Core.List.{List, [], _∷_, append-nil}
 use Prim.Native.Nat.{ℕ, zero, suc, _+_, _≤_, _<_}
 use native.Mathlib.Omega.{arith}
-use native.Mathlib.Numerals.{add-one}
-use lib.ListN.{length, getD, take, drop, set, drop-of-length-le, length-append}
-use lib.Seq.{take-suc, take-all, length-take-le}
-use borrow.Author.Tests.{le-leb, lt-leb, leb-true}
+use lib.ListN.{length, getD, drop-of-length-le}
+use borrow.Author.Tests.{lt-leb, leb-true}
 use lib.Dec.{leb}
 use Rattle.config.proofs.Tests.{and-left, and-right}
 use Rattle.packet.specs.Bytes.{spliced}
-use Rattle.packet.proofs.Splice.{spliced-sets, spliced-append, length-spliced}
 use Rattle.capi.specs.Limits.{within}
 
 pub and-false : (a b : Bool) → false ≡ b → false ≡ a && b
@@ -38,17 +35,6 @@ above-at (p ∷ ps) ws zero h g = rw (lt-leb (getD ws (p .0) 0) (p .1) g)
 above-at (p ∷ ps) ws (suc i) h g = and-false (leb (getD ws (p .0) 0) (p .1)) _ (above-at ps ws i (omega arith) g)
 
 -- ---- words that are stored
--- one more
-pub put-turn : (to from : List ℕ) (at k : ℕ) → at + length from ≤ length to → k < length from
-    → set (spliced to at (take k from)) (at + k) (getD from k 0) ≡ spliced to at (take (k + 1) from)
-put-turn to from at k h g =
-    let l : length (take k from) ≡ k = length-take-le k from (omega arith) in
-    let e : at + length (take k from) ≡ at + k = omega arith in
-    let w : at + k + 1 ≤ length (spliced to at (take k from)) = omega (arith, length-spliced to at (take k from) (omega arith)) in
-    sym (spliced-sets (spliced to at (take k from)) (at + k) (getD from k 0 ∷ []) w)
-    ∙ spliced-append to at (at + k) (take k from) (getD from k 0 ∷ []) e (omega arith)
-    ∙ ap (spliced to at) (sym (rw (add-one k) (take-suc from k 0 g)))
-
 -- as many as there are
 pub put-whole : (to from : List ℕ) → length to ≡ length from → spliced to 0 from ≡ from
 unfolding spliced

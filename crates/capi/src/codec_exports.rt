@@ -7,6 +7,7 @@ ghost use Rattle.packet.specs.Bytes.{wordsOf};
 ghost use Rattle.packet.specs.Read.{openOf, nextOf, wordAt};
 ghost use Rattle.command.specs.Parse.{parsedOf};
 ghost use Rattle.command.specs.Messages.{messageAt};
+ghost use Rattle.reading.specs.Next.{readAt};
 ghost use Rattle.capi.specs.Reading.{placeOf, itemOf, commandOf, messageOf, lookupOf};
 ghost use Rattle.command.specs.Write.{dataWritten, requestPacket, errorWritten};
 ghost use Rattle.capi.specs.Exports.{openExport, commandExport};
@@ -27,6 +28,8 @@ use packet::reader::PacketItem;
 use packet::reader::Packets;
 use packet::writer::Opened;
 use packet::writer::PayloadWriter;
+use reading::next;
+use reading::next::Read;
 
 // A place in a payload.
 #[repr(C)]
@@ -225,6 +228,20 @@ pub extern "C" fn sirmjold_packet_next(payload: &[u8], at: usize) -> CItem
             csd2: header.csd2,
         },
     }
+}
+
+// The command at a place, with its words and the lengths of its messages: one call for each command.
+// At 0 the signature is tested, and the first command is read.
+#[no_mangle]
+pub extern "C" fn sirmjold_command_next(
+    payload: &[u8],
+    at: usize,
+    words: &mut [u32],
+    lens: &mut [u8],
+) -> Read
+    ensures { λ r. ⌜ (r, now (words .exit), now (lens .exit)) ≡ readAt (now (payload .entry)) at (now (words .entry)) (now (lens .entry)) ⌝ }
+{
+    next::next(payload, at, words, lens)
 }
 
 // What a received command is; `body` holds the bytes of its words.

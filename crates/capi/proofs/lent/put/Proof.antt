@@ -8,7 +8,7 @@ use native.Mathlib.Omega.{arith}
 use borrow.Author.Needs.{needs}
 use Rattle.packet.specs.Bytes.{spliced}
 use Rattle.packet.proofs.Splice.{spliced-nil}
-use Rattle.capi.proofs.Within.{put-turn}
+use Rattle.reading.proofs.Stores.{put-turn}
 use Rattle.capi.proofs.lent.put.Statement.{statement}
 use Rattle.capi.proofs.lent.put.Tie as tie
 

@@ -1,0 +1,105 @@
+-- What `next` answers, by what was found.
+use mathlib.Core.Path.{_≡_, ap, _∙_}
+use mathlib.Core.Logic.{inl, inr}
+use mathlib.Core.Bool.{true, false, not, _||_}
+use mathlib.Core.List.{List}
+use Prim.Native.Nat.{ℕ, _+_, _*_, _≤_, _<_}
+use native.Mathlib.Omega.{arith}
+use borrow.Author.Tests.{eq-eqb, ne-eqb, lt-ltb, le-ltb}
+use lib.ListN.{length, take, drop, length-take}
+use lib.Dec.{eqb, ltb}
+use Rattle.config.specs.declared.refusal.Refusal.{Refusal}
+use Rattle.config.proofs.Tests.{split}
+use Rattle.packet.specs.Bytes.{wordsOf, spliced}
+use Rattle.packet.specs.Read.{csdOf, signed, openOf, nextOf, bodyOf}
+use Rattle.packet.specs.declared.reader.Cursor.{Cursor}
+use Rattle.packet.specs.declared.reader.Header.{Header}
+use Rattle.packet.specs.declared.reader.Packets.{Packets}
+use Rattle.packet.specs.declared.reader.Packets.the-variants.{At, Refused}
+use Rattle.packet.specs.declared.reader.PacketItem.{PacketItem}
+use Rattle.packet.specs.declared.reader.PacketItem.the-variants.{Command, Truncated, End}
+use Rattle.packet.proofs.Reading.{open-signed, open-unsigned}
+use Rattle.packet.proofs.Splice.{take-spliced}
+use Rattle.command.specs.Parse.{parsedOf}
+use Rattle.reading.specs.Words.{wholeCount, lengthsOf}
+use Rattle.reading.specs.Next.{readOf, refusedRead, firstOf, dataRead, otherRead, wholeRead, itemRead, readAt}
+use Rattle.reading.specs.declared.next.Read.{Read}
+
+abbrev Answer : Type 0
+Answer = Read × List ℕ × List ℕ
+
+-- ---- opening
+pub opened-signed : (b : List ℕ) (c : Cursor) → openOf b ≡ At c → signed b ≡ true
+opened-signed b c e = elim (split (signed b)) [
+  | inl k ↦ k
+  | inr k ↦ absurd (let f = open-unsigned b k in let z : _≡_ {A = ℕ} 0 1 = cc in let y : ⊥ = omega arith in y)
+]
+
+pub refused-unsigned : (b : List ℕ) (why : Refusal) → openOf b ≡ Refused why → signed b ≡ false
+refused-unsigned b why e = elim (split (signed b)) [
+  | inl k ↦ absurd (let f = open-signed b k in let z : _≡_ {A = ℕ} 0 1 = cc in let y : ⊥ = omega arith in y)
+  | inr k ↦ k
+]
+
+-- ---- a whole command
+pub data-is : (h : Header) (next : ℕ) (ws lens : List ℕ) (n k : ℕ) (lens′ : List ℕ) → n ≡ csdOf h → k ≡ wholeCount ws → lens′ ≡ spliced lens 0 (lengthsOf ws)
+    → _≡_ {A = Read × List ℕ} (readOf next 3 0 (h .len) n k, lens′) (dataRead h next ws lens)
+unfolding dataRead
+data-is h next ws lens n k lens′ a b e = rw (a, b, e)
+
+-- the words that were stored are at the front
+pub front-stored : (words ws : List ℕ) (n : ℕ) → n ≡ length ws → length ws ≤ length words → take n (spliced words 0 ws) ≡ ws
+front-stored words ws n e f =
+    let m : n ≡ 0 + length ws = omega arith in
+    rw m (take-spliced words 0 ws (omega arith))
+
+module _ (h : Header) (next : ℕ) (ws words lens : List ℕ) (words′ : List ℕ) (stored : words′ ≡ spliced words 0 ws) where
+  pub whole-data : h .code ≡ 0xFF → (n : ℕ) → n ≡ length ws → length ws ≤ length words → (r : Read) (lens′ : List ℕ) → (r, lens′) ≡ dataRead h next (take n words′) lens
+      → _≡_ {A = Answer} (r, words′, lens′) (wholeRead h next ws words lens)
+  unfolding wholeRead
+  whole-data c n e f r lens′ q =
+      let g : take n words′ ≡ ws = rw stored (front-stored words ws n e f) in
+      let q′ : (r, lens′) ≡ dataRead h next ws lens = rw g at q in
+      rw (eq-eqb (h .code) 0xFF c, stored, ← q′)
+
+  pub whole-other : (h .code ≡ 0xFF → ⊥) → (r : Read) → r ≡ otherRead (h .len) next (parsedOf h ws) → _≡_ {A = Answer} (r, words′, lens) (wholeRead h next ws words lens)
+  unfolding wholeRead
+  whole-other c r e = rw (ne-eqb (h .code) 0xFF c, stored, e)
+
+-- ---- what stands at a place
+pub body-few : (b : List ℕ) (at : ℕ) (h : Header) (body : List ℕ) → body ≡ bodyOf b at h → h .len ≤ 255 → length body ≤ 1020
+unfolding bodyOf
+body-few b at h body e f = rw e (omega (arith, length-take (4 * h .len) (drop (at + 4) b)))
+
+module _ (b : List ℕ) (at : ℕ) (words lens : List ℕ) where
+  pub item-end : nextOf b at ≡ End → (r : Read) → r ≡ refusedRead 0 → _≡_ {A = Answer} (r, words, lens) (itemRead (nextOf b at) b words lens)
+  item-end e r q = rw (e, q)
+
+  pub item-cut : (h : Header) → nextOf b at ≡ Truncated h → (n : ℕ) → n ≡ csdOf h → _≡_ {A = Answer} (readOf 0 1 (h .code) (h .len) n 0, words, lens) (itemRead (nextOf b at) b words lens)
+  item-cut h e n q = rw (e, q)
+
+  pub item-whole : (h : Header) (place : ℕ) (next : Cursor) → nextOf b at ≡ Command h place next → (body : List ℕ) → body ≡ bodyOf b place h
+      → (a : Answer) → a ≡ wholeRead h (next .at) (wordsOf body) words lens → a ≡ itemRead (nextOf b at) b words lens
+  item-whole h place next e body q a w = rw (e, ← q) w
+
+-- ---- the tests
+module _ (b : List ℕ) (at : ℕ) (words lens : List ℕ) where
+  pub read-words : length words < 255 → (r : Read) → r ≡ refusedRead 13 → _≡_ {A = Answer} (r, words, lens) (readAt b at words lens)
+  unfolding readAt
+  read-words f r q = rw (lt-ltb (length words) 255 f, q)
+
+  module _ (f : 255 ≤ length words) where
+    pub read-lens : length lens < 255 → (r : Read) → r ≡ refusedRead 13 → _≡_ {A = Answer} (r, words, lens) (readAt b at words lens)
+    unfolding readAt
+    read-lens g r q = rw (le-ltb (length words) 255 f, lt-ltb (length lens) 255 g, q)
+
+    module _ (g : 255 ≤ length lens) where
+      pub read-item : (not (eqb at 0) || signed b) ≡ true → (n : ℕ) → n ≡ firstOf at → (a : Answer) → a ≡ itemRead (nextOf b n) b words lens → a ≡ readAt b at words lens
+      unfolding readAt
+      read-item o n e a q =
+          let q′ : a ≡ itemRead (nextOf b (firstOf at)) b words lens = rw e at q in
+          rw (le-ltb (length words) 255 f, le-ltb (length lens) 255 g, o) q′
+
+      pub read-unsigned : (not (eqb at 0) || signed b) ≡ false → (r : Read) → r ≡ refusedRead 1 → _≡_ {A = Answer} (r, words, lens) (readAt b at words lens)
+      unfolding readAt
+      read-unsigned o r q = rw (le-ltb (length words) 255 f, le-ltb (length lens) 255 g, o, q)
