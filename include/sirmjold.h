@@ -267,6 +267,38 @@ struct sirmjold_place sirmjold_packet_open(const uint8_t *payload, size_t payloa
 /* What stands at a place. */
 struct sirmjold_item sirmjold_packet_next(const uint8_t *payload, size_t payload_len, size_t at);
 
+/* What sirmjold_command_next finds. */
+enum sirmjold_read_kind {
+    SIRMJOLD_READ_END = 0,
+    SIRMJOLD_READ_TRUNCATED = 1, /* longer than the rest: reading ends */
+    SIRMJOLD_READ_RAW = 2,
+    SIRMJOLD_READ_UMP_DATA = 3,
+    SIRMJOLD_READ_REQUEST = 4,
+    SIRMJOLD_READ_ERROR = 5
+};
+
+struct sirmjold_read {
+    uint64_t next; /* the place of the next command; 0 where reading ends */
+    uint8_t refusal;
+    uint8_t kind;
+    uint8_t code; /* of a raw or a cut command; of an error its reason */
+    uint8_t len;  /* the words of the command */
+    uint16_t seq; /* the number; of a raw or a cut command its two specific bytes */
+    uint16_t count; /* of data, the words of its whole messages; of a request, how many it asks for */
+};
+
+/* The longest command: `words` and `lens` below have room for so many. */
+#define SIRMJOLD_COMMAND_WORDS_MAX 255
+
+/* The command at a place, with its words in the machine's order at the front of `words`, and for data
+ * the length of each whole message, in words, at the front of `lens`: one call for each command of a
+ * payload. Begin with the place 0, where the signature is tested (1). Data whose `count` is less than
+ * its `len` ends inside a message. 10 is a request or an error without its word: reading goes on at
+ * `next`, and `len` is given too. 13 when `words` or `lens` is shorter than 255. */
+struct sirmjold_read sirmjold_command_next(const uint8_t *payload, size_t payload_len, size_t at,
+                                           uint32_t *words, size_t words_len, uint8_t *lens,
+                                           size_t lens_len);
+
 /* What a command is, of whose words `body` holds the bytes; 10 for a request or an error without its
  * word. */
 struct sirmjold_command sirmjold_command_parse(uint8_t code, uint8_t len, uint8_t csd1, uint8_t csd2,

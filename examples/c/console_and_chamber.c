@@ -93,20 +93,15 @@ static void report(uint16_t first, uint16_t count)
 }
 
 /* The chamber hands on the messages of a data command. */
-static void hand_on(const uint8_t *body, size_t len, uint16_t seq)
+static void hand_on(const uint32_t *words, const uint8_t *lens, size_t count, uint16_t seq)
 {
-    size_t at = 0;
-    for (;;) {
-        struct sirmjold_message m = sirmjold_messages_next(body, len, at);
-        if (m.kind != SIRMJOLD_WHOLE)
-            return;
-        uint32_t note = sirmjold_word(body, len, at).word & 0xFFFF;
+    for (size_t at = 0, k = 0; at < count; at += lens[k++]) {
+        uint32_t note = words[at] & 0xFFFF;
         if (note >= NOTES)
             fail("a note that nobody played", note);
         handed[note]++;
         if (note != seq)
             fail("a note in another command than its own", note);
-        at = (size_t)m.next;
     }
 }
 
@@ -123,29 +118,26 @@ static void error_back(uint64_t now, uint8_t reason, uint16_t seq)
 static void arrive(struct flying *f, uint64_t now)
 {
     struct end *e = f->to_chamber ? &chamber : &console;
-    struct sirmjold_place place = sirmjold_packet_open(f->bytes, f->len);
-    if (place.refusal)
-        fail("a payload without its signature", place.refusal);
-    size_t at = (size_t)place.at;
+    uint32_t words[SIRMJOLD_COMMAND_WORDS_MAX];
+    uint8_t lens[SIRMJOLD_COMMAND_WORDS_MAX];
+    size_t at = 0;
     for (;;) {
-        struct sirmjold_item item = sirmjold_packet_next(f->bytes, f->len, at);
-        if (item.kind != SIRMJOLD_WHOLE)
-            return;
-        const uint8_t *body = f->bytes + at + 4;
-        size_t len = 4 * (size_t)item.len;
-        struct sirmjold_command c =
-            sirmjold_command_parse(item.code, item.len, item.csd1, item.csd2, body, len);
+        struct sirmjold_read c =
+            sirmjold_command_next(f->bytes, f->len, at, words, SIRMJOLD_COMMAND_WORDS_MAX, lens,
+                                  SIRMJOLD_COMMAND_WORDS_MAX);
         if (c.refusal)
-            fail("a command that does not parse", c.refusal);
-        if (c.kind == SIRMJOLD_UMP_DATA) {
+            fail("a payload that cannot be read", c.refusal);
+        if (c.next == 0)
+            return;
+        if (c.kind == SIRMJOLD_READ_UMP_DATA) {
             struct sirmjold_delivery d = sirmjold_stream_on_ump_data(
                 e->words, SIRMJOLD_STREAM_WORDS, cfg, SIRMJOLD_SETTINGS, now, c.seq);
             if (d.refusal)
                 fail("on_ump_data", d.refusal);
             report(d.lost_first, d.lost_count);
             if (d.class_ != SIRMJOLD_DUPLICATE)
-                hand_on(body, len, c.seq);
-        } else if (c.kind == SIRMJOLD_REQUEST) {
+                hand_on(words, lens, c.count, c.seq);
+        } else if (c.kind == SIRMJOLD_READ_REQUEST) {
             struct sirmjold_outcome o = sirmjold_stream_on_retransmit_request(
                 e->words, SIRMJOLD_STREAM_WORDS, cfg, SIRMJOLD_SETTINGS, e->ring, RING, c.seq,
                 c.count);
@@ -153,14 +145,14 @@ static void arrive(struct flying *f, uint64_t now)
                 fail("on_retransmit_request", o.refusal);
             if (o.kind == SIRMJOLD_ERROR)
                 error_back(now, o.reason, o.seq);
-        } else if (c.kind == SIRMJOLD_REQUEST_ERROR) {
+        } else if (c.kind == SIRMJOLD_READ_ERROR) {
             struct sirmjold_event v = sirmjold_stream_on_retransmit_error(
-                e->words, SIRMJOLD_STREAM_WORDS, c.reason, c.seq);
+                e->words, SIRMJOLD_STREAM_WORDS, c.code, c.seq);
             if (v.refusal)
                 fail("on_retransmit_error", v.refusal);
             report(v.first, v.count);
         }
-        at = (size_t)item.next;
+        at = (size_t)c.next;
     }
 }
 

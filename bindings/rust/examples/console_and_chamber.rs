@@ -3,7 +3,8 @@
 //!
 //! Built and run by tools/run_rust_example; takes the generator's seed as an argument.
 use sirmjold::{
-    commands, Class, Command, Payload, RequestOutcome, SeqRange, Stream, StreamConfig, StreamEvent,
+    commands, Class, Command, Payload, Read, Reader, RequestOutcome, SeqRange, Stream,
+    StreamConfig, StreamEvent,
 };
 
 const NOTES: usize = 400;
@@ -104,6 +105,28 @@ fn flush(end: &mut Stream, cfg: &StreamConfig, to_chamber: bool, now: u64, line:
     }
 }
 
+/// Both ways of reading a payload find the same commands.
+fn read_both_ways(payload: &[u8]) {
+    let mut reader = Reader::default();
+    let mut steps = commands(payload).unwrap();
+    let mut at = 0;
+    while let Some((read, next)) = reader.next(payload, at).unwrap() {
+        match (read, steps.next()) {
+            (Read::UmpData { seq, words, lens, cut: false }, Some(Command::UmpData(number, messages))) => {
+                assert_eq!(seq, number);
+                let one_by_one: Vec<u32> = messages.flat_map(|m| m.words().to_vec()).collect();
+                assert_eq!(words, one_by_one);
+                assert_eq!(lens.len(), messages.count());
+            }
+            (Read::RetransmitRequest(a), Some(Command::RetransmitRequest(b))) => assert_eq!(a, b),
+            (Read::RetransmitError(a), Some(Command::RetransmitError(b))) => assert_eq!(a, b),
+            (a, b) => panic!("read as {a:?} and as {b:?}"),
+        }
+        at = next.expect("a whole command has a next place");
+    }
+    assert_eq!(steps.next(), None);
+}
+
 fn arrive(
     end: &mut Stream,
     cfg: &StreamConfig,
@@ -112,6 +135,7 @@ fn arrive(
     line: &mut Line,
     book: &mut Book,
 ) {
+    read_both_ways(&f.bytes);
     for command in commands(&f.bytes).unwrap() {
         match command {
             Command::UmpData(seq, messages) => {

@@ -673,6 +673,105 @@ impl<'a> Iterator for Commands<'a> {
     }
 }
 
+/// The words of the longest command.
+const MOST: usize = 255;
+
+/// A command that a [`Reader`] has read.
+#[derive(Debug, Clone, Copy, PartialEq, Eq)]
+pub enum Read<'a> {
+    /// A data command.
+    UmpData {
+        /// Its number.
+        seq: u16,
+        /// The words of its whole messages.
+        words: &'a [u32],
+        /// How many words each message has.
+        lens: &'a [u8],
+        /// Whether the command ends inside a message.
+        cut: bool,
+    },
+    /// A Retransmit Request.
+    RetransmitRequest(RetransmitRequest),
+    /// A Retransmit Error.
+    RetransmitError(RetransmitError),
+    /// Any other code, with its specific data and its words.
+    Raw(u8, u16, &'a [u32]),
+    /// A command that is longer than the rest of the payload; it is the last.
+    Truncated,
+    /// A request or an error without its word.
+    Malformed,
+}
+
+/// Reads payloads with one call of the library for each command, whose words it hands out in the machine's order.
+/// [`commands`] does the same step by step, and holds no words.
+#[derive(Debug, Clone)]
+pub struct Reader {
+    words: [u32; MOST],
+    lens: [u8; MOST],
+}
+
+impl Default for Reader {
+    fn default() -> Self {
+        Reader {
+            words: [0; MOST],
+            lens: [0; MOST],
+        }
+    }
+}
+
+impl Reader {
+    /// The command at a place of the payload, and the place of the next one, if reading goes on; begin with 0.
+    /// Nothing at the end. [`Refusal::BadSignature`] when the payload does not begin with the signature.
+    pub fn next(&mut self, payload: &[u8], at: usize) -> Result<Option<(Read<'_>, Option<usize>)>, Refusal> {
+        // SAFETY: each pointer is that of a slice or an array, with its length.
+        let r = unsafe {
+            raw::sirmjold_command_next(
+                payload.as_ptr(),
+                payload.len(),
+                at,
+                self.words.as_mut_ptr(),
+                MOST,
+                self.lens.as_mut_ptr(),
+                MOST,
+            )
+        };
+        let next = (r.next != 0).then_some(r.next as usize);
+        match Refusal::check(r.refusal) {
+            Err(Refusal::Malformed) => return Ok(Some((Read::Malformed, next))),
+            tested => tested?,
+        }
+        let count = usize::from(r.count);
+        let read = match r.kind {
+            0 => return Ok(None),
+            1 => Read::Truncated,
+            3 => {
+                let mut messages = 0;
+                let mut sum = 0;
+                while sum < count {
+                    sum += usize::from(self.lens[messages]);
+                    messages += 1;
+                }
+                Read::UmpData {
+                    seq: r.seq,
+                    words: &self.words[..count],
+                    lens: &self.lens[..messages],
+                    cut: count < usize::from(r.len),
+                }
+            }
+            4 => Read::RetransmitRequest(RetransmitRequest {
+                seq: r.seq,
+                count: r.count,
+            }),
+            5 => Read::RetransmitError(RetransmitError {
+                reason: r.code,
+                seq: r.seq,
+            }),
+            _ => Read::Raw(r.code, r.seq, &self.words[..usize::from(r.len)]),
+        };
+        Ok(Some((read, next)))
+    }
+}
+
 /// A message of 1 to 4 words.
 #[derive(Debug, Clone, Copy, PartialEq, Eq)]
 pub struct Message {

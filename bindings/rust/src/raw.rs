@@ -63,6 +63,17 @@ pub struct Place {
 }
 
 #[repr(C)]
+pub struct Read {
+    pub next: u64,
+    pub refusal: u8,
+    pub kind: u8,
+    pub code: u8,
+    pub len: u8,
+    pub seq: u16,
+    pub count: u16,
+}
+
+#[repr(C)]
 pub struct Item {
     pub next: u64,
     pub code: u8,
@@ -236,6 +247,15 @@ extern "C" {
     ) -> u8;
     pub fn sirmjold_packet_open(payload: *const u8, payload_len: usize) -> Place;
     pub fn sirmjold_packet_next(payload: *const u8, payload_len: usize, at: usize) -> Item;
+    pub fn sirmjold_command_next(
+        payload: *const u8,
+        payload_len: usize,
+        at: usize,
+        words: *mut u32,
+        words_len: usize,
+        lens: *mut u8,
+        lens_len: usize,
+    ) -> Read;
     pub fn sirmjold_command_parse(
         code: u8,
         len: u8,

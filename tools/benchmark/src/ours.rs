@@ -1,8 +1,11 @@
 //! The library's side, by its C functions, which are calls of their own.
 use crate::raw::{self, Delivery, STREAM_WORDS};
 use crate::side::{LARGE, LIMIT, PLACES, SMALL, Side, Stream, WINDOW, delivery, fold};
+use std::mem::MaybeUninit;
 
 const CFG: [u32; 8] = [100, 2, 5, 2, 1, 10, 3, 64];
+/// The words of the longest command.
+const MOST: usize = 255;
 
 pub struct Ours;
 
@@ -16,9 +19,40 @@ fn told(d: Delivery) -> u64 {
     delivery(d.class.into(), d.skipped, d.lost_first, d.lost_count)
 }
 
-/// The words of the messages of a data command.
+/// The words of the messages of a data command, and the cut mark.
 #[inline(always)]
-fn messages(body: &[u8], mut sum: u64) -> u64 {
+fn messages(words: &[u32], cut: bool, sum: u64) -> u64 {
+    fold(words.iter().fold(sum, |sum, w| fold(sum, (*w).into())), cut.into())
+}
+
+/// Each command of a payload, one call for each: a data command's number to `data`, with the words of its whole messages
+/// and the cut mark.
+#[inline(always)]
+fn commands(payload: &[u8], mut data: impl FnMut(u64, u16, &[u32], bool) -> u64) -> u64 {
+    let mut words = [MaybeUninit::<u32>::uninit(); MOST];
+    let mut lens = [MaybeUninit::<u8>::uninit(); MOST];
+    let (mut at, mut sum) = (0, 0);
+    loop {
+        let r = unsafe {
+            raw::sirmjold_command_next(payload.as_ptr(), payload.len(), at, words.as_mut_ptr().cast(), MOST, lens.as_mut_ptr().cast(), MOST)
+        };
+        sum = match r.kind {
+            // SAFETY: the call has stored at least `count` words.
+            3 => data(sum, r.seq, unsafe { std::slice::from_raw_parts(words.as_ptr().cast(), r.count.into()) }, r.count < r.len.into()),
+            0 if r.refusal == 1 => return 0,
+            0 if r.refusal == 0 => return fold(sum, 0),
+            1 => return fold(sum, 1),
+            4 => fold(sum, 2),
+            5 => fold(sum, 3),
+            _ => fold(sum, 0),
+        };
+        at = r.next as usize;
+    }
+}
+
+/// The words of the messages of a data command, each step a call.
+#[inline(always)]
+fn messages_apart(body: &[u8], mut sum: u64) -> u64 {
     let mut at = 0;
     loop {
         let m = unsafe { raw::sirmjold_messages_next(body.as_ptr(), body.len(), at) };
@@ -32,9 +66,9 @@ fn messages(body: &[u8], mut sum: u64) -> u64 {
     }
 }
 
-/// Each command of a payload: its code and number to `data`, which is given the words' bytes where it is one of data.
+/// The same as `commands`, each step a call.
 #[inline(always)]
-fn commands(payload: &[u8], mut data: impl FnMut(u64, u16, &[u8]) -> u64) -> u64 {
+fn commands_apart(payload: &[u8], mut data: impl FnMut(u64, u16, &[u8]) -> u64) -> u64 {
     let place = unsafe { raw::sirmjold_packet_open(payload.as_ptr(), payload.len()) };
     if place.refusal != 0 {
         return 0;
@@ -104,11 +138,11 @@ impl Side for Ours {
     type Large = Ends<LARGE>;
 
     fn read(payload: &[u8]) -> u64 {
-        commands(payload, |sum, seq, body| messages(body, fold(sum, seq.into())))
+        commands(payload, |sum, seq, words, cut| messages(words, cut, fold(sum, seq.into())))
     }
 
     fn read_apart(payload: &[u8]) -> u64 {
-        Self::read(payload)
+        commands_apart(payload, |sum, seq, body| messages_apart(body, fold(sum, seq.into())))
     }
 
     fn write_data(buf: &mut [u8], seq: u16, words: &[u32]) -> usize {
@@ -166,10 +200,10 @@ impl<const C: usize> Stream for Ends<C> {
     }
 
     fn receive(&mut self, now: u64, payload: &[u8]) -> u64 {
-        commands(payload, |sum, seq, body| {
+        commands(payload, |sum, seq, words, cut| {
             let d = self.heard(now, seq);
             let sum = fold(sum, d);
-            if d & 3 == 2 { sum } else { messages(body, sum) }
+            if d & 3 == 2 { sum } else { messages(words, cut, sum) }
         })
     }
 
