@@ -78,7 +78,7 @@ def line(x1, y1, x2, y2, colour, width=1.0, dash=""):
 
 
 def bars(rows, left, top, width):
-    """Time as a part of the Rust's: with the state tests, and without them where they walk a history."""
+    """Time as a part of the Rust's: with the tests, and without them where the row has such."""
     most, step = 4.0, 17
     scale = width / most
     parts = [text(left, top - 26, "time, the Rust's = 1", 13)]
@@ -122,7 +122,7 @@ def curve(rows, title, left, top, width, height):
 def plot(rows):
     plain = [r for r in rows if not r["series"]]
     parts, bottom = bars(plain, 300, 60, 400)
-    parts += [text(300, bottom + 18, "dark: without the walk of the state test, where the row has one", 10, "start", GREY)]
+    parts += [text(300, bottom + 18, "dark: without the tests, where the row has them apart", 10, "start", GREY)]
     titles = {}
     for r in rows:
         if r["series"]:

@@ -112,7 +112,15 @@ fn read_both_ways(payload: &[u8]) {
     let mut at = 0;
     while let Some((read, next)) = reader.next(payload, at).unwrap() {
         match (read, steps.next()) {
-            (Read::UmpData { seq, words, lens, cut: false }, Some(Command::UmpData(number, messages))) => {
+            (
+                Read::UmpData {
+                    seq,
+                    words,
+                    lens,
+                    cut: false,
+                },
+                Some(Command::UmpData(number, messages)),
+            ) => {
                 assert_eq!(seq, number);
                 let one_by_one: Vec<u32> = messages.flat_map(|m| m.words().to_vec()).collect();
                 assert_eq!(words, one_by_one);

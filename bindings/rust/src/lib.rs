@@ -722,7 +722,11 @@ impl Default for Reader {
 impl Reader {
     /// The command at a place of the payload, and the place of the next one, if reading goes on; begin with 0.
     /// Nothing at the end. [`Refusal::BadSignature`] when the payload does not begin with the signature.
-    pub fn next(&mut self, payload: &[u8], at: usize) -> Result<Option<(Read<'_>, Option<usize>)>, Refusal> {
+    pub fn next(
+        &mut self,
+        payload: &[u8],
+        at: usize,
+    ) -> Result<Option<(Read<'_>, Option<usize>)>, Refusal> {
         // SAFETY: each pointer is that of a slice or an array, with its length.
         let r = unsafe {
             raw::sirmjold_command_next(
