@@ -5,8 +5,11 @@
 //!     benchmark run ROW SIDE BATCHES   that many batches of one side, to be counted from outside
 //!     benchmark stack                  a line for each row: name, bytes of stack that a batch uses on each side
 //!     benchmark rows                   the rows, by number
+//!     benchmark read COUNT             reads that many drawn payloads on both sides, in one call for each command and
+//!                                      step by step, and compares
 //!
 //! The sides take turns, and the sums of their answers are compared after each round.
+mod drawn;
 mod ours;
 #[allow(dead_code)]
 #[path = "../../../bindings/rust/src/raw.rs"]
@@ -97,9 +100,10 @@ fn main() {
                 println!("{}\t{}", row.row.name, used.join("\t"));
             }
         }
+        ["read", count] => drawn::compare(count.parse().expect("a count")),
         ["rows"] => rows().iter().for_each(|row| println!("{}", line(row))),
         _ => {
-            eprintln!("benchmark time ROUNDS | run ROW SIDE BATCHES | stack | rows");
+            eprintln!("benchmark time ROUNDS | run ROW SIDE BATCHES | stack | rows | read COUNT");
             std::process::exit(2);
         }
     }
