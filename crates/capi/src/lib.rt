@@ -15,9 +15,9 @@
 pub mod answers;
 pub mod codec_exports;
 pub mod exports;
-pub mod lent;
-pub mod payload;
-pub mod settings;
-pub mod state;
+mod lent;
+mod payload;
+mod settings;
+mod state;
 pub mod theorems;
 pub mod window_exports;

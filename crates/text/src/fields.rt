@@ -26,7 +26,7 @@ pub struct Count {
 }
 
 // Where the field that begins at `from` ends: at a space, or at the line's end.
-pub fn end(line: &[u8], from: usize) -> usize
+fn end(line: &[u8], from: usize) -> usize
     requires { ⌜ from ≤ length (now line) ⌝ }
     ensures { λ r. ⌜ (from ≤ r) × (r ≤ length (now (line .entry))) ⌝ }
 {
@@ -38,6 +38,13 @@ pub fn end(line: &[u8], from: usize) -> usize
         at += 1;
     }
     at
+}
+
+// Where the first field ends.
+pub fn first_end(line: &[u8]) -> usize
+    ensures { λ r. ⌜ r ≤ length (now (line .entry)) ⌝ }
+{
+    end(line, 0)
 }
 
 // A decimal figure, at most `most`.

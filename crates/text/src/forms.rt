@@ -150,7 +150,7 @@ fn filled(
 pub fn read(table: &[u8], line: &[u8], figures: &mut [u64], words: &mut [u32]) -> Call
     ensures { λ r. ⌜ Counts (r .words) (now (words .exit)) ⌝ }
 {
-    let end = fields::end(line, 0);
+    let end = fields::first_end(line);
     let entry = find(table, line, end);
     if entry.kind == 0 {
         return Call { kind: 0, words: 0 };
