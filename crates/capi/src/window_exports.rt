@@ -44,7 +44,7 @@ fn known(words: &[u64]) -> ReceiveWindow
 }
 
 // The window.
-pub fn load(words: &[u64]) -> ReceiveWindow
+fn load(words: &[u64]) -> ReceiveWindow
     requires { ⌜ windowFits (now words) ≡ true ⌝ }
     ensures { λ r. ⌜ r ≡ windowAt (now (words .entry)) ⌝ }
 {
@@ -52,7 +52,7 @@ pub fn load(words: &[u64]) -> ReceiveWindow
 }
 
 // Stores the window into the words.
-pub fn store(window: ReceiveWindow, words: &mut [u64])
+fn store(window: ReceiveWindow, words: &mut [u64])
     requires { ⌜ length (now words) ≡ 4 ⌝ }
     ensures { λ _. ⌜ now (words .exit) ≡ windowWords window ⌝ }
 {
