@@ -1,0 +1,164 @@
+/* 01's session cases, and one of each refusal, through every function of include/sirmjold.h.
+ *
+ * Built and run by tools/run_c_example. */
+#include <sirmjold.h>
+#include <stdio.h>
+#include <string.h>
+
+#define S SIRMJOLD_STREAM_WORDS
+#define P SIRMJOLD_PAYLOAD_WORDS
+#define W SIRMJOLD_WINDOW_WORDS
+#define CFG cfg, SIRMJOLD_SETTINGS
+#define MOST SIRMJOLD_COMMAND_WORDS_MAX
+
+static const uint32_t cfg[SIRMJOLD_SETTINGS] = {100, 2, 5, 2, 1, 10, 3, 64};
+static int passed, failed;
+
+static void check(int ok, const char *what)
+{
+    if (ok) {
+        passed++;
+    } else {
+        failed++;
+        printf("not so: %s\n", what);
+    }
+}
+
+static int is(struct sirmjold_delivery d, int class_, int skipped, int first, int count)
+{
+    return d.refusal == 0 && d.class_ == class_ && d.skipped == skipped && d.lost_first == first &&
+           d.lost_count == count;
+}
+
+static int spans(struct sirmjold_span s, int first, int count)
+{
+    return s.refusal == 0 && s.first == first && s.count == count;
+}
+
+static void windows(void)
+{
+    uint64_t w[W], bad[W] = {64, 65535, UINT64_MAX, 1};
+    check(sirmjold_window_starting_at(w, W, 64, 65535) == 0, "a window of 64");
+    check(is(sirmjold_window_accept(w, W, 0), SIRMJOLD_NEW, 0, 0, 0), "P1");
+    check(is(sirmjold_window_accept(w, W, 0), SIRMJOLD_DUPLICATE, 0, 0, 0), "P2");
+    check(sirmjold_window_reset(w, W) == 0, "a reset");
+    check(is(sirmjold_window_accept(w, W, 0x7FFE), SIRMJOLD_NEW, 32766, 0, 32702), "P7");
+    sirmjold_window_reset(w, W);
+    check(is(sirmjold_window_classify(w, W, 0x7FFF), SIRMJOLD_DUPLICATE, 0, 0, 0), "P8");
+    check(sirmjold_window_starting_at(w, W, 4, 65535) == 0, "a window of 4");
+    check(is(sirmjold_window_accept(w, W, 5), SIRMJOLD_NEW, 5, 0, 1), "P3");
+    sirmjold_window_reset(w, W);
+    check(is(sirmjold_window_accept(w, W, 4), SIRMJOLD_NEW, 4, 0, 0), "P4");
+    check(spans(sirmjold_window_request(w, W), 0, 4), "P4, the request");
+    check(is(sirmjold_window_accept(w, W, 2), SIRMJOLD_LATE, 0, 0, 0), "P5");
+    check(spans(sirmjold_window_missing(w, W), 0, 4), "P5, what is missing");
+    check(is(sirmjold_window_accept(w, W, 6), SIRMJOLD_NEW, 1, 0, 2), "P6");
+    check(sirmjold_window_is_processed(w, W, 2).processed == 1, "2 was heard");
+    check(sirmjold_window_is_processed(w, W, 3).processed == 0, "3 was not");
+    check(spans(sirmjold_window_mark_range(w, W, 3, 1), 3, 1), "3 is marked");
+    check(spans(sirmjold_window_missing(w, W), 5, 1), "5 is missing");
+    check(sirmjold_window_mark_all(w, W) == 0 && spans(sirmjold_window_missing(w, W), 0, 0), "all is marked");
+    check(sirmjold_window_starting_at(w, W, 129, 0) == 12, "a window of 129");
+    check(sirmjold_window_accept(bad, W, 0).refusal == 13, "a position outside of the window");
+    check(sirmjold_window_accept(w, W - 1, 0).refusal == 13, "three words");
+}
+
+static void payloads(void)
+{
+    static const uint8_t p9[] = {0x4D, 0x49, 0x44, 0x49, 0x80, 1, 1, 2, 0, 3, 0, 0};
+    const uint32_t note[1] = {0x20903C40}, half[1] = {0x40903C00};
+    uint64_t p[P];
+    uint8_t buf[64];
+    memset(buf, 0xAA, sizeof buf);
+    check(sirmjold_payload_new(p, P, 7) == 4, "a limit of 7");
+    check(sirmjold_payload_new(p, P, 12) == 0, "a limit of 12");
+    check(sirmjold_retransmit_request_write(p, P, buf, 11, 0x0102, 3) == 3 && p[0] == 0 && buf[0] == 0xAA, "P9, limit 11");
+    check(sirmjold_retransmit_request_write(p, P, buf, sizeof buf, 0x0102, 3) == 0, "P9");
+    check(p[0] == 12 && memcmp(buf, p9, 12) == 0 && buf[12] == 0xAA, "P9, the bytes");
+    check(sirmjold_payload_command(p, P, buf, sizeof buf, 0x20, 0, 0, note, 1) == 2, "no room left");
+    sirmjold_payload_new(p, P, 64);
+    check(sirmjold_retransmit_error_write(p, P, buf, sizeof buf, 2, 0) == 11, "a reason that is not defined");
+    check(sirmjold_ump_data_write(p, P, buf, sizeof buf, 0, half, 1) == 5, "half a message");
+    check(sirmjold_ump_data_write(p, P, buf, sizeof buf, 0, note, 1) == 0 && p[0] == 12, "one message");
+    check(sirmjold_payload_command(p, P, buf, sizeof buf, 0x20, 7, 8, note, 1) == 0 && p[0] == 20, "a raw command");
+    check(sirmjold_retransmit_error_write(p, P, buf, sizeof buf, 1, 5) == 0 && p[0] == 28, "an error");
+    p[0] = 10;
+    check(sirmjold_ump_data_write(p, P, buf, sizeof buf, 0, note, 1) == 13, "a length that no call has left");
+}
+
+static void readings(void)
+{
+    static const uint8_t bytes[] = {0x4D, 0x49, 0x44, 0x49, 0xFF, 3,    1, 2,    0x20, 0x90, 0x3C, 0x40, 0x40, 0x90,
+                                    0x3C, 0,    0xFF, 0,    0, 0, 0x80, 0, 0, 9, 0x20, 1,    7,    8,    0xDE, 0xAD,
+                                    0xBE, 0xEF, 0x81, 1,    1, 0, 0,    5, 0, 0, 0xFF, 9,    0,    0};
+    uint32_t words[MOST];
+    uint8_t lens[MOST];
+    size_t n = sizeof bytes;
+    struct sirmjold_read r = sirmjold_command_next(bytes, n, 0, words, MOST, lens, MOST);
+    check(r.refusal == 0 && r.kind == SIRMJOLD_READ_UMP_DATA && r.seq == 0x0102 && r.len == 3 && r.next == 20, "data");
+    check(r.count == 3 && words[0] == 0x20903C40 && words[2] == 0xFF000000 && lens[0] == 1 && lens[1] == 2, "its messages");
+    r = sirmjold_command_next(bytes, n, 20, words, MOST, lens, MOST);
+    check(r.refusal == 10 && r.next == 24, "a request without its word, and reading goes on");
+    r = sirmjold_command_next(bytes, n, 24, words, MOST, lens, MOST);
+    check(r.kind == SIRMJOLD_READ_RAW && r.code == 0x20 && r.seq == 0x0708 && words[0] == 0xDEADBEEF, "another code");
+    r = sirmjold_command_next(bytes, n, 32, words, MOST, lens, MOST);
+    check(r.kind == SIRMJOLD_READ_ERROR && r.code == 1 && r.seq == 5, "an error");
+    r = sirmjold_command_next(bytes, n, 40, words, MOST, lens, MOST);
+    check(r.kind == SIRMJOLD_READ_TRUNCATED && r.code == 0xFF && r.len == 9 && r.next == 0, "a cut command");
+    r = sirmjold_command_next(bytes, n, n, words, MOST, lens, MOST);
+    check(r.refusal == 0 && r.kind == SIRMJOLD_READ_END, "the end");
+    check(sirmjold_command_next(bytes + 4, n - 4, 0, words, MOST, lens, MOST).refusal == 1, "no signature");
+    check(sirmjold_command_next(bytes, n, 0, words, MOST - 1, lens, MOST).refusal == 13, "254 words");
+    check(sirmjold_packet_open(bytes, n).at == 4 && sirmjold_packet_next(bytes, n, 4).next == 20, "the first step");
+    check(sirmjold_command_parse(0x81, 1, 1, 0, bytes + 36, 4).seq == 5, "an error, parsed");
+    check(sirmjold_messages_next(bytes + 8, 12, 1).len == 2 && sirmjold_word(bytes + 8, 12, 3).found == 0, "messages");
+}
+
+static void streams(void)
+{
+    static const uint8_t p11[] = {0x4D, 0x49, 0x44, 0x49, 0xFF, 1, 0, 0, 0x20, 0x90, 0x3C, 0x40,
+                                  0xFF, 1,    0,    1,    0x20, 0x80, 0x3C, 0};
+    const uint32_t on[1] = {0x20903C40}, off[1] = {0x20803C00};
+    uint64_t s[S], p[P];
+    uint32_t ring[256];
+    uint8_t buf[1400];
+    check(sirmjold_stream_new(s, S, CFG, 64, 17, ring, 256) == 12, "17 places");
+    check(sirmjold_stream_poll(s, S, CFG, 0).refusal == 13, "a stream that was not started");
+    check(sirmjold_stream_new(s, S, CFG, 64, 4, ring, 256) == 0, "a stream");
+    check(sirmjold_stream_send_ump(s, S, CFG, ring, 256, on, 1) == 0, "P10, the word");
+    check(sirmjold_stream_wants_write(s, S, ring, 256, 1000).wants == 1, "P10, something to write");
+    sirmjold_payload_new(p, P, 1400);
+    struct sirmjold_written w = sirmjold_stream_write_data(s, S, CFG, 1000, p, P, buf, 1400, ring, 256);
+    check(w.commands == 1 && w.more == 0 && p[0] == 12 && memcmp(buf, p11, 12) == 0, "P10");
+    check(sirmjold_stream_next_deadline(s, S, ring, 256).time == 1100, "P10, the idle command");
+    sirmjold_stream_send_ump(s, S, CFG, ring, 256, off, 1);
+    sirmjold_payload_new(p, P, 1400);
+    w = sirmjold_stream_write_data(s, S, CFG, 1050, p, P, buf, 1400, ring, 256);
+    check(w.commands == 2 && p[0] == 20 && memcmp(buf, p11, 20) == 0, "P11");
+    check(sirmjold_stream_on_retransmit_request(s, S, CFG, ring, 256, 1, 1).kind == SIRMJOLD_QUEUED, "a request");
+    check(sirmjold_stream_on_retransmit_request(s, S, CFG, ring, 256, 1, 1).kind == SIRMJOLD_PENDING, "again");
+    struct sirmjold_outcome o = sirmjold_stream_on_retransmit_request(s, S, CFG, ring, 256, 9, 1);
+    check(o.kind == SIRMJOLD_ERROR && o.reason == 1 && o.seq == 0, "a request for what is not held");
+    check(is(sirmjold_stream_on_ump_data(s, S, CFG, 0, 0), SIRMJOLD_NEW, 0, 0, 0), "0 arrives");
+    check(is(sirmjold_stream_on_ump_data(s, S, CFG, 0, 2), SIRMJOLD_NEW, 1, 0, 0), "2 arrives");
+    sirmjold_payload_new(p, P, 1400);
+    check(sirmjold_stream_write_request(s, S, CFG, p, P, buf, 1400).kind == SIRMJOLD_NOT_DUE, "no request yet");
+    check(sirmjold_stream_poll(s, S, CFG, 10).kind == SIRMJOLD_NOTHING, "the timer");
+    check(sirmjold_stream_write_request(s, S, CFG, p, P, buf, 1400).kind == SIRMJOLD_WRITTEN && p[0] == 12, "a request for 1");
+    struct sirmjold_event e = sirmjold_stream_on_retransmit_error(s, S, 1, 0);
+    check(e.kind == SIRMJOLD_ERROR_LOSS && e.first == 1 && e.count == 1 && e.reason == 1, "1 is lost");
+    check(sirmjold_stream_on_retransmit_nak(s, S).kind == SIRMJOLD_NOTHING, "a NAK with nothing missing");
+    check(sirmjold_stream_reset(s, S, ring, 256) == 0 && ring[0] == 0, "a reset");
+    check(sirmjold_stream_wants_write(s, S, ring, 256, 9999).wants == 0, "nothing to write");
+    check(sirmjold_stream_send_ump(s, S, CFG, ring, 255, on, 1) == 13, "a history of another length");
+}
+
+int main(void)
+{
+    windows();
+    payloads();
+    readings();
+    streams();
+    printf("%d cases hold, %d do not\n", passed, failed);
+    return failed != 0;
+}
