@@ -76,22 +76,28 @@ pub messages-cut : (w : ℕ) (ws : List ℕ) → length (w ∷ ws) < messageWord
 unfolding messagesOf divided
 messages-cut w ws h = rw (lt-leb _ _ h)
 
--- a turn of the loop over messages: from index i on, the words end inside a message if they do from the next on
-module _ (ws : List ℕ) (i : ℕ) (h : i < length ws) where
-  pub cut-turn : (n : ℕ) → n ≡ messageWords (getD ws i 0) → n ≤ length ws - i
-      → messagesOf (drop i ws) .cut ≡ messagesOf (drop (i + n) ws) .cut
-  cut-turn n e f =
+-- a turn of a loop over messages, at index i: the message there and those from the next on, or words that end inside of it
+module _ (ws : List ℕ) (i : ℕ) (h : i < length ws) (n : ℕ) (e : n ≡ messageWords (getD ws i 0)) where
+  pub messages-turn : n ≤ length ws - i → messagesOf (drop i ws) ≡ also (take n (drop i ws)) (messagesOf (drop (i + n) ws))
+  messages-turn f =
       let l = length-drop i ws in
       let head = drop-cons ws i 0 h in
       let l₂ : length (getD ws i 0 ∷ drop (suc i) ws) ≡ length ws - i = rw head at l in
       rw (head, messages-cons (getD ws i 0) (drop (suc i) ws) (omega arith), ← head, ← e, drop-drop n i ws)
 
-  pub cut-here : (n : ℕ) → n ≡ messageWords (getD ws i 0) → length ws - i < n → messagesOf (drop i ws) .cut ≡ true
-  cut-here n e f =
+  pub messages-stop : length ws - i < n → messagesOf (drop i ws) ≡ none true
+  messages-stop f =
       let l = length-drop i ws in
       let head = drop-cons ws i 0 h in
       let l₂ : length (getD ws i 0 ∷ drop (suc i) ws) ≡ length ws - i = rw head at l in
       rw (head, messages-cut (getD ws i 0) (drop (suc i) ws) (omega arith))
+
+  -- the words end inside a message if they do from the next one on
+  pub cut-turn : n ≤ length ws - i → messagesOf (drop i ws) .cut ≡ messagesOf (drop (i + n) ws) .cut
+  cut-turn f = ap (λ (m : Messages). m .cut) (messages-turn f)
+
+  pub cut-here : length ws - i < n → messagesOf (drop i ws) .cut ≡ true
+  cut-here f = ap (λ (m : Messages). m .cut) (messages-stop f)
 
 pub messages-nil : messagesOf [] ≡ none false
 unfolding messagesOf divided

@@ -15,7 +15,7 @@
 //             test, and hands on a place that its walk over the headers came by
 //   queue     the requests; `push`, and `state_ok`
 //   valid     what a sender calls once it has made those tests: `push`, `append_to_last`, `index_of`,
-//             `write_entry` and their like; `push_request`, `front`, `set_front`, `pop`
+//             `write_entry` and their like; `push_request`, `set_front`, `pop`
 //
 // A state that fails its test is refused as `InvalidState`. Nothing is shifted: the oldest leave by
 // moving the head, and words go in and out as at most two straight runs.

@@ -34,7 +34,7 @@ pub fn pl(buf: &[u32], at: usize) -> usize
 }
 
 // The number of the entry whose header stands at `at`.
-pub fn seq(buf: &[u32], at: usize) -> SeqNum
+fn seq(buf: &[u32], at: usize) -> SeqNum
     requires { ⌜ at < length (now buf) ⌝ }
     ensures { λ r. ⌜ r ≡ numberAt (now (buf .entry)) at ⌝ }
 {
@@ -209,7 +209,7 @@ pub fn push_request(q: RetransmitQueue, req: RetransmitRequest) -> Pushed
 }
 
 // The oldest request.
-pub fn front(q: RetransmitQueue) -> Oldest
+fn front(q: RetransmitQueue) -> Oldest
     requires { ⌜ Fit q ⌝ }
     ensures { λ r. ⌜ r ≡ oldestOf (waiting q) ⌝ }
 {

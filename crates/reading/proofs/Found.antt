@@ -1,8 +1,8 @@
 -- What `next` answers, by what was found.
-use mathlib.Core.Path.{_≡_, ap, _∙_}
+use mathlib.Core.Path.{_≡_, refl, sym, ap, _∙_}
 use mathlib.Core.Logic.{inl, inr}
 use mathlib.Core.Bool.{true, false, not, _||_}
-use mathlib.Core.List.{List}
+use mathlib.Core.List.{List, [], _∷_}
 use Prim.Native.Nat.{ℕ, _+_, _*_, _≤_, _<_}
 use native.Mathlib.Omega.{arith}
 use borrow.Author.Tests.{eq-eqb, ne-eqb, lt-ltb, le-ltb}
@@ -20,9 +20,13 @@ use Rattle.packet.specs.declared.reader.PacketItem.{PacketItem}
 use Rattle.packet.specs.declared.reader.PacketItem.the-variants.{Command, Truncated, End}
 use Rattle.packet.proofs.Reading.{open-signed, open-unsigned}
 use Rattle.packet.proofs.Splice.{take-spliced}
-use Rattle.command.specs.Parse.{parsedOf}
+use Rattle.command.specs.Parse.{parsedOf, requestIn, errorIn}
+use Rattle.command.specs.declared.data.UmpData.{UmpData}
+use Rattle.command.specs.declared.parse.Command.{Command as ParsedCommand}
+use Rattle.command.specs.declared.parse.Command.the-variants.{UmpData as Data, RetransmitRequest, RetransmitError, Raw, Refused as NotParsed}
+use Rattle.command.proofs.Parsing.{parsed-data}
 use Rattle.reading.specs.Words.{wholeCount, lengthsOf}
-use Rattle.reading.specs.Next.{readOf, refusedRead, firstOf, dataRead, otherRead, wholeRead, itemRead, readAt}
+use Rattle.reading.specs.Next.{readOf, refusedRead, firstOf, commandRead, wholeRead, itemRead, readAt}
 use Rattle.reading.specs.declared.next.Read.{Read}
 
 abbrev Answer : Type 0
@@ -42,10 +46,36 @@ refused-unsigned b why e = elim (split (signed b)) [
 ]
 
 -- ---- a whole command
-pub data-is : (h : Header) (next : ℕ) (ws lens : List ℕ) (n k : ℕ) (lens′ : List ℕ) → n ≡ csdOf h → k ≡ wholeCount ws → lens′ ≡ spliced lens 0 (lengthsOf ws)
-    → _≡_ {A = Read × List ℕ} (readOf next 3 0 (h .len) n k, lens′) (dataRead h next ws lens)
-unfolding dataRead
-data-is h next ws lens n k lens′ a b e = rw (a, b, e)
+-- no code but FF is data
+abbrev mark : ParsedCommand → ℕ
+mark (Data d) = 1
+mark (RetransmitRequest r) = 0
+mark (RetransmitError e) = 0
+mark (Raw h) = 0
+mark (NotParsed why) = 0
+
+request-mark : (h : Header) (ws : List ℕ) → mark (requestIn h ws) ≡ 0
+request-mark h [] = refl
+request-mark h (w ∷ ws) = refl
+
+error-mark : (h : Header) (ws : List ℕ) → mark (errorIn h ws) ≡ 0
+error-mark h [] = refl
+error-mark h (w ∷ ws) = refl
+
+other-mark : (h : Header) (ws : List ℕ) → (h .code ≡ 0xFF → ⊥) → mark (parsedOf h ws) ≡ 0
+unfolding parsedOf
+other-mark h ws n = rw (ne-eqb (h .code) 0xFF n) (elim (split (eqb (h .code) 0x80)) [
+  | inl k ↦ rw k (request-mark h ws)
+  | inr k ↦ elim (split (eqb (h .code) 0x81)) [
+    | inl j ↦ rw (k, j) (error-mark h ws)
+    | inr j ↦ rw (k, j)
+  ]
+])
+
+pub other-data : {A : Type 0} (h : Header) (ws : List ℕ) (d : UmpData) → (h .code ≡ 0xFF → ⊥) → parsedOf h ws ≡ Data d → A
+other-data h ws d n e =
+    let z : _≡_ {A = ℕ} 0 1 = sym (other-mark h ws n) ∙ ap mark e in
+    absurd (let y : ⊥ = omega arith in y)
 
 -- the words that were stored are at the front
 pub front-stored : (words ws : List ℕ) (n : ℕ) → n ≡ length ws → length ws ≤ length words → take n (spliced words 0 ws) ≡ ws
@@ -54,15 +84,17 @@ front-stored words ws n e f =
     rw m (take-spliced words 0 ws (omega arith))
 
 module _ (h : Header) (next : ℕ) (ws words lens : List ℕ) (words′ : List ℕ) (stored : words′ ≡ spliced words 0 ws) where
-  pub whole-data : h .code ≡ 0xFF → (n : ℕ) → n ≡ length ws → length ws ≤ length words → (r : Read) (lens′ : List ℕ) → (r, lens′) ≡ dataRead h next (take n words′) lens
+  pub whole-data : h .code ≡ 0xFF → (n : ℕ) → n ≡ length ws → length ws ≤ length words → (r : Read) (lens′ : List ℕ)
+      → r ≡ readOf next 3 0 (h .len) (csdOf h) (wholeCount (take n words′)) → lens′ ≡ spliced lens 0 (lengthsOf (take n words′))
       → _≡_ {A = Answer} (r, words′, lens′) (wholeRead h next ws words lens)
   unfolding wholeRead
-  whole-data c n e f r lens′ q =
+  whole-data c n e f r lens′ p q =
       let g : take n words′ ≡ ws = rw stored (front-stored words ws n e f) in
-      let q′ : (r, lens′) ≡ dataRead h next ws lens = rw g at q in
-      rw (eq-eqb (h .code) 0xFF c, stored, ← q′)
+      let p′ : r ≡ readOf next 3 0 (h .len) (csdOf h) (wholeCount ws) = rw g at p in
+      let q′ : lens′ ≡ spliced lens 0 (lengthsOf ws) = rw g at q in
+      rw (eq-eqb (h .code) 0xFF c, ← parsed-data h ws (csdOf h) refl c, stored, p′, q′)
 
-  pub whole-other : (h .code ≡ 0xFF → ⊥) → (r : Read) → r ≡ otherRead (h .len) next (parsedOf h ws) → _≡_ {A = Answer} (r, words′, lens) (wholeRead h next ws words lens)
+  pub whole-other : (h .code ≡ 0xFF → ⊥) → (r : Read) → r ≡ commandRead (h .len) next (wholeCount ws) (parsedOf h ws) → _≡_ {A = Answer} (r, words′, lens) (wholeRead h next ws words lens)
   unfolding wholeRead
   whole-other c r e = rw (ne-eqb (h .code) 0xFF c, stored, e)
 

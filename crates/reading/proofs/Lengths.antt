@@ -1,16 +1,16 @@
 -- A walk over messages: what the whole messages from an index on give, from the first of them and the rest.
-use mathlib.Core.Path.{_≡_, refl, sym, ap, _∙_}
+use mathlib.Core.Path.{_≡_}
 use mathlib.Core.Logic.{⊎-elim}
 use mathlib.Core.Bool.{true, false}
-use mathlib.Core.List.{List, [], _∷_, _++_}
+use mathlib.Core.List.{List, [], _∷_}
 use Prim.Native.Nat.{ℕ, zero, suc, _+_, _-_, _/_, _≤_, _<_}
 use native.Mathlib.Omega.{arith}
 use lib.ListN.{length, getD, take, drop, length-append, length-drop, drop-of-length-le}
-use lib.Seq.{drop-cons, drop-drop, length-take-le}
+use lib.Seq.{length-take-le}
 use lib.Dec.{leb}
 use Rattle.config.proofs.Tests.{split}
-use Rattle.command.specs.Messages.{messageWords, divided, messagesOf, wordsIn, also, none}
-use Rattle.command.proofs.Messages.{typeWords-range, messages-cons, messages-cut, messages-nil}
+use Rattle.command.specs.Messages.{messageWords, divided, messagesOf, wordsIn}
+use Rattle.command.proofs.Messages.{typeWords-range, messages-turn, messages-stop, messages-nil}
 use Rattle.reading.specs.Words.{wholeCount, eachLength, lengthsOf}
 
 -- a message has a word at least
@@ -32,41 +32,26 @@ pub lengths-few : (ws : List ℕ) → length (lengthsOf ws) ≤ length ws
 unfolding lengthsOf messagesOf
 lengths-few ws = each-few (length ws) ws
 
-module _ (ws : List ℕ) (i : ℕ) (h : i < length ws) where
-  messages-turn : (n : ℕ) → n ≡ messageWords (getD ws i 0) → n ≤ length ws - i → messagesOf (drop i ws) ≡ also (take n (drop i ws)) (messagesOf (drop (i + n) ws))
-  messages-turn n e f =
+module _ (ws : List ℕ) (i : ℕ) (h : i < length ws) (n : ℕ) (e : n ≡ messageWords (getD ws i 0)) where
+  pub lengths-turn : n ≤ length ws - i → lengthsOf (drop i ws) ≡ n ∷ lengthsOf (drop (i + n) ws)
+  unfolding lengthsOf
+  lengths-turn f =
       let l = length-drop i ws in
-      let head = drop-cons ws i 0 h in
-      let l₂ : length (getD ws i 0 ∷ drop (suc i) ws) ≡ length ws - i = rw head at l in
-      rw (head, messages-cons (getD ws i 0) (drop (suc i) ws) (omega arith), ← head, ← e, drop-drop n i ws)
+      rw (messages-turn ws i h n e f, length-take-le n (drop i ws) (omega arith))
 
-  messages-stop : (n : ℕ) → n ≡ messageWords (getD ws i 0) → length ws - i < n → messagesOf (drop i ws) ≡ none true
-  messages-stop n e f =
+  pub count-turn : n ≤ length ws - i → wholeCount (drop i ws) ≡ n + wholeCount (drop (i + n) ws)
+  unfolding wholeCount wordsIn
+  count-turn f =
       let l = length-drop i ws in
-      let head = drop-cons ws i 0 h in
-      let l₂ : length (getD ws i 0 ∷ drop (suc i) ws) ≡ length ws - i = rw head at l in
-      rw (head, messages-cut (getD ws i 0) (drop (suc i) ws) (omega arith))
+      rw (messages-turn ws i h n e f, length-append, length-take-le n (drop i ws) (omega arith))
 
-  module _ (n : ℕ) (e : n ≡ messageWords (getD ws i 0)) where
-    pub lengths-turn : n ≤ length ws - i → lengthsOf (drop i ws) ≡ n ∷ lengthsOf (drop (i + n) ws)
-    unfolding lengthsOf
-    lengths-turn f =
-        let l = length-drop i ws in
-        rw (messages-turn n e f, length-take-le n (drop i ws) (omega arith))
+  pub lengths-stop : length ws - i < n → lengthsOf (drop i ws) ≡ []
+  unfolding lengthsOf
+  lengths-stop f = rw (messages-stop ws i h n e f)
 
-    pub count-turn : n ≤ length ws - i → wholeCount (drop i ws) ≡ n + wholeCount (drop (i + n) ws)
-    unfolding wholeCount wordsIn
-    count-turn f =
-        let l = length-drop i ws in
-        rw (messages-turn n e f, length-append, length-take-le n (drop i ws) (omega arith))
-
-    pub lengths-stop : length ws - i < n → lengthsOf (drop i ws) ≡ []
-    unfolding lengthsOf
-    lengths-stop f = rw (messages-stop n e f)
-
-    pub count-stop : length ws - i < n → wholeCount (drop i ws) ≡ 0
-    unfolding wholeCount wordsIn
-    count-stop f = rw (messages-stop n e f)
+  pub count-stop : length ws - i < n → wholeCount (drop i ws) ≡ 0
+  unfolding wholeCount wordsIn
+  count-stop f = rw (messages-stop ws i h n e f)
 
 module _ (ws : List ℕ) (i : ℕ) (h : length ws ≤ i) where
   pub lengths-end : lengthsOf (drop i ws) ≡ []

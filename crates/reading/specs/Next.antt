@@ -27,24 +27,18 @@ refusedRead n = record { next = 0; refusal = n; kind = 0; code = 0; len = 0; seq
 abbrev pub firstOf : ℕ → ℕ
 firstOf at = cond (eqb at 0) 4 at
 
--- what a command is, its count of messages' words left out; 10 when a Request or Error has no word, and reading goes on
-abbrev pub otherRead : ℕ → ℕ → Command → Read
-otherRead len next (UmpData d) = readOf next 3 0 len (d .seq) 0
-otherRead len next (RetransmitRequest r) = readOf next 4 0 len (r .seq) (r .count)
-otherRead len next (RetransmitError e) = readOf next 5 (e .reason) len (e .seq) 0
-otherRead len next (Raw h) = readOf next 2 (h .code) len (csdOf h) 0
-otherRead len next (Refused why) = record { next = next; refusal = numberOf why; kind = 0; code = 0; len = len; seq = 0; count = 0 }
+-- what a command of `len` words is, and of data how many words its whole messages have; 10 when a Request or Error has no word, and reading goes on
+abbrev pub commandRead : ℕ → ℕ → ℕ → Command → Read
+commandRead len next whole (UmpData d) = readOf next 3 0 len (d .seq) whole
+commandRead len next whole (RetransmitRequest r) = readOf next 4 0 len (r .seq) (r .count)
+commandRead len next whole (RetransmitError e) = readOf next 5 (e .reason) len (e .seq) 0
+commandRead len next whole (Raw h) = readOf next 2 (h .code) len (csdOf h) 0
+commandRead len next whole (Refused why) = record { next = next; refusal = numberOf why; kind = 0; code = 0; len = len; seq = 0; count = 0 }
 
--- data with its words: the lengths of its whole messages come to the front of `lens`
-unfoldable pub dataRead : Header → ℕ → List ℕ → List ℕ → Read × List ℕ
-dataRead h next ws lens = (readOf next 3 0 (h .len) (csdOf h) (wholeCount ws), spliced lens 0 (lengthsOf ws))
-
--- a whole command with its words, which come to the front of `words`
+-- a whole command with its words: these come to the front of `words`, and of UMP Data, FF, the lengths of its whole messages to the front of `lens`
 unfoldable pub wholeRead : Header → ℕ → List ℕ → List ℕ → List ℕ → Read × List ℕ × List ℕ
 wholeRead h next ws words lens =
-    cond (eqb (h .code) 0xFF)
-    (dataRead h next ws lens .0, spliced words 0 ws, dataRead h next ws lens .1)
-    (otherRead (h .len) next (parsedOf h ws), spliced words 0 ws, lens)
+    (commandRead (h .len) next (wholeCount ws) (parsedOf h ws), spliced words 0 ws, cond (eqb (h .code) 0xFF) (spliced lens 0 (lengthsOf ws)) lens)
 
 -- a cut command has its header alone
 abbrev pub itemRead : PacketItem → List ℕ → List ℕ → List ℕ → Read × List ℕ × List ℕ

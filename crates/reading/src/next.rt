@@ -4,10 +4,11 @@ ghost use mathlib.Core.Bool.{not, _||_};
 ghost use lib.ListN.{length};
 ghost use lib.Dec.{eqb};
 ghost use Prim.Native.Nat.{_≤_};
-ghost use Rattle.packet.specs.Bytes.{wordsOf};
-ghost use Rattle.packet.specs.Read.{signed, nextOf};
+ghost use Rattle.packet.specs.Bytes.{wordsOf, spliced};
+ghost use Rattle.packet.specs.Read.{csdOf, signed, nextOf};
 ghost use Rattle.command.specs.Parse.{parsedOf};
-ghost use Rattle.reading.specs.Next.{refusedRead, firstOf, dataRead, otherRead, wholeRead, itemRead, readAt};
+ghost use Rattle.reading.specs.Next.{readOf, refusedRead, firstOf, commandRead, wholeRead, itemRead, readAt};
+ghost use Rattle.reading.specs.Words.{wholeCount, lengthsOf};
 use super::words;
 use command::parse;
 use command::parse::Command;
@@ -74,7 +75,8 @@ fn first(at: usize) -> usize
 
 // A whole command that is no data.
 fn other(header: Header, next: u64, body: &[u8]) -> Read
-    ensures { λ r. ⌜ r ≡ otherRead (header .len) next (parsedOf header (wordsOf (now (body .entry)))) ⌝ }
+    requires { ⌜ (header .code ≡ 0xFF → ⊥) ⌝ }
+    ensures { λ r. ⌜ r ≡ commandRead (header .len) next (wholeCount (wordsOf (now (body .entry)))) (parsedOf header (wordsOf (now (body .entry)))) ⌝ }
 {
     let len = header.len;
     match parse::parse(header, body) {
@@ -129,7 +131,7 @@ fn other(header: Header, next: u64, body: &[u8]) -> Read
 // A data command with these words.
 fn data(header: Header, next: u64, words: &[u32], lens: &mut [u8]) -> Read
     requires { ⌜ (length (now words) ≤ 255) × (255 ≤ length (now lens)) ⌝ }
-    ensures { λ r. ⌜ (r, now (lens .exit)) ≡ dataRead header next (now (words .entry)) (now (lens .entry)) ⌝ }
+    ensures { λ r. ⌜ (r ≡ readOf next 3 0 (header .len) (csdOf header) (wholeCount (now (words .entry)))) × (now (lens .exit) ≡ spliced (now (lens .entry)) 0 (lengthsOf (now (words .entry)))) ⌝ }
 {
     let count = words::lengths(words, lens);
     Read {

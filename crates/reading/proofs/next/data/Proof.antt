@@ -1,5 +1,4 @@
 -- The messages are divided, and their words counted.
-use Rattle.reading.proofs.Found.{data-is}
 use borrow.Author.Needs.{needs}
 use Rattle.reading.proofs.next.data.Statement.{statement}
 use Rattle.reading.proofs.next.data.Tie as tie
@@ -19,7 +18,7 @@ same-length c = search needs
 returns : tie.Need-returns
 returns c =
     let l = c .before .before .before .lengths .ensures in
-    data-is _ _ _ _ _ _ _ (c .csd .ensures) (l .0) (l .2)
+    (rw (c .csd .ensures, l .0), l .2)
 
 pub data-spec : {M : Type 1} → statement M
 data-spec = tie.close (tie.spec lengths-requires csd-requires cast-t9 same-length returns)

@@ -1,6 +1,7 @@
--- By cases of what is read.
+-- By cases of what is read; it is not data.
 use mathlib.Core.Path.{sym, ap, _∙_}
-use Rattle.reading.specs.Next.{otherRead}
+use Rattle.reading.specs.Next.{commandRead}
+use Rattle.reading.proofs.Found.{other-data}
 use borrow.Author.Needs.{needs}
 use Rattle.reading.proofs.next.other.Statement.{statement}
 use Rattle.reading.proofs.next.other.Tie as tie
@@ -30,21 +31,21 @@ number-requires : tie.Need-number-requires
 number-requires c κs = search needs
 
 returns : tie.Need-returns
-returns c = sym (ap (otherRead _ _) (sym (c .before .before .before .parse .ensures) ∙ c .before .d .given .1))
+returns c = other-data _ _ _ (c .before .before .before .before .before .pre) (sym (c .before .before .before .parse .ensures) ∙ c .before .d .given .1)
 
 returns-2 : tie.Need-returns-2
-returns-2 c = sym (ap (otherRead _ _) (sym (c .before .before .before .parse .ensures) ∙ c .before .r .given .1))
+returns-2 c = sym (ap (commandRead _ _ _) (sym (c .before .before .before .parse .ensures) ∙ c .before .r .given .1))
 
 returns-3 : tie.Need-returns-3
-returns-3 c = sym (ap (otherRead _ _) (sym (c .before .before .before .parse .ensures) ∙ c .before .e .given .1))
+returns-3 c = sym (ap (commandRead _ _ _) (sym (c .before .before .before .parse .ensures) ∙ c .before .e .given .1))
 
 returns-4 : tie.Need-returns-4
 returns-4 c =
-    rw (c .csd .ensures) (sym (ap (otherRead _ _) (sym (c .before .before .before .before .parse .ensures) ∙ c .before .before .h .given .1)))
+    rw (c .csd .ensures) (sym (ap (commandRead _ _ _) (sym (c .before .before .before .before .parse .ensures) ∙ c .before .before .h .given .1)))
 
 returns-5 : tie.Need-returns-5
 returns-5 c =
-    rw (c .number .ensures) (sym (ap (otherRead _ _) (sym (c .before .before .before .before .parse .ensures) ∙ c .before .before .why .given .1)))
+    rw (c .number .ensures) (sym (ap (commandRead _ _ _) (sym (c .before .before .before .before .parse .ensures) ∙ c .before .before .why .given .1)))
 
 pub other-spec : {M : Type 1} → statement M
 other-spec =

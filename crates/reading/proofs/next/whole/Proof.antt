@@ -51,7 +51,7 @@ returns : tie.Need-returns
 returns c =
     let there = c .before .before .before .before .before in
     let p = there .before .before .before .before in
-    whole-data _ _ _ _ _ _ (p .put .ensures .1) (there .if1 .taken) _ (p .put .ensures .0) (words-stored p .1) _ _ (c .before .before .«data» .ensures)
+    whole-data _ _ _ _ _ _ (p .put .ensures .1) (there .if1 .taken) _ (p .put .ensures .0) (words-stored p .1) _ _ (c .before .before .«data» .ensures .0) (c .before .before .«data» .ensures .1)
 
 other-requires : tie.Need-other-requires
 other-requires c κs = search needs
