@@ -160,26 +160,32 @@ pub open-unsigned : (b : List ℕ) → signed b ≡ false → Refused BadSignatu
 unfolding openOf
 open-unsigned b e = rw e
 
--- ---- a step of the cursor goes on, and stays in the payload
-item-advances : (at : ℕ) (xs : List ℕ) (h : Header) (here : ℕ) (next : Cursor) → itemOf at xs ≡ Command h here next
-    → (at + 4 ≤ next .at) × (next .at ≤ at + length xs)
-item-advances at [] h here next e = absurd (let z : _≡_ {A = ℕ} 0 1 = cc in let y : ⊥ = omega arith in y)
-item-advances at (a ∷ []) h here next e = absurd (let z : _≡_ {A = ℕ} 0 1 = cc in let y : ⊥ = omega arith in y)
-item-advances at (a ∷ b ∷ []) h here next e = absurd (let z : _≡_ {A = ℕ} 0 1 = cc in let y : ⊥ = omega arith in y)
-item-advances at (a ∷ b ∷ c ∷ []) h here next e = absurd (let z : _≡_ {A = ℕ} 0 1 = cc in let y : ⊥ = omega arith in y)
-item-advances at (code ∷ n ∷ a ∷ b ∷ rest) h here next e = elim (split (leb (4 * n) (length rest))) [
+-- ---- a step of the cursor goes on by the command's size, and stays in the payload
+item-found : (at : ℕ) (xs : List ℕ) (h : Header) (here : ℕ) (next : Cursor) → itemOf at xs ≡ Command h here next
+    → (here ≡ at) × (next .at ≡ at + 4 + 4 * h .len) × (4 + 4 * h .len ≤ length xs)
+item-found at [] h here next e = absurd (let z : _≡_ {A = ℕ} 0 1 = cc in let y : ⊥ = omega arith in y)
+item-found at (a ∷ []) h here next e = absurd (let z : _≡_ {A = ℕ} 0 1 = cc in let y : ⊥ = omega arith in y)
+item-found at (a ∷ b ∷ []) h here next e = absurd (let z : _≡_ {A = ℕ} 0 1 = cc in let y : ⊥ = omega arith in y)
+item-found at (a ∷ b ∷ c ∷ []) h here next e = absurd (let z : _≡_ {A = ℕ} 0 1 = cc in let y : ⊥ = omega arith in y)
+item-found at (code ∷ n ∷ a ∷ b ∷ rest) h here next e = elim (split (leb (4 * n) (length rest))) [
   | inl k ↦
       let f : Command (header code n a b) at record { at = at + 4 + 4 * n } ≡ Command h here next = rw k at e in
       let g : next ≡ record { at = at + 4 + 4 * n } = cc in
+      let i : here ≡ at = cc in
+      let j : h ≡ header code n a b = cc in
       let fits = leb-true (4 * n) (length rest) k in
-      rw g (omega arith, omega arith)
+      rw (g, j) (i, refl, omega arith)
   | inr k ↦ absurd (let f : Truncated (header code n a b) ≡ Command h here next = rw k at e in let z : _≡_ {A = ℕ} 0 1 = cc in let y : ⊥ = omega arith in y)
 ]
 
-pub next-advances : (b : List ℕ) (at : ℕ) (h : Header) (here : ℕ) (next : Cursor) → at ≤ length b → nextOf b at ≡ Command h here next
-    → (at < next .at) × (next .at ≤ length b)
+pub next-found : (b : List ℕ) (at : ℕ) (h : Header) (here : ℕ) (next : Cursor) → nextOf b at ≡ Command h here next
+    → (here ≡ at) × (next .at ≡ at + 4 + 4 * h .len) × (next .at ≤ length b)
 unfolding nextOf
-next-advances b at h here next k e =
-    let a = item-advances at (drop at b) h here next e in
+next-found b at h here next e =
+    let f = item-found at (drop at b) h here next e in
     let l = length-drop at b in
-    (omega arith, omega arith)
+    (f .0, f .1, omega arith)
+
+pub next-advances : (b : List ℕ) (at : ℕ) (h : Header) (here : ℕ) (next : Cursor) → nextOf b at ≡ Command h here next
+    → (at < next .at) × (next .at ≤ length b)
+next-advances b at h here next e = let f = next-found b at h here next e in (omega arith, f .2)

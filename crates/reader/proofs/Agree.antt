@@ -50,7 +50,7 @@ module _ (b : List ℕ) (at : ℕ) where
     -- the place after a whole command lies in the payload
     pub front-inside : (h : Header) (here : ℕ) (next : Cursor) → i ≡ Command h here next → at + next .at ≤ length b
     front-inside h here next f =
-        let a = next-advances rest 0 h here next (omega arith) (sym e ∙ f) in
+        let a = next-advances rest 0 h here next (sym e ∙ f) in
         let l = ap length d ∙ length-drop at b in
         omega arith
 

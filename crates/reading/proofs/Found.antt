@@ -3,7 +3,7 @@ use mathlib.Core.Path.{_≡_, refl, sym, ap, _∙_}
 use mathlib.Core.Logic.{inl, inr}
 use mathlib.Core.Bool.{true, false, not, _||_}
 use mathlib.Core.List.{List, [], _∷_}
-use Prim.Native.Nat.{ℕ, _+_, _*_, _≤_, _<_}
+use Prim.Native.Nat.{ℕ, _+_, _-_, _*_, _≤_, _<_}
 use native.Mathlib.Omega.{arith}
 use borrow.Author.Tests.{eq-eqb, ne-eqb, lt-ltb, le-ltb}
 use lib.ListN.{length, take, drop, length-take}
@@ -18,7 +18,7 @@ use Rattle.packet.specs.declared.reader.Packets.{Packets}
 use Rattle.packet.specs.declared.reader.Packets.the-variants.{At, Refused}
 use Rattle.packet.specs.declared.reader.PacketItem.{PacketItem}
 use Rattle.packet.specs.declared.reader.PacketItem.the-variants.{Command, Truncated, End}
-use Rattle.packet.proofs.Reading.{open-signed, open-unsigned}
+use Rattle.packet.proofs.Reading.{open-signed, open-unsigned, next-found, body-part}
 use Rattle.packet.proofs.Splice.{take-spliced}
 use Rattle.command.specs.Parse.{parsedOf, requestIn, errorIn}
 use Rattle.command.specs.declared.data.UmpData.{UmpData}
@@ -99,9 +99,20 @@ module _ (h : Header) (next : ℕ) (ws words lens : List ℕ) (words′ : List �
   whole-other c r e = rw (ne-eqb (h .code) 0xFF c, stored, e)
 
 -- ---- what stands at a place
-pub body-few : (b : List ℕ) (at : ℕ) (h : Header) (body : List ℕ) → body ≡ bodyOf b at h → h .len ≤ 255 → length body ≤ 1020
-unfolding bodyOf
-body-few b at h body e f = rw e (omega (arith, length-take (4 * h .len) (drop (at + 4) b)))
+-- the bytes between a command's header and the next command
+pub part-body : (b : List ℕ) (at : ℕ) (h : Header) (here : ℕ) (next : Cursor) → nextOf b at ≡ Command h here next
+    → take (next .at - (here + 4)) (drop (here + 4) b) ≡ bodyOf b here h
+part-body b at h here next e =
+    let f = next-found b at h here next e in
+    let n : next .at ≡ here + 4 + 4 * h .len = omega (arith, f) in
+    rw n (body-part b here h (omega (arith, f)) (4 * h .len) refl)
+
+-- of at most 255 words
+pub part-few : (b : List ℕ) (at : ℕ) (h : Header) (here : ℕ) (next : Cursor) → nextOf b at ≡ Command h here next → h .len ≤ 255
+    → length (take (next .at - (here + 4)) (drop (here + 4) b)) ≤ 1020
+part-few b at h here next e g =
+    let f = next-found b at h here next e in
+    omega (arith, f, length-take (next .at - (here + 4)) (drop (here + 4) b))
 
 module _ (b : List ℕ) (at : ℕ) (words lens : List ℕ) where
   pub item-end : nextOf b at ≡ End → (r : Read) → r ≡ refusedRead 0 → _≡_ {A = Answer} (r, words, lens) (itemRead (nextOf b at) b words lens)

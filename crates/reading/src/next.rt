@@ -175,8 +175,9 @@ fn item(payload: &[u8], at: usize, words: &mut [u32], lens: &mut [u8]) -> Read
             count: 0,
         },
         PacketItem::Command { header, at, next } => {
-            let body = reader::body(payload, at, header);
-            whole(header, next.at as u64, body, words, lens)
+            let from = at + 4;
+            let end = next.at;
+            whole(header, end as u64, &payload[from..end], words, lens)
         }
     }
 }

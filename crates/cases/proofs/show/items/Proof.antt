@@ -36,13 +36,13 @@ loop-less : tie.Need-loop-less Inv-loop μ-loop
 loop-less c =
     let arm = c .before .before .before in
     let turn = arm .before .before in
-    omega (arith, next-advances _ _ _ _ _ (turn .before .loop .inv) (sym (turn .next .ensures) ∙ arm .header .given .1))
+    omega (arith, next-advances _ _ _ _ _ (sym (turn .next .ensures) ∙ arm .header .given .1))
 
 loop-again : tie.Need-loop-again Inv-loop μ-loop
 loop-again c =
     let arm = c .before .before .before in
     let turn = arm .before .before in
-    next-advances _ _ _ _ _ (turn .before .loop .inv) (sym (turn .next .ensures) ∙ arm .header .given .1) .1
+    next-advances _ _ _ _ _ (sym (turn .next .ensures) ∙ arm .header .given .1) .1
 
 enum-known-header-2 : tie.Need-enum-known-header-2 Inv-loop μ-loop
 enum-known-header-2 c = c .match .keys2

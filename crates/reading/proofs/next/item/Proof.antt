@@ -1,7 +1,8 @@
 -- By cases of what stands there.
 use mathlib.Core.Path.{sym, _∙_}
 use native.Mathlib.Omega.{arith}
-use Rattle.reading.proofs.Found.{body-few, item-end, item-cut, item-whole}
+use Rattle.packet.proofs.Reading.{next-found}
+use Rattle.reading.proofs.Found.{part-body, part-few, item-end, item-cut, item-whole}
 use borrow.Author.Needs.{needs}
 use Rattle.reading.proofs.next.item.Statement.{statement}
 use Rattle.reading.proofs.next.item.Tie as tie
@@ -24,11 +25,22 @@ csd-requires c κs = search needs
 enum-known-header-2 : tie.Need-enum-known-header-2
 enum-known-header-2 c = search needs
 
-body-requires : tie.Need-body-requires
-body-requires c κs = search needs
+add-from : tie.Need-add-from
+add-from c = omega (arith, next-found _ _ _ _ _ (sym (c .before .before .before .next .ensures) ∙ c .before .header2 .given .1))
+
+sub-whole : tie.Need-sub-whole
+sub-whole c = omega (arith, next-found _ _ _ _ _ (sym (c .before .before .before .next .ensures) ∙ c .before .header2 .given .1))
+
+part-whole-start : tie.Need-part-whole-start
+part-whole-start c = omega (arith, next-found _ _ _ _ _ (sym (c .before .before .before .next .ensures) ∙ c .before .header2 .given .1))
+
+part-whole-end : tie.Need-part-whole-end
+part-whole-end c = omega (arith, next-found _ _ _ _ _ (sym (c .before .before .before .next .ensures) ∙ c .before .header2 .given .1))
 
 whole-requires : tie.Need-whole-requires
-whole-requires c κs = (body-few _ _ _ _ (c .before .before .body .ensures) (omega arith), omega arith, omega arith)
+whole-requires c κs =
+    let h = c .before .before .before .before in
+    (part-few _ _ _ _ _ (sym (h .before .before .next .ensures) ∙ h .header2 .given .1) (omega arith), omega arith, omega arith)
 
 returns : tie.Need-returns
 returns c = item-end _ _ _ _ (sym (c .before .before .before .next .ensures) ∙ c .before .enum-told .given .1) _ (c .refused .ensures)
@@ -45,9 +57,9 @@ same-length-2 c = search needs
 returns-3 : tie.Need-returns-3
 returns-3 c =
     let w = c .before .before .before .before in
-    let b = w .before .before .before in
-    let h = b .before .before in
-    item-whole _ _ _ _ _ _ _ (sym (h .before .before .next .ensures) ∙ h .header2 .given .1) _ (b .body .ensures) _ (w .whole .ensures)
+    let h = w .before .before .before .before .before in
+    let e = sym (h .before .before .next .ensures) ∙ h .header2 .given .1 in
+    item-whole _ _ _ _ _ _ _ e _ (part-body _ _ _ _ _ e) _ (w .whole .ensures)
 
 pub item-spec : {M : Type 1} → statement M
 item-spec =
@@ -59,7 +71,10 @@ item-spec =
     enum-known-header
     csd-requires
     enum-known-header-2
-    body-requires
+    add-from
+    sub-whole
+    part-whole-start
+    part-whole-end
     whole-requires
     returns
     returns-2

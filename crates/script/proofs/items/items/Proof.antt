@@ -36,12 +36,12 @@ item-requires c κs = search needs
 loop-less : tie.Need-loop-less Inv-loop μ-loop
 loop-less c = let arm = c .before .before .before .before .before .before in
     let turn = arm .before .before in
-    omega (arith, next-advances _ _ _ _ _ (turn .before .loop .inv .0) (sym (turn .next .ensures) ∙ arm .header .given .1))
+    omega (arith, next-advances _ _ _ _ _ (sym (turn .next .ensures) ∙ arm .header .given .1))
 
 loop-again : tie.Need-loop-again Inv-loop μ-loop
 loop-again c = let arm = c .before .before .before .before .before .before in
     let turn = arm .before .before in
-    (next-advances _ _ _ _ _ (turn .before .loop .inv .0) (sym (turn .next .ensures) ∙ arm .header .given .1) .1, search needs)
+    (next-advances _ _ _ _ _ (sym (turn .next .ensures) ∙ arm .header .given .1) .1, search needs)
 
 enum-known-header-2 : tie.Need-enum-known-header-2 Inv-loop μ-loop
 enum-known-header-2 c = c .match .keys2
