@@ -1,13 +1,13 @@
 -- What a walk has passed: nothing at first, one entry with each turn, and the entries of two walks in a row.
 use mathlib.Core.Path.{_≡_, refl, sym, _∙_}
-use mathlib.Core.Logic.{_⊎_, inl, inr, ⊎-elim}
-use mathlib.Core.Bool.{Bool, true, false, _&&_, and-false}
+use mathlib.Core.Logic.{⊎-elim}
+use mathlib.Core.Bool.{Bool, true, false, and-false}
 use mathlib.Core.List.{List}
-use Prim.Native.Nat.{ℕ, zero, suc, _+_, _*_, _-_, _/_, _%_, _≤_, _<_}
+use Prim.Native.Nat.{ℕ, suc, _+_, _*_, _-_, _/_, _%_, _≤_, _<_}
 use native.Mathlib.Omega.{arith}
 use borrow.Author.Tests.{le-leb, lt-leb, eq-eqb, ne-eqb, leb-true}
 use lib.ListN.{length, getD}
-use lib.Dec.{leb, eqb}
+use lib.Dec.{leb}
 use Rattle.config.specs.Sequence.{turn, after}
 use Rattle.config.proofs.Tests.{split, tests, lifts}
 use Rattle.history.specs.Ring.{slotOf}
@@ -17,7 +17,7 @@ use Rattle.history.specs.State.{Good}
 use Rattle.history.specs.declared.history.SendHistory.{SendHistory}
 use Rattle.history.specs.declared.headers.Stop.{Stop}
 use Rattle.history.specs.declared.headers.Leg.{Leg}
-use Rattle.history.proofs.Slots.{slot-below}
+use Rattle.history.proofs.Slots.{slot-from}
 
 pub past-none : (b : List ℕ) (i n p : ℕ) → Past b i n p 0 i n p 0
 past-none b i n p =
@@ -77,63 +77,102 @@ past-fails b i n p d i' n' p' u w j k x l e h =
 pub no-yes : {A : Type 0} {t : Bool} → t ≡ true → t ≡ false → A
 no-yes e f = absurd (let z : _≡_ {A = ℕ} 0 1 = cc in omega arith)
 
--- the place that a run ends at is so many words after its start
-pub slot-from : (c i j n : ℕ) → i ≤ j → slotOf c i (j + n - i) ≡ slotOf c j n
-unfolding slotOf
-slot-from c i j n l = let e : i + (j + n - i) ≡ j + n = omega arith in rw e
-
 pub past-here : (b : List ℕ) (i n p k u : ℕ) → Past b i n p (k - k) i n p (u - u)
 past-here b i n p k u =
     let e : k - k ≡ 0 = omega arith in
     let f : u - u ≡ 0 = omega arith in
     rw (e, f) (past-none b i n p)
 
--- a run before its first entry
-pub past-start : (b : List ℕ) (at seq before k : ℕ) → Past b at seq before (k - k) at (seq * turn / turn) before (at - at)
-past-start b at seq before k =
-    let f : seq * turn / turn ≡ seq = omega arith in
-    rw f (past-here b at seq before k at)
+-- a leg before its first entry
+pub past-start : (b : List ℕ) (at seq p k n : ℕ) → n ≡ seq → Past b at seq p (k - k) at n p (at - at)
+past-start b at seq p k n e = rw e (past-here b at seq p k at)
 
--- ---- one turn of a run: `want` is the number of the next entry over a length of 0, and pl the header less that
+-- where an entry is passed, it does not matter which header was the newest before
+past-any : (b : List ℕ) (i n p q d i' n' p' w : ℕ) → 0 < d → Past b i n p d i' n' p' w → Past b i n q d i' n' p' w
+unfolding newestFrom
+past-any b i n p q d i' n' p' w some x =
+    record {
+      numbers = x .numbers;
+      place = x .place;
+      taken = x .taken;
+      newest = λ j. (let e : d + j ≡ suc (d - 1 + j) = omega arith in rw e (rw e at (x .newest j)));
+    }
 
-module _ (b : List ℕ) (at seq before k i left want prev pl : ℕ) (x : Past b at seq before (k - left) i (want / turn) prev (i - at)) (some : 0 < left) (few : left ≤ k) (even : want % turn ≡ 0) (small : want < 4294967296) (less : (pl + want) % 18446744073709551616 ≡ getD b i 0) where
-  pub past-turn : at ≤ i → pl ≤ 64 → Past b at seq before (k - (left - 1)) (slotOf (length b) i (1 + pl)) ((want + turn) % 4294967296 / turn) i (i + (1 + pl) - at)
-  past-turn o s =
-      let l : lengthAt b i ≡ pl = omega arith in
-      let header : getD b i 0 ≡ want / turn * turn + lengthAt b i = omega arith in
-      let y = past-join b at seq before (k - left) i (want / turn) prev (i - at) 1 (nextAt b i) (after (want / turn) 1) i (entrySize b i) x (past-entry b i (want / turn) prev (omega arith) header) in
-      let e : k - left + 1 ≡ k - (left - 1) = omega arith in
-      let f : after (want / turn) 1 ≡ (want + turn) % 4294967296 / turn = omega arith in
-      let g : i - at + (1 + pl) ≡ i + (1 + pl) - at = omega arith in
-      rw (e, f, l, g) at y
+-- ---- a header h, and pl, which is h less its number n over a length of 0
 
-  wrong : 64 < pl → pl < 18446744073709551616 → headerOk b i (want / turn) ≡ false
-  wrong s t =
-      ⊎-elim
-      (λ (e : leb (lengthAt b i) 64 ≡ true).
-      let f : lengthAt b i ≤ 64 = leb-true _ _ e in
-      rw (e, ne-eqb (getD b i 0) (want / turn * turn + lengthAt b i) (λ h. omega arith)))
-      (λ (e : leb (lengthAt b i) 64 ≡ false). rw e)
-      (split (leb (lengthAt b i) 64))
+pub header-right : (h n pl : ℕ) → n < turn → (pl + n * turn) % 18446744073709551616 ≡ h → pl ≤ 64 → h ≡ n * turn + pl
+header-right h n pl small less s = omega arith
 
-  pub past-wrong : 64 < pl → pl < 18446744073709551616 → (j : ℕ) → numbered (k + j) b at seq ≡ false
+header-wrong : (b : List ℕ) (i n pl : ℕ) → n < turn → (pl + n * turn) % 18446744073709551616 ≡ getD b i 0 → 64 < pl → pl < 18446744073709551616 → headerOk b i n ≡ false
+header-wrong b i n pl small less s t =
+    ⊎-elim
+    (λ (e : leb (lengthAt b i) 64 ≡ true).
+    let f : lengthAt b i ≤ 64 = leb-true _ _ e in
+    rw (e, ne-eqb (getD b i 0) (n * turn + lengthAt b i) (λ h. omega arith)))
+    (λ (e : leb (lengthAt b i) 64 ≡ false). rw e)
+    (split (leb (lengthAt b i) 64))
+
+around : (x y z a : ℕ) → (z + y) % 18446744073709551616 ≡ a → (x + y + z) % 18446744073709551616 ≡ (x + a) % 18446744073709551616
+around x y z a e = omega arith
+
+cancel : (x y z : ℕ) → (x + z) % 18446744073709551616 ≡ (y + z) % 18446744073709551616 → y < 18446744073709551616 → x % 18446744073709551616 ≡ y
+cancel x y z e s = omega arith
+
+-- the place `next` after an entry is computed from `base`, the place a after its header less its number
+module _ (h want a base next pl : ℕ) (from : (base + want) % 18446744073709551616 ≡ a) (to : next ≡ (h + base) % 18446744073709551616) (back : (pl + a) % 18446744073709551616 ≡ next) where
+  pub less-number : h < 18446744073709551616 → want % turn ≡ 0 → (pl + want / turn * turn) % 18446744073709551616 ≡ h
+  less-number s even =
+      let e : want / turn * turn ≡ want = omega arith in
+      let f : (pl + want + base) % 18446744073709551616 ≡ (h + base) % 18446744073709551616 = around pl want base a from ∙ back ∙ to in
+      rw e (cancel (pl + want) h base f s)
+
+  pub place-after : a ≤ 32768 → pl ≤ 64 → next ≡ a + pl
+  place-after s t = omega arith
+
+-- a header with the next number and the same length
+pub number-next : (h h' : ℕ) → h < 4294967296 → h' ≡ (h + turn) % 4294967296 → (h' / turn ≡ after (h / turn) 1) × (h' % turn ≡ h % turn) × (h' < 4294967296)
+number-next h h' s e = (omega arith, omega arith, omega arith)
+
+-- ---- one turn of a leg: n is the number of the next entry, and its header stands at place i
+
+module _ (b : List ℕ) (at seq p k i left n prev : ℕ) (x : Past b at seq p (k - left) i n prev (i - at)) (some : 0 < left) (few : left ≤ k) where
+  pub past-wrong : (pl : ℕ) → n < turn → (pl + n * turn) % 18446744073709551616 ≡ getD b i 0 → 64 < pl → pl < 18446744073709551616 → (j : ℕ) → numbered (k + j) b at seq ≡ false
   unfolding numbered
-  past-wrong s t j =
+  past-wrong pl small less s t j =
       let e : k + j ≡ k - left + suc (left - 1 + j) = omega arith in
-      rw (e, x .numbers (suc (left - 1 + j)), wrong s t)
+      rw (e, x .numbers (suc (left - 1 + j)), header-wrong b i n pl small less s t)
 
-  pub ran-lost : 64 < pl → pl < 18446744073709551616 → Ran b at seq before k (record { lost = true; seq = 0; prev = 0; words = 0; left = 0 })
-  ran-lost s t = record { stops = λ _. past-wrong s t; goes = λ e. no-yes refl e }
+  pub past-turn : (pl i' n' p' : ℕ) → getD b i 0 ≡ n * turn + pl → pl ≤ 64 → i' ≡ i + (1 + pl) → n' ≡ after n 1 → p' ≡ i → at ≤ i
+      → Past b at seq p (k - (left - 1)) (slotOf (length b) at (i' - at)) n' p' (i' - at)
+  past-turn pl i' n' p' header short to number newest o =
+      let l : lengthAt b i ≡ pl = omega arith in
+      let same : getD b i 0 ≡ n * turn + lengthAt b i = omega arith in
+      let y = past-join b at seq p (k - left) i n prev (i - at) 1 (nextAt b i) (after n 1) i (entrySize b i) x (past-entry b i n prev (omega arith) same) in
+      let e : k - left + 1 ≡ k - (left - 1) = omega arith in
+      let f : i - at + (1 + pl) ≡ i + (1 + pl) - at = omega arith in
+      rw (to, slot-from (length b) at i (1 + pl) o, number, newest) (rw (e, l, f) at y)
 
-  module _ (want' : ℕ) (w : want' ≡ (want + turn) % 4294967296) (o : at ≤ i) (s : pl ≤ 64) where
-    pub ran-on : Ran b at seq before k (record { lost = false; seq = want' / turn; prev = i; words = i + (1 + pl) - at; left = left - 1 })
-    ran-on = record { stops = λ e. no-yes e refl; goes = λ _. (omega arith, rw (w, slot-from (length b) at i (1 + pl) o) (past-turn o s)) }
+-- ---- what a leg hands back
 
-    pub past-next : i + (1 + pl) < length b → Past b at seq before (k - (left - 1)) (i + (1 + pl)) (want' / turn) i (i + (1 + pl) - at)
-    past-next l = rw w (rw (← slot-below (length b) i (1 + pl) l) at (past-turn o s))
+module _ (b : List ℕ) (i n k : ℕ) where
+  pub ran-lost : (r : Leg) → r .lost ≡ true → ((j : ℕ) → numbered (k + j) b i n ≡ false) → (p : ℕ) → Ran b i n p k r
+  ran-lost r e h p = record { stops = λ _. h; goes = λ f. no-yes e f }
 
-    pub want-even : (want' % turn ≡ 0) × (want' < 4294967296)
-    want-even = (omega arith, omega arith)
+  pub ran-on : (q left seq prev words : ℕ) → left < k → Past b i n q (k - left) (slotOf (length b) i words) seq prev words
+      → (p : ℕ) → Ran b i n p k (record { lost = false; seq = seq; prev = prev; words = words; left = left })
+  ran-on q left seq prev words l x p = record { stops = λ e. no-yes e refl; goes = λ _. (l, past-any _ _ _ _ _ _ _ _ _ _ (omega arith) x) }
+
+  -- of k entries it was asked for m
+  pub ran-more : (p m : ℕ) (r : Leg) → m ≤ k → Ran b i n p m r
+      → Ran b i n p k (record { lost = r .lost; seq = r .seq; prev = r .prev; words = r .words; left = r .left + (k - m) })
+  ran-more p m r l x =
+      record {
+        stops = λ e j. (let f : k + j ≡ m + (k - m + j) = omega arith in rw f (x .stops e (k - m + j)));
+        goes = λ e.
+            (let g = x .goes e in
+            let f : k - (r .left + (k - m)) ≡ m - r .left = omega (arith, g .0) in
+            (omega (arith, g .0), rw f (g .1)));
+      }
 
 -- ---- the walk: of k entries some are left, and of u words
 

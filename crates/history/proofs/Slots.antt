@@ -35,6 +35,14 @@ slot-in c i n p q = ⊎-elim (λ r. omega arith) (λ r. omega arith) (slot-is c 
 pub slot-zero : (c i : ℕ) → i < c → slotOf c i 0 ≡ i
 slot-zero c i p = ⊎-elim (λ r. omega arith) (λ r. omega arith) (slot-is c i 0)
 
+-- a place j after i, by the words between them
+pub slot-from : (c i j n : ℕ) → i ≤ j → slotOf c i (j + n - i) ≡ slotOf c j n
+unfolding slotOf
+slot-from c i j n l = let e : i + (j + n - i) ≡ j + n = omega arith in rw e
+
+pub slot-to : (c i j : ℕ) → i ≤ j → j < c → slotOf c i (j - i) ≡ j
+slot-to c i j p q = ⊎-elim (λ r. omega arith) (λ r. omega arith) (slot-is c i (j - i))
+
 -- places add up
 pub slot-add : (c i m n : ℕ) → i < c → m + n ≤ c → slotOf c (slotOf c i m) n ≡ slotOf c i (m + n)
 slot-add c i m n p q =

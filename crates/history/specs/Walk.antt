@@ -26,7 +26,7 @@ pub record Past (b : List ℕ) (i n p d at seq prev words : ℕ) : Type 0 where
   pub taken : (j : ℕ) → wordsFrom (d + j) b i ≡ words + wordsFrom j b at
   pub newest : (j : ℕ) → newestFrom (d + j) b i p ≡ newestFrom j b at prev
 
--- a run of at most k entries: one of their headers is wrong, or some are passed
+-- a leg of at most k entries: one of their headers is wrong, or some are passed
 pub record Ran (b : List ℕ) (i n p k : ℕ) (r : Leg) : Type 0 where
   pub stops : r .lost ≡ true → (j : ℕ) → numbered (k + j) b i n ≡ false
   pub goes : r .lost ≡ false → (r .left < k) × Past b i n p (k - r .left) (slotOf (length b) i (r .words)) (r .seq) (r .prev) (r .words)

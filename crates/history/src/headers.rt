@@ -1,14 +1,16 @@
 // The walk over the headers of a ring, from the oldest on.
 //
-//     at, seq, prev, words  --run-->  the end of the slice  --slot-->  its start  --run-->  ..
+//     at, seq, prev, words  --leg-->  the end of the slice  --slot-->  its start  --leg-->  ..
 //
-// A run goes straight on to the last entry asked for or to the end of the slice, so that only the walk
-// has to go round.
+// A leg goes straight on, at most to the end of the slice, so that only the walk has to go round. There
+// are two kinds: `alike` passes entries of one length, and so does not wait for a header to be read to
+// find the next; `run` passes any.
 ghost use mathlib.Core.Path.{_≡_};
 ghost use mathlib.Core.Bool.{true};
-ghost use Prim.Native.Nat.{_≤_, _<_};
+ghost use Prim.Native.Nat.{ℕ, _≤_, _<_};
 ghost use lib.ListN.{length};
 ghost use Rattle.history.specs.Walk.{Ran, Walked};
+use super::history::least;
 use super::ring;
 use config::sequence::SeqNum;
 
@@ -29,7 +31,7 @@ pub struct Stop {
     pub words: usize,
 }
 
-// Where a run has come to.
+// Where a leg has come to.
 pub struct Leg {
     // A header was wrong.
     pub lost: bool,
@@ -43,58 +45,117 @@ pub struct Leg {
     pub left: usize,
 }
 
+// A leg over a wrong header.
+fn wrong() -> Leg
+    ensures { λ r. ⌜ (r .lost ≡ true) × (r .left ≡ 0) ⌝ }
+{
+    Leg {
+        lost: true,
+        seq: 0,
+        prev: 0,
+        words: 0,
+        left: 0,
+    }
+}
+
 // Passes entries from the header at `at` on, up to `k` or to the end of the slice.
-fn run(buf: &[u32], at: usize, seq: SeqNum, before: usize, k: usize) -> Leg
+fn run(buf: &[u32], at: usize, seq: SeqNum, k: usize) -> Leg
     requires { ⌜ (at < length (now buf)) × (length (now buf) ≤ 32768) × (0 < k) ⌝ }
-    ensures { λ r. ⌜ Ran (now (buf .entry)) at seq before k r ⌝ }
+    ensures { λ r. ⌜ (r .left ≤ k) × ((p : ℕ) → Ran (now (buf .entry)) at seq p k r) ⌝ }
 {
     let mut i = at;
     let mut left = k;
     // The number in the upper half, over a length of 0.
     let mut want = (seq as u32) * 0x1_0000;
-    let mut prev = before;
-    // The length of the entry before. Where the next one has it too, the place after that does not
-    // wait for its header to be read.
-    let mut same = 0;
+    let mut prev = at;
     loop {
-        // The length, if the number is right and bits 8 to 15 are zero; else more than 64.
-        let pl = std::num::wrapping_sub_usize(buf[i] as usize, want as usize);
-        if pl != same {
-            if MAX_PL < pl {
-                return Leg {
-                    lost: true,
-                    seq: 0,
-                    prev: 0,
-                    words: 0,
-                    left: 0,
-                };
-            }
-            same = pl;
+        // The place after the entry; more than 64 words on if the number is wrong or bits 8 to 15 are
+        // not zero. What does not need the header is computed apart, while that is read.
+        let base = std::num::wrapping_sub_usize(i + 1, want as usize);
+        let next = std::num::wrapping_add_usize(buf[i] as usize, base);
+        if MAX_PL < std::num::wrapping_sub_usize(next, i + 1) {
+            return wrong();
         }
         prev = i;
-        i += 1 + same;
+        i = next;
         want = std::num::wrapping_add_u32(want, 0x1_0000);
         left -= 1;
         if left == 0 {
-            return Leg {
-                lost: false,
-                seq: (want / 0x1_0000) as u16,
-                prev,
-                words: i - at,
-                left,
-            };
+            break;
         }
         if buf.len() <= i {
-            return Leg {
-                lost: false,
-                seq: (want / 0x1_0000) as u16,
-                prev,
-                words: i - at,
-                left,
-            };
+            break;
         }
     }
+    Leg {
+        lost: false,
+        seq: (want / 0x1_0000) as u16,
+        prev,
+        words: i - at,
+        left,
+    }
 }
+
+// Passes entries from the header at `at` on that have its length, up to `k` or to the end of the slice.
+fn alike(buf: &[u32], at: usize, seq: SeqNum, k: usize) -> Leg
+    requires { ⌜ (at < length (now buf)) × (length (now buf) ≤ 32768) × (0 < k) ⌝ }
+    ensures { λ r. ⌜ ((p : ℕ) → Ran (now (buf .entry)) at seq p k r) ⌝ }
+{
+    let pl = std::num::wrapping_sub_usize(buf[at] as usize, (seq as usize) * 0x1_0000);
+    if MAX_PL < pl {
+        return wrong();
+    }
+    let step = 1 + pl;
+    let mut i = at;
+    let mut left = k;
+    let mut header = buf[at];
+    loop {
+        if buf[i] != header {
+            break;
+        }
+        i += step;
+        header = std::num::wrapping_add_u32(header, 0x1_0000);
+        left -= 1;
+        if left == 0 {
+            break;
+        }
+        if buf.len() <= i {
+            break;
+        }
+    }
+    Leg {
+        lost: false,
+        seq: (header / 0x1_0000) as u16,
+        prev: i - step,
+        words: i - at,
+        left,
+    }
+}
+
+// The most entries of one run.
+const MOST: usize = 128;
+
+// A leg of at most `k` entries; `guess` says that they may have one length.
+fn next_leg(buf: &[u32], at: usize, seq: SeqNum, k: usize, guess: bool) -> Leg
+    requires { ⌜ (at < length (now buf)) × (length (now buf) ≤ 32768) × (0 < k) ⌝ }
+    ensures { λ r. ⌜ ((p : ℕ) → Ran (now (buf .entry)) at seq p k r) ⌝ }
+{
+    if guess {
+        return alike(buf, at, seq, k);
+    }
+    let m = least(k, MOST);
+    let out = run(buf, at, seq, m);
+    Leg {
+        lost: out.lost,
+        seq: out.seq,
+        prev: out.prev,
+        words: out.words,
+        left: out.left + (k - m),
+    }
+}
+
+// A leg of fewer entries is followed by a run.
+const FEW: usize = 8;
 
 // Passes `k` entries.
 pub fn walk(buf: &[u32], from: Stop, k: usize) -> Stop
@@ -106,8 +167,9 @@ pub fn walk(buf: &[u32], from: Stop, k: usize) -> Stop
     let mut prev = from.prev;
     let mut words = from.words;
     let mut left = k;
+    let mut guess = FEW <= k;
     while 0 < left {
-        let out = run(buf, at, seq, prev, left);
+        let out = next_leg(buf, at, seq, left, guess);
         if out.lost {
             return lost();
         }
@@ -118,6 +180,7 @@ pub fn walk(buf: &[u32], from: Stop, k: usize) -> Stop
         seq = out.seq;
         prev = out.prev;
         words -= out.words;
+        guess = FEW <= left - out.left;
         left = out.left;
     }
     Stop {

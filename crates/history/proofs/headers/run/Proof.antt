@@ -1,71 +1,106 @@
 -- Each turn passes one entry; a header that is not the wanted one less than 65 up fails whatever comes after it.
-use mathlib.Core.Path.{_≡_}
-use mathlib.Core.Logic.{⊎-elim}
-use Prim.Native.Nat.{_+_, _≤_, _<_, _-_, _/_, _%_}
+use mathlib.Core.Path.{_≡_, refl, _∙_}
+use Prim.Native.Nat.{_+_, _*_, _≤_, _<_, _-_, _/_, _%_}
 use native.Mathlib.Omega.{arith}
 use lib.ListN.{length, getD}
 use Rattle.config.specs.Sequence.{turn}
+use Rattle.history.specs.Ring.{slotOf}
 use Rattle.history.specs.Walk.{Past}
-use Rattle.history.proofs.Past.{past-start, ran-lost, ran-on, past-next, want-even}
+use Rattle.history.proofs.Slots.{slot-to}
+use Rattle.history.proofs.Past.{past-start, less-number, place-after, number-next, header-right, past-wrong, past-turn, ran-lost, ran-on}
 use borrow.Author.Needs.{needs}
 use Rattle.history.proofs.headers.run.Statement.{statement}
 use Rattle.history.proofs.headers.run.Tie as tie
 
 abbrev Inv-loop : tie.InvT-loop
-Inv-loop buf at seq before k i₀ left₀ want₀ prev₀ same₀ i left want prev same =
+Inv-loop buf at seq k i₀ left₀ want₀ prev₀ i left want prev =
     (0 < left)
     × (left ≤ k)
     × (at ≤ i)
     × (i < length buf)
     × (want % turn ≡ 0)
     × (want < 4294967296)
-    × Past buf at seq before (k - left) i (want / turn) prev (i - at)
-    × (same ≤ 64)
+    × Past buf at seq at (k - left) i (want / turn) prev (i - at)
 
 abbrev μ-loop : tie.MeasureT-loop
-μ-loop buf at seq before k i₀ left₀ want₀ prev₀ same₀ i left want prev same = left
+μ-loop buf at seq k i₀ left₀ want₀ prev₀ i left want prev = left
 
--- after the branch `same` is the length that was read
-length-read : (c : tie.Joined1 Inv-loop μ-loop) → (c .if1 .same ≡ c .before .wrapping-sub-usize .result) × (c .if1 .same ≤ 64)
-length-read c = ⊎-elim (λ w. (omega arith, omega arith)) (λ w. (omega arith, omega arith)) (c .if1 .came)
+-- the header less its number
+less :
+    (c : tie.After-wrapping-sub-usize2 Inv-loop μ-loop)
+    → let a = c .before .before .before .before in
+    (c .wrapping-sub-usize2 .result + a .loop .want / turn * turn) % 18446744073709551616 ≡ getD (a .before .before .args .buf .now) (a .loop .i) 0
+less c =
+    let a = c .before .before .before .before in
+    less-number _ _ _ _ _ _ (c .before .before .before .wrapping-sub-usize .ensures) (c .before .wrapping-add-usize .ensures) (c .wrapping-sub-usize2 .ensures)
+    (omega (arith, c .before .before .shared-slice-known2 .given (a .loop .i)))
+    (a .loop .inv .4)
 
-header-same :
-    (c : tie.Joined1 Inv-loop μ-loop)
-    → (c .if1 .same + c .before .before .before .loop .want) % 18446744073709551616 ≡ getD (c .before .before .before .before .before .args .buf .now) (c .before .before .before .loop .i) 0
-header-same c = rw (length-read c .0) (c .before .wrapping-sub-usize .ensures)
+-- the place after an entry that is passed
+behind : (c : tie.Else1 Inv-loop μ-loop) → c .before .before .wrapping-add-usize .result ≡ c .before .before .before .before .before .loop .i + (1 + c .before .wrapping-sub-usize2 .result)
+behind c =
+    let e = place-after _ _ _ _ _ _ (c .before .before .before .before .wrapping-sub-usize .ensures) (c .before .before .wrapping-add-usize .ensures) (c .before .wrapping-sub-usize2 .ensures) (omega arith) (omega arith) in
+    omega arith
+
+passed :
+    (c : tie.After-wrapping-add-u32 Inv-loop μ-loop)
+    → let a = c .before .before .before .before .before .before in
+    let s = a .before .before .args in
+    let i' = c .before .before .before .wrapping-add-usize .result in
+    Past (s .buf .now) (s .at) (s .seq) (s .at) (s .k - (a .loop .left - 1)) (slotOf (length (s .buf .now)) (s .at) (i' - s .at)) (c .wrapping-add-u32 .result / turn) (a .loop .i) (i' - s .at)
+passed c =
+    let e = c .before in
+    let l = e .before .before .before .before .before .loop .inv in
+    past-turn _ _ _ _ _ _ _ _ _ (l .6) (l .0) (l .1) _ _ _ _
+    (header-right _ _ _ (omega arith) (less (e .before)) (e .if1 .left))
+    (e .if1 .left)
+    (behind e)
+    (number-next _ _ (l .5) (c .wrapping-add-u32 .ensures) .0)
+    refl
+    (l .2)
 
 mul-want : tie.Need-mul-want Inv-loop μ-loop
 mul-want c = search needs
 
 loop-holds : tie.Need-loop-holds Inv-loop μ-loop
-loop-holds c = (omega arith, omega arith, omega arith, omega arith, omega arith, omega arith, past-start _ _ _ _ _, omega arith)
+loop-holds c = (omega arith, omega arith, omega arith, omega arith, omega arith, omega arith, past-start _ _ _ _ _ _ (omega arith))
 
-mul-wrapping-sub-usize : tie.Need-mul-wrapping-sub-usize Inv-loop μ-loop
-mul-wrapping-sub-usize c = search needs
-
-shared-slice-read-wrapping-sub-usize :
-    tie.Need-shared-slice-read-wrapping-sub-usize Inv-loop μ-loop
-shared-slice-read-wrapping-sub-usize c = search needs
+add-wrapping-sub-usize : tie.Need-add-wrapping-sub-usize Inv-loop μ-loop
+add-wrapping-sub-usize c = search needs
 
 cast-wrapping-sub-usize : tie.Need-cast-wrapping-sub-usize Inv-loop μ-loop
-cast-wrapping-sub-usize c = omega (arith, c .shared-slice-known2 .given (c .before .loop .i))
-
-cast-wrapping-sub-usize-2 : tie.Need-cast-wrapping-sub-usize-2 Inv-loop μ-loop
-cast-wrapping-sub-usize-2 c = search needs
+cast-wrapping-sub-usize c = search needs
 
 wrapping-sub-usize-requires : tie.Need-wrapping-sub-usize-requires Inv-loop μ-loop
 wrapping-sub-usize-requires c κs = search needs
 
+mul-wrapping-add-usize : tie.Need-mul-wrapping-add-usize Inv-loop μ-loop
+mul-wrapping-add-usize c = search needs
+
+shared-slice-read-wrapping-add-usize :
+    tie.Need-shared-slice-read-wrapping-add-usize Inv-loop μ-loop
+shared-slice-read-wrapping-add-usize c = search needs
+
+cast-wrapping-add-usize : tie.Need-cast-wrapping-add-usize Inv-loop μ-loop
+cast-wrapping-add-usize c = omega (arith, c .shared-slice-known2 .given (c .before .before .loop .i))
+
+wrapping-add-usize-requires : tie.Need-wrapping-add-usize-requires Inv-loop μ-loop
+wrapping-add-usize-requires c κs = search needs
+
+add-wrapping-sub-usize-2 : tie.Need-add-wrapping-sub-usize-2 Inv-loop μ-loop
+add-wrapping-sub-usize-2 c = search needs
+
+wrapping-sub-usize-requires-2 : tie.Need-wrapping-sub-usize-requires-2 Inv-loop μ-loop
+wrapping-sub-usize-requires-2 c κs = search needs
+
+wrong-requires : tie.Need-wrong-requires Inv-loop μ-loop
+wrong-requires c κs = search needs
+
 returns : tie.Need-returns Inv-loop μ-loop
 returns c =
-    let l = c .before .before .before .before .loop .inv in
-    ran-lost _ _ _ _ _ _ _ _ _ _ (l .6) (l .0) (l .1) (l .4) (l .5) (c .before .before .wrapping-sub-usize .ensures) (c .if2 .taken) (omega arith)
-
-add-i : tie.Need-add-i Inv-loop μ-loop
-add-i c = let l = length-read (c .before) in omega arith
-
-add-i-2 : tie.Need-add-i-2 Inv-loop μ-loop
-add-i-2 c = let l = length-read (c .before) in omega arith
+    let l = c .before .before .before .before .before .before .loop .inv in
+    let e = c .wrong .ensures in
+    (omega arith, ran-lost _ _ _ _ _ (e .0) (past-wrong _ _ _ _ _ _ _ _ _ (l .6) (l .0) (l .1) _ (omega arith) (less (c .before .before)) (c .before .if1 .taken) (omega arith)))
 
 wrapping-add-u32-requires : tie.Need-wrapping-add-u32-requires Inv-loop μ-loop
 wrapping-add-u32-requires c κs = search needs
@@ -73,48 +108,32 @@ wrapping-add-u32-requires c κs = search needs
 sub-left : tie.Need-sub-left Inv-loop μ-loop
 sub-left c = search needs
 
-cast-t21 : tie.Need-cast-t21 Inv-loop μ-loop
-cast-t21 c = search needs
-
-sub-t22 : tie.Need-sub-t22 Inv-loop μ-loop
-sub-t22 c = search needs
-
-returns-2 : tie.Need-returns-2 Inv-loop μ-loop
-returns-2 c =
-    let j = c .before .before .before in
-    let l = j .before .before .before .loop .inv in
-    ran-on _ _ _ _ _ _ _ _ _ _ (l .6) (l .0) (l .1) (l .4) (l .5) (header-same j) _ (c .before .wrapping-add-u32 .ensures) (l .2) (length-read j .1)
-
-cast-t24 : tie.Need-cast-t24 Inv-loop μ-loop
-cast-t24 c = search needs
-
-sub-t25 : tie.Need-sub-t25 Inv-loop μ-loop
-sub-t25 c = search needs
-
-returns-3 : tie.Need-returns-3 Inv-loop μ-loop
-returns-3 c =
-    let j = c .before .before .before .before in
-    let l = j .before .before .before .loop .inv in
-    ran-on _ _ _ _ _ _ _ _ _ _ (l .6) (l .0) (l .1) (l .4) (l .5) (header-same j) _ (c .before .before .wrapping-add-u32 .ensures) (l .2) (length-read j .1)
-
 loop-less : tie.Need-loop-less Inv-loop μ-loop
 loop-less c = search needs
 
 loop-again : tie.Need-loop-again Inv-loop μ-loop
 loop-again c =
-    let j = c .before .before .before .before in
-    let l = j .before .before .before .loop .inv in
-    let a = c .before .before .wrapping-add-u32 .ensures in
-    let e = want-even _ _ _ _ _ _ _ _ _ _ (l .6) (l .0) (l .1) (l .4) (l .5) (header-same j) _ a (l .2) (length-read j .1) in (
+    let w = c .before .before in
+    let a = w .before .before .before .before .before .before in
+    let e = behind (w .before) in
+    let n = number-next _ _ (a .loop .inv .5) (w .wrapping-add-u32 .ensures) in (
       omega arith,
       omega arith,
       omega arith,
       omega arith,
-      e .0,
-      e .1,
-      past-next _ _ _ _ _ _ _ _ _ _ (l .6) (l .0) (l .1) (l .4) (l .5) (header-same j) _ a (l .2) (length-read j .1) (omega arith),
-      length-read j .1,
+      n .1 ∙ a .loop .inv .4,
+      n .2,
+      rw (slot-to _ (a .before .before .args .at) _ (omega arith) (c .if3 .left)) at (passed w),
     )
+
+cast-t17 : tie.Need-cast-t17 Inv-loop μ-loop
+cast-t17 c = search needs
+
+sub-t18 : tie.Need-sub-t18 Inv-loop μ-loop
+sub-t18 c = let e = behind (c .before .before) in omega arith
+
+returns-2 : tie.Need-returns-2 Inv-loop μ-loop
+returns-2 c = (omega arith, ran-on _ _ _ _ _ _ _ _ _ (omega arith) (passed (c .before)))
 
 pub run-spec : {M : Type 1} → statement M
 run-spec =
@@ -124,21 +143,21 @@ run-spec =
     μ-loop
     mul-want
     loop-holds
-    mul-wrapping-sub-usize
-    shared-slice-read-wrapping-sub-usize
+    add-wrapping-sub-usize
     cast-wrapping-sub-usize
-    cast-wrapping-sub-usize-2
     wrapping-sub-usize-requires
+    mul-wrapping-add-usize
+    shared-slice-read-wrapping-add-usize
+    cast-wrapping-add-usize
+    wrapping-add-usize-requires
+    add-wrapping-sub-usize-2
+    wrapping-sub-usize-requires-2
+    wrong-requires
     returns
-    add-i
-    add-i-2
     wrapping-add-u32-requires
     sub-left
-    cast-t21
-    sub-t22
-    returns-2
-    cast-t24
-    sub-t25
-    returns-3
     loop-less
-    loop-again)
+    loop-again
+    cast-t17
+    sub-t18
+    returns-2)

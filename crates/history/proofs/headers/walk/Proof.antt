@@ -1,5 +1,5 @@
--- Each turn is a run, and the place that it ends at is gone round to; the entries passed and those of the run are passed together.
-use mathlib.Core.Path.{_≡_, refl}
+-- Each turn is a leg, and the place that it ends at is gone round to; the entries passed and those of the leg are passed together.
+use mathlib.Core.Path.{refl}
 use Prim.Native.Nat.{_≤_, _<_, _-_}
 use native.Mathlib.Omega.{arith}
 use lib.ListN.{length}
@@ -10,7 +10,7 @@ use Rattle.history.proofs.headers.walk.Statement.{statement}
 use Rattle.history.proofs.headers.walk.Tie as tie
 
 abbrev Inv-loop : tie.InvT-loop
-Inv-loop buf k at₀ seq₀ prev₀ words₀ left₀ at seq prev words left =
+Inv-loop buf k at₀ seq₀ prev₀ words₀ left₀ guess₀ at seq prev words left guess =
     (left ≤ k)
     × (at < length buf)
     × (seq < 65536)
@@ -18,46 +18,56 @@ Inv-loop buf k at₀ seq₀ prev₀ words₀ left₀ at seq prev words left =
     × Past buf at₀ seq₀ prev₀ (k - left) at seq prev (words₀ - words)
 
 abbrev μ-loop : tie.MeasureT-loop
-μ-loop buf k at₀ seq₀ prev₀ words₀ left₀ at seq prev words left = left
+μ-loop buf k at₀ seq₀ prev₀ words₀ left₀ guess₀ at seq prev words left guess = left
 
 loop-holds : tie.Need-loop-holds Inv-loop μ-loop
 loop-holds c = (omega arith, omega arith, omega arith, omega arith, past-here _ _ _ _ _ _)
 
-run-requires : tie.Need-run-requires Inv-loop μ-loop
-run-requires c κs = search needs
+next-leg-requires : tie.Need-next-leg-requires Inv-loop μ-loop
+next-leg-requires c κs = search needs
 
 lost-requires : tie.Need-lost-requires Inv-loop μ-loop
 lost-requires c κs = search needs
 
 returns : tie.Need-returns Inv-loop μ-loop
 returns c =
-    let l = c .before .before .before .before .loop .inv in
-    walked-lost _ _ _ _ (c .lost .ensures) (walk-stops _ _ _ _ _ _ _ _ _ _ _ (l .4) (l .0) (c .before .before .run .ensures .stops (c .before .if1 .taken)))
+    let l = c .before .before .before .before .loop in
+    walked-lost _ _ _ _ (c .lost .ensures) (walk-stops _ _ _ _ _ _ _ _ _ _ _ (l .inv .4) (l .inv .0) (c .before .before .next-leg .ensures (l .prev) .stops (c .before .if1 .taken)))
 
 lost-requires-2 : tie.Need-lost-requires-2 Inv-loop μ-loop
 lost-requires-2 c κs = search needs
 
 returns-2 : tie.Need-returns-2 Inv-loop μ-loop
 returns-2 c =
-    let l = c .before .before .before .before .before .before .loop .inv in
-    walked-lost _ _ _ _ (c .lost2 .ensures) (walk-short _ _ _ _ _ _ _ _ _ _ _ (l .4) (l .0) (l .3) _ _ _ _ _ (c .before .before .before .before .run .ensures .goes (c .before .before .before .if1 .left)) (c .before .if2 .taken))
+    let l = c .before .before .before .before .before .before .loop in
+    let r = c .before .before .before .before .next-leg .ensures (l .prev) .goes (c .before .before .before .if1 .left) in
+    walked-lost _ _ _ _ (c .lost2 .ensures) (walk-short _ _ _ _ _ _ _ _ _ _ _ (l .inv .4) (l .inv .0) (l .inv .3) _ _ _ _ _ r (c .before .if2 .taken))
 
 slot-requires : tie.Need-slot-requires Inv-loop μ-loop
 slot-requires c κs = search needs
 
+sub-guess : tie.Need-sub-guess Inv-loop μ-loop
+sub-guess c =
+    let e = c .before .before .before .before .before in
+    let r = e .before .next-leg .ensures 0 .goes (e .if1 .left) in
+    omega (arith, r .0)
+
 loop-less : tie.Need-loop-less Inv-loop μ-loop
-loop-less c = c .before .before .before .before .before .run .ensures .goes (c .before .before .before .before .if1 .left) .0
+loop-less c =
+    let e = c .before .before .before .before .before in
+    e .before .next-leg .ensures 0 .goes (e .if1 .left) .0
 
 loop-again : tie.Need-loop-again Inv-loop μ-loop
 loop-again c =
-    let l = c .before .before .before .before .before .before .before .loop .inv in
-    let r = c .before .before .before .before .before .run .ensures .goes (c .before .before .before .before .if1 .left) in
-    let slot = c .before .slot .ensures in (
+    let e = c .before .before .before .before .before in
+    let l = e .before .before .before .loop in
+    let r = e .before .next-leg .ensures (l .prev) .goes (e .if1 .left) in
+    let slot = c .before .before .slot .ensures in (
       omega (arith, r .0),
       slot .1,
       omega arith,
       omega arith,
-      rw (slot .0) (past-walk _ _ _ _ _ _ _ _ _ _ _ (l .4) (l .0) (l .3) _ _ _ _ _ r (c .before .before .if2 .left)),
+      rw (slot .0) (past-walk _ _ _ _ _ _ _ _ _ _ _ (l .inv .4) (l .inv .0) (l .inv .3) _ _ _ _ _ r (c .before .before .before .if2 .left)),
     )
 
 returns-3 : tie.Need-returns-3 Inv-loop μ-loop
@@ -72,12 +82,13 @@ walk-spec =
     Inv-loop
     μ-loop
     loop-holds
-    run-requires
+    next-leg-requires
     lost-requires
     returns
     lost-requires-2
     returns-2
     slot-requires
+    sub-guess
     loop-less
     loop-again
     returns-3)
