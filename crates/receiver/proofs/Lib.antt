@@ -3,7 +3,7 @@ mod Times
 mod Settled
 mod Polled
 mod Losses
-mod Taken
+pub mod Taken
 mod Answers
 pub mod Validity
 pub mod Handed

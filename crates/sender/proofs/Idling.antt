@@ -1,5 +1,5 @@
 -- The idle schedule: its times, its next step, the command that is queued, and the state that this leaves.
-use mathlib.Core.Path.{_≡_, refl, sym, ap, _∙_}
+use mathlib.Core.Path.{_≡_, refl, sym, ap, subst, _∙_}
 use mathlib.Core.Bool.{Bool, true, false, cond, _||_}
 use mathlib.Core.Logic.{inl, inr}
 use mathlib.Core.List.{List, []}
@@ -25,7 +25,6 @@ use Rattle.history.proofs.States.{state-unwritten}
 use Rattle.sender.specs.State.{idleOk, validOf}
 use Rattle.sender.specs.Queueing.{holding}
 use Rattle.sender.specs.Writing.{lastTime, later, withIdle, idleNext, idledBy, idledOf, AgainAt}
-use Rattle.sender.specs.Requests.{writtenCount}
 use Rattle.sender.specs.declared.sender.Idle.{Idle}
 use Rattle.sender.specs.declared.sender.IdleTimer.{IdleTimer}
 use Rattle.sender.specs.declared.sender.IdleTimer.the-variants.{Off, Waiting}
@@ -154,17 +153,10 @@ module _ (s : Sender) (cfg : StreamConfig) (now : ℕ) (ring : List ℕ) (v : va
         | inr a ↦ rw a (pushed-good (s .history) ring [] (valid-good s ring v) o (omega arith) .1)
       ]
 
--- where a command was unwritten, the first one to repeat stands where it stood before serving
-pub again-kept : (s t : Sender) (cfg : StreamConfig) (now : ℕ) (ring : List ℕ) (r place : ℕ) → AgainAt s ring r place → t .history ≡ s .history → t .unsent ≡ s .unsent
-    → (next : Sender) (words : List ℕ) → (next, words) ≡ idledOf t cfg now ring → ltb 0 (s .unsent) ≡ true → AgainAt next words r place
-again-kept s t cfg now ring r place a h u next words e k =
-    let some : 0 < t .unsent = omega (arith, tests) in
-    let f : _≡_ {A = Sender × List ℕ} (next, words) (t, ring) = e ∙ sym (idled-unsent t cfg now ring some) in
-    let n : next ≡ t = ap (λ (z : Sender × List ℕ). z .0) f in
-    let w : words ≡ ring = ap (λ (z : Sender × List ℕ). z .1) f in
-    let hn : next .history ≡ s .history = ap (λ (z : Sender). z .history) n ∙ h in
-    let un : next .unsent ≡ s .unsent = ap (λ (z : Sender). z .unsent) n ∙ u in
-    let c : next .history .count ≡ s .history .count = ap (λ (z : SendHistory). z .count) hn in
-    let d : next .history .head ≡ s .history .head = ap (λ (z : SendHistory). z .head) hn in
-    let m : writtenCount next ≡ writtenCount s = omega arith in
-    (cc, rw w (a .1))
+-- where a command was unwritten, the first one to repeat stands where it stood
+pub again-kept : (s : Sender) (cfg : StreamConfig) (now : ℕ) (ring : List ℕ) (r place : ℕ) → AgainAt s ring r place
+    → (next : Sender) (words : List ℕ) → (next, words) ≡ idledOf s cfg now ring → ltb 0 (s .unsent) ≡ true → AgainAt next words r place
+again-kept s cfg now ring r place a next words e k =
+    let some : 0 < s .unsent = omega (arith, tests) in
+    let f : _≡_ {A = Sender × List ℕ} (next, words) (s, ring) = e ∙ sym (idled-unsent s cfg now ring some) in
+    subst (λ (z : Sender × List ℕ). AgainAt (z .0) (z .1) r place) (sym f) a

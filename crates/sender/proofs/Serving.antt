@@ -92,14 +92,17 @@ pub front-request : (q : RetransmitQueue) (r : RetransmitRequest) → Fit q → 
 unfolding request
 front-request q r f e = rw (slot-zero (q .size) (q .head) (f .inside)) e
 
-pub pop-made : (s : Sender) (out : Popped) → 0 < s .queue .len → out ≡ popOf (s .queue) → withQueue s (out .queue) ≡ withQueue s (popped (s .queue))
+pub pop-made : (q : RetransmitQueue) (out : Popped) → 0 < q .len → out ≡ popOf q → out .queue ≡ popped q
 unfolding popOf
-pop-made s out some e = let z : s .queue .len ≡ 0 → ⊥ = λ x. omega arith in rw (e, ne-eqb _ _ z)
+pop-made q out some e = let z : q .len ≡ 0 → ⊥ = λ x. omega arith in rw (e, ne-eqb _ _ z)
 
-pub popped-kept : (s : Sender) (ring : List ℕ) → validOf s ring ≡ true → validOf (withQueue s (popped (s .queue))) ring ≡ true
+pub popped-fit : (q : RetransmitQueue) → Fit q → Fit (popped q)
+popped-fit q f =
+    record { least = f .least; most = f .most; inside = slot-in (q .size) (q .head) 1 (f .inside) (f .least); held = omega (arith, f .held) }
+
+popped-kept : (s : Sender) (ring : List ℕ) → validOf s ring ≡ true → validOf (withQueue s (popped (s .queue))) ring ≡ true
 popped-kept s ring v =
-    let f = valid-fit s ring v in
-    let q : queueOk (popped (s .queue)) ≡ true = fit-queue (popped (s .queue)) record { least = f .least; most = f .most; inside = slot-in (s .queue .size) (s .queue .head) 1 (f .inside) (f .least); held = omega (arith, f .held) } in
+    let q = fit-queue _ (popped-fit (s .queue) (valid-fit s ring v)) in
     passes (withQueue s (popped (s .queue))) ring (valid-history s ring v) q (valid-idle s ring v)
 
 -- ---- a turn of the loop
@@ -123,8 +126,8 @@ module _ (s : Sender) (ring : List ℕ) (p : PayloadWriter) (b : List ℕ) (r : 
     unfolding servedIn
     turn = ap (λ (m : ℕ). servedIn m s ring p b) one ∙ rw (← front, out)
 
-    pub served-popped : (gone : Bool) (next : Sender) → gone ≡ (whole || eqb (q .len) 0) → gone ≡ true → next ≡ withQueue s (popped (s .queue))
-        → servedAlso (before + n) (servedIn (left - 1) next ring q bytes) ≡ z
+    pub served-popped : (gone : Bool) (next : RetransmitQueue) → gone ≡ (whole || eqb (q .len) 0) → gone ≡ true → next ≡ popped (s .queue)
+        → servedAlso (before + n) (servedIn (left - 1) (withQueue s next) ring q bytes) ≡ z
     served-popped gone next g t e =
         let u : (whole || eqb (q .len) 0) ≡ true = sym g ∙ t in
         let o = servedIn (left - 1) (withQueue s (popped (s .queue))) ring q bytes in
@@ -153,18 +156,17 @@ served-start s ring p b =
     ap (λ (n : ℕ). servedWith (o .sender) (o .payload) (o .bytes) n (o .more)) e
 
 -- ---- what serving leaves: a state and a payload that pass their tests, and the buffer's length
-rest-kept : (s : Sender) (ring : List ℕ) (r : RetransmitRequest) (n : ℕ) → validOf s ring ≡ true → (validOf (restOf s r n) ring ≡ true) × (restOf s r n .history ≡ s .history) × (restOf s r n .unsent ≡ s .unsent)
+rest-kept : (s : Sender) (ring : List ℕ) (r : RetransmitRequest) (n : ℕ) → validOf s ring ≡ true → (validOf (restOf s r n) ring ≡ true) × (restOf s r n .history ≡ s .history)
 rest-kept s ring r n v = by (notWritten s (r .seq)) (inFront (s .queue) record { seq = after (r .seq) n; count = reachOf s r - n }) (valid-queue s ring v)
   where
-    by : (t : Bool) (q : RetransmitQueue) → queueOk q ≡ true → (validOf (cond t s (withQueue s q)) ring ≡ true) × (cond t s (withQueue s q) .history ≡ s .history) × (cond t s (withQueue s q) .unsent ≡ s .unsent)
-    by true q k = (v, refl, refl)
-    by false q k = (passes (withQueue s q) ring (valid-history s ring v) k (valid-idle s ring v), refl, refl)
+    by : (t : Bool) (q : RetransmitQueue) → queueOk q ≡ true → (validOf (cond t s (withQueue s q)) ring ≡ true) × (cond t s (withQueue s q) .history ≡ s .history)
+    by true q k = (v, refl)
+    by false q k = (passes (withQueue s q) ring (valid-history s ring v) k (valid-idle s ring v), refl)
 
--- a state and a payload that pass their tests, the same history with as many unwritten, the buffer's length, and four bytes at least for each command
+-- a state and a payload that pass their tests, the same history, the buffer's length, and four bytes at least for each command
 pub record Sound (s : Sender) (ring : List ℕ) (p : PayloadWriter) (b : List ℕ) (z : Served) : Type 0 where
   pub state : validOf (z .sender) ring ≡ true
   pub history : z .sender .history ≡ s .history
-  pub unsent : z .sender .unsent ≡ s .unsent
   pub payload : payloadValid (z .payload) (length (z .bytes)) ≡ true
   pub same : length (z .bytes) ≡ length b
   pub grows : startOf p + 4 * z .written ≤ startOf (z .payload)
@@ -172,26 +174,26 @@ pub record Sound (s : Sender) (ring : List ℕ) (p : PayloadWriter) (b : List �
 sound-turn : (s : Sender) (ring : List ℕ) (p : PayloadWriter) (b : List ℕ) (out : Row) (rest : Served) (next : Sender) (t : Bool) → Sound s ring p b (servedWith next (out .payload) (out .bytes) (out .written) true)
     → Sound s ring (out .payload) (out .bytes) rest
     → Sound s ring p b (cond t (servedAlso (out .written) rest) (servedWith next (out .payload) (out .bytes) (out .written) true))
-sound-turn s ring p b out rest next true h i = record { state = i .state; history = i .history; unsent = i .unsent; payload = i .payload; same = i .same ∙ h .same; grows = omega (arith, h .grows, i .grows) }
+sound-turn s ring p b out rest next true h i = record { state = i .state; history = i .history; payload = i .payload; same = i .same ∙ h .same; grows = omega (arith, h .grows, i .grows) }
 sound-turn s ring p b out rest next false h i = h
 
-sound-in : (f : ℕ) (s g : Sender) (ring : List ℕ) (p : PayloadWriter) (b : List ℕ) → g .history ≡ s .history → g .unsent ≡ s .unsent → validOf g ring ≡ true → payloadValid p (length b) ≡ true
+sound-in : (f : ℕ) (s g : Sender) (ring : List ℕ) (p : PayloadWriter) (b : List ℕ) → g .history ≡ s .history → validOf g ring ≡ true → payloadValid p (length b) ≡ true
     → Sound s ring p b (servedIn f g ring p b)
 unfolding servedIn
-sound-in zero s g ring p b e u v k = record { state = v; history = e; unsent = u; payload = k; same = refl; grows = omega arith }
-sound-in (suc f) s g ring p b e u v k =
+sound-in zero s g ring p b e v k = record { state = v; history = e; payload = k; same = refl; grows = omega arith }
+sound-in (suc f) s g ring p b e v k =
     let r = request (g .queue) 0 in
     let cs = answerTo g ring r in
     let out = rowOf p b cs in
     let w = row-valid cs p b k in
     let l = rest-kept g ring r (out .written) v in
     sound-turn s ring p b out _ (restOf g r (out .written)) (out .whole || eqb (out .payload .len) 0)
-    (record { state = l .0; history = l .1 ∙ e; unsent = l .2 ∙ u; payload = w; same = row-length cs p b; grows = row-grows cs p b })
-    (sound-in f s (withQueue g (popped (g .queue))) ring (out .payload) (out .bytes) e u (popped-kept g ring v) w)
+    (record { state = l .0; history = l .1 ∙ e; payload = w; same = row-length cs p b; grows = row-grows cs p b })
+    (sound-in f s (withQueue g (popped (g .queue))) ring (out .payload) (out .bytes) e (popped-kept g ring v) w)
 
 pub served-sound : (s : Sender) (ring : List ℕ) (p : PayloadWriter) (b : List ℕ) → validOf s ring ≡ true → payloadValid p (length b) ≡ true → Sound s ring p b (servedOf s ring p b)
 unfolding servedOf
-served-sound s ring p b = sound-in (s .queue .len) s s ring p b refl refl
+served-sound s ring p b = sound-in (s .queue .len) s s ring p b refl
 
 -- ---- the ways out of `write`
 module _ (s : Sender) (cfg : StreamConfig) (now : ℕ) (p : PayloadWriter) (b ring : List ℕ) (t : Sender) (q : PayloadWriter) (bytes : List ℕ) (n : ℕ) (more : Bool)

@@ -56,8 +56,16 @@ fn idle_ok(idle: IdleTimer) -> bool
 pub fn is_valid(s: Sender, ring: &[u32]) -> bool
     ensures { λ r. ⌜ r ≡ validOf s (now (ring .entry)) ⌝ }
 {
-    let tested = test(s, ring, 0);
-    tested.ok
+    let history = s.history;
+    let queue = s.queue;
+    if history.state_ok(ring, s.unsent, s.unsent_words) {
+        if queue.state_ok() {
+            let idle = s.idle;
+            return idle_ok(idle);
+        }
+        return false;
+    }
+    false
 }
 
 // The same test, and from its walk the place of the header `back` before the unwritten ones, or of the

@@ -17,7 +17,7 @@ ghost use Rattle.command.specs.Write.{errorPacket};
 ghost use Rattle.history.specs.Headers.{lengthAt, headerAt, wordsFrom, entriesFrom};
 ghost use Rattle.history.specs.State.{Good};
 ghost use Rattle.history.specs.Entries.{Short};
-ghost use Rattle.history.specs.Queue.{Fit, popped};
+ghost use Rattle.history.specs.Queue.{Fit};
 ghost use Rattle.history.specs.Written.{entryPacket};
 ghost use Rattle.sender.specs.State.{validOf};
 ghost use Rattle.sender.specs.Requests.{writtenCount, notWritten, withQueue};
@@ -37,6 +37,7 @@ use config::sequence;
 use config::settings::StreamConfig;
 use history::history::SendHistory;
 use history::history::least;
+use history::queue::RetransmitQueue;
 use packet::writer::PayloadWriter;
 use packet::writer::Write;
 
@@ -137,32 +138,24 @@ fn answer(s: Sender, req: RetransmitRequest, p: PayloadWriter, buf: &mut [u8], r
 }
 
 // What of a request is left in front after `n` of its commands.
-fn rest(s: Sender, req: RetransmitRequest, n: usize) -> Sender
-    requires { ⌜ Fit (s .queue) × (0 < s .queue .len) × (s .unsent ≤ s .history .count) × (s .history .count ≤ 32768) × (notWritten s (req .seq) ≡ false → n ≤ reachOf s req) ⌝ }
-    ensures { λ r. ⌜ r ≡ restOf s req n ⌝ }
+fn rest(s: Sender, waiting: RetransmitQueue, req: RetransmitRequest, n: usize) -> RetransmitQueue
+    requires { ⌜ Fit waiting × (0 < waiting .len) × (s .unsent ≤ s .history .count) × (s .history .count ≤ 32768) × (notWritten s (req .seq) ≡ false → n ≤ reachOf s req) ⌝ }
+    ensures { λ r. ⌜ withQueue s r ≡ restOf (withQueue s waiting) req n ⌝ }
 {
     let history = s.history;
-    let queue = s.queue;
-    let idle = s.idle;
     let written = history.count - s.unsent;
     let k = sequence::distance(history.oldest, req.seq) as usize;
     if written <= k {
-        return s;
+        return waiting;
     }
     let left = reach(req.count as usize, written - k);
-    Sender {
-        history,
-        queue: history::valid::set_front(
-            queue,
-            RetransmitRequest {
-                seq: sequence::add(req.seq, n as u16),
-                count: (left - n) as u16,
-            },
-        ),
-        unsent: s.unsent,
-        unsent_words: s.unsent_words,
-        idle,
-    }
+    history::valid::set_front(
+        waiting,
+        RetransmitRequest {
+            seq: sequence::add(req.seq, n as u16),
+            count: (left - n) as u16,
+        },
+    )
 }
 
 // Whether a request leaves the ring: all is written, or its first command or error is too large for
@@ -177,28 +170,10 @@ fn leaves(out: Row) -> bool
     payload.len == 0
 }
 
-// The oldest request leaves.
-fn pop(s: Sender) -> Sender
-    requires { ⌜ Fit (s .queue) × (0 < s .queue .len) ⌝ }
-    ensures { λ r. ⌜ r ≡ withQueue s (popped (s .queue)) ⌝ }
-{
-    let history = s.history;
-    let queue = s.queue;
-    let idle = s.idle;
-    let out = history::valid::pop(queue);
-    let next = out.queue;
-    Sender {
-        history,
-        queue: next,
-        unsent: s.unsent,
-        unsent_words: s.unsent_words,
-        idle,
-    }
-}
-
 // What serving the waiting requests has come to.
 pub struct Served {
-    pub sender: Sender,
+    // The requests that wait still.
+    pub queue: RetransmitQueue,
     pub payload: PayloadWriter,
     pub written: usize,
     // A request waits for which the payload has no space.
@@ -208,26 +183,25 @@ pub struct Served {
 // Serves the waiting requests, the oldest first.
 fn serve(s: Sender, p: PayloadWriter, buf: &mut [u8], ring: &[u32]) -> Served
     requires { ⌜ (validOf s (now ring) ≡ true) × (payloadValid p (length (now buf)) ≡ true) ⌝ }
-    ensures { λ r. ⌜ servedOf s (now (ring .entry)) p (now (buf .entry)) ≡ record { sender = r .sender; payload = r .payload; bytes = now (buf .exit); written = r .written; more = r .more } ⌝ }
+    ensures { λ r. ⌜ servedOf s (now (ring .entry)) p (now (buf .entry)) ≡ record { sender = withQueue s (r .queue); payload = r .payload; bytes = now (buf .exit); written = r .written; more = r .more } ⌝ }
 {
-    let queue = s.queue;
-    let mut left = queue.len;
-    let mut g = s;
+    let mut waiting = s.queue;
+    let mut left = waiting.len;
     let mut q = p;
     let mut n = 0;
     while 0 < left {
-        let waiting = g.queue;
         let head = waiting.head;
         let req = waiting.items[head];
-        let out = answer(g, req, q, buf, ring);
+        let out = answer(s, req, q, buf, ring);
         q = out.payload;
         n += out.written;
         if leaves(out) {
-            g = pop(g);
+            let popped = history::valid::pop(waiting);
+            waiting = popped.queue;
             left -= 1;
         } else {
             return Served {
-                sender: rest(g, req, out.written),
+                queue: rest(s, waiting, req, out.written),
                 payload: q,
                 written: n,
                 more: true,
@@ -235,7 +209,7 @@ fn serve(s: Sender, p: PayloadWriter, buf: &mut [u8], ring: &[u32]) -> Served
         }
     }
     Served {
-        sender: g,
+        queue: waiting,
         payload: q,
         written: n,
         more: false,
@@ -523,9 +497,18 @@ pub fn write(
     requires { ⌜ (checkOf cfg ≡ Passed) × (validOf s (now ring) ≡ true) × (payloadValid p (length (now buf)) ≡ true) × AgainAt s (now ring) (cfg .«fec_repeats») place ⌝ }
     ensures { λ r. ⌜ (r, now (buf .exit), now (ring .exit)) ≡ writtenBy s cfg time p (now (buf .entry)) (now (ring .entry)) ⌝ }
 {
+    let history = s.history;
+    let idle = s.idle;
     let served = serve(s, p, buf, &ring[..]);
-    let next = served.sender;
+    let queue = served.queue;
     let payload = served.payload;
+    let next = Sender {
+        history,
+        queue,
+        unsent: s.unsent,
+        unsent_words: s.unsent_words,
+        idle,
+    };
     if served.more {
         return Wrote {
             sender: next,

@@ -124,26 +124,47 @@ pub fn write_data(
 {
     let sender = s.sender;
     let before = s.receiver;
-    let taken = receiver::valid::write_request(before, cfg, p, buf);
-    let receiver = taken.receiver;
-    let payload = taken.payload;
-    let answer = taken.answer;
-    let stream = DataStream { sender, receiver };
-    match answer {
-        Request::Refused(why) => Wrote {
-            stream,
-            payload,
-            answer: Writing::Refused(why),
-        },
-        Request::More => Wrote {
-            stream,
-            payload,
-            answer: Writing::Written(Written {
-                commands: 0,
-                more: true,
-            }),
-        },
-        Request::Nothing => write_after(0, stream, cfg, time, payload, buf, ring, place),
-        Request::Written => write_after(1, stream, cfg, time, payload, buf, ring, place),
+    let mut receiver = before;
+    let mut payload = p;
+    // The commands written so far.
+    let mut n = 0;
+    if before.request_due {
+        let taken = receiver::valid::write_request(before, cfg, p, buf);
+        let answer = taken.answer;
+        receiver = taken.receiver;
+        payload = taken.payload;
+        match answer {
+            Request::Refused(why) => {
+                return Wrote {
+                    stream: DataStream { sender, receiver },
+                    payload,
+                    answer: Writing::Refused(why),
+                };
+            }
+            Request::More => {
+                return Wrote {
+                    stream: DataStream { sender, receiver },
+                    payload,
+                    answer: Writing::Written(Written {
+                        commands: 0,
+                        more: true,
+                    }),
+                };
+            }
+            Request::Nothing => {}
+            Request::Written => {
+                n = 1;
+            }
+        }
     }
+    write_after(
+        n,
+        DataStream { sender, receiver },
+        cfg,
+        time,
+        payload,
+        buf,
+        ring,
+        place,
+    )
 }

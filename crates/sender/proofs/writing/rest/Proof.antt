@@ -1,10 +1,15 @@
 -- A number that left keeps its request; else the request begins n numbers later and reaches as far.
 use native.Mathlib.Omega.{arith}
+use borrow.Author.Needs.{needs}
+use Rattle.sender.specs.Requests.{withQueue}
+use Rattle.sender.specs.declared.sender.Sender.{Sender}
 use Rattle.sender.proofs.Serving.{rest-error, rest-left, rest-fits}
-use borrow.Author.Needs.{needs}
-use borrow.Author.Needs.{needs}
 use Rattle.sender.proofs.writing.rest.Statement.{statement}
 use Rattle.sender.proofs.writing.rest.Tie as tie
+
+-- the sender with the ring
+abbrev with-ring : tie.Start → Sender
+with-ring start = withQueue (start .args .s) (start .args .waiting)
 
 sub-written : tie.Need-sub-written
 sub-written c = search needs
@@ -16,7 +21,9 @@ cast-k : tie.Need-cast-k
 cast-k c = search needs
 
 returns : tie.Need-returns
-returns c = rest-error (c .before .before .before .before .before .before .args .s) (c .before .before .before .before .before .before .args .req) _ (c .before .distance .ensures) (c .if1 .taken) _
+returns c =
+    let start = c .before .before .before .before .before in
+    rest-error (with-ring start) (start .args .req) _ (c .before .distance .ensures) (c .if1 .taken) _
 
 cast-reach : tie.Need-cast-reach
 cast-reach c = search needs
@@ -29,29 +36,29 @@ reach-requires c κs = search needs
 
 cast-add : tie.Need-cast-add
 cast-add c =
-    let start = c .before .before .before .before .before .before .before .before in
-    omega (arith, rest-fits (start .args .s) (start .args .req) _ (c .before .before .before .distance .ensures) (c .before .before .if1 .left) _ (c .reach .ensures) _ (start .pre .3) (start .pre .4))
+    let start = c .before .before .before .before .before .before .before in
+    omega (arith, rest-fits (with-ring start) (start .args .req) _ (c .before .before .before .distance .ensures) (c .before .before .if1 .left) _ (c .reach .ensures) _ (start .pre .3) (start .pre .4))
 
 add-requires : tie.Need-add-requires
 add-requires c κs = search needs
 
-sub-t13 : tie.Need-sub-t13
-sub-t13 c =
-    let start = c .before .before .before .before .before .before .before .before .before in
-    rest-fits (start .args .s) (start .args .req) _ (c .before .before .before .before .distance .ensures) (c .before .before .before .if1 .left) _ (c .before .reach .ensures) _ (start .pre .3) (start .pre .4) .0
+sub-t12 : tie.Need-sub-t12
+sub-t12 c =
+    let start = c .before .before .before .before .before .before .before .before in
+    rest-fits (with-ring start) (start .args .req) _ (c .before .before .before .before .distance .ensures) (c .before .before .before .if1 .left) _ (c .before .reach .ensures) _ (start .pre .3) (start .pre .4) .0
 
-cast-t16 : tie.Need-cast-t16
-cast-t16 c =
-    let start = c .before .before .before .before .before .before .before .before .before in
-    omega (arith, rest-fits (start .args .s) (start .args .req) _ (c .before .before .before .before .distance .ensures) (c .before .before .before .if1 .left) _ (c .before .reach .ensures) _ (start .pre .3) (start .pre .4))
+cast-t14 : tie.Need-cast-t14
+cast-t14 c =
+    let start = c .before .before .before .before .before .before .before .before in
+    omega (arith, rest-fits (with-ring start) (start .args .req) _ (c .before .before .before .before .distance .ensures) (c .before .before .before .if1 .left) _ (c .before .reach .ensures) _ (start .pre .3) (start .pre .4))
 
 set-front-requires : tie.Need-set-front-requires
 set-front-requires c κs = search needs
 
 returns-2 : tie.Need-returns-2
 returns-2 c =
-    let start = c .before .before .before .before .before .before .before .before .before .before in
-    rest-left (start .args .s) (start .args .req) _ (c .before .before .before .before .before .distance .ensures) (c .before .before .before .before .if1 .left) _ (c .before .before .reach .ensures) _ _ _ (start .pre .1) (c .before .add .ensures) (c .set-front .ensures)
+    let start = c .before .before .before .before .before .before .before .before .before in
+    rest-left (with-ring start) (start .args .req) _ (c .before .before .before .before .before .distance .ensures) (c .before .before .before .before .if1 .left) _ (c .before .before .reach .ensures) _ _ _ (start .pre .1) (c .before .add .ensures) (c .set-front .ensures)
 
 pub rest-spec : {M : Type 1} → statement M
 rest-spec =
@@ -66,7 +73,7 @@ rest-spec =
     reach-requires
     cast-add
     add-requires
-    sub-t13
-    cast-t16
+    sub-t12
+    cast-t14
     set-front-requires
     returns-2)

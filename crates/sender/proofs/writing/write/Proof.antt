@@ -26,19 +26,20 @@ returns c = written-more _ _ _ _ _ _ _ _ _ _ _ (c .before .before .before .befor
 
 queue-idle-requires : tie.Need-queue-idle-requires
 queue-idle-requires c κs =
-    let p = c .before .before .before .before .before .before .before .before .before .before .before .pre in
-    (p .0, out-sound (c .before .before .before .before .before .before .before .before .before .before .before .args .s) (c .before .before .before .before .before .before .before .before .before .before .before .args .cfg) (c .before .before .before .before .before .before .before .before .before .before .before .args .time) _ _ _ _ _ _ _ _ (c .before .before .before .before .before .before .serve .ensures) (p .1) (p .2) .state)
+    let start = c .before .before .before .before .before .before .before .before .before .before .before .before in
+    let p = start .pre in
+    (p .0, out-sound (start .args .s) (start .args .cfg) (start .args .time) _ _ _ _ _ _ _ _ (c .before .before .before .before .before .before .serve .ensures) (p .1) (p .2) .state)
 
 write-new-requires : tie.Need-write-new-requires
 write-new-requires c κs =
-    let start = c .before .before .before .before .before .before .before .before .before .before .before .before .before .before .before .before .before in
+    let start = c .before .before .before .before .before .before .before .before .before .before .before .before .before .before .before .before .before .before in
     let p = start .pre in
     let o = out-sound (start .args .s) (start .args .cfg) (start .args .time) _ _ _ _ _ _ _ _ (c .before .before .before .before .before .before .before .before .before .before .before .before .serve .ensures) (p .1) (p .2) in
     let idled = c .before .before .before .before .before .queue-idle .ensures in (
-      idled-next _ _ _ _ (o .state) (rw (o .history) (bounds start .0)) (bounds start .1) (bounds start .2) _ _ idled,
+      idled-next _ _ _ _ (o .state) (bounds start .0) (bounds start .1) (bounds start .2) _ _ idled,
       o .payload,
       omega (arith, o .grows, start-most _ _ (o .payload)),
-      again-kept (start .args .s) _ _ _ _ _ _ (p .3) (o .history) (o .unsent) _ _ idled,
+      again-kept _ _ _ _ _ _ (p .3) _ _ idled,
     )
 
 same-length-3 : tie.Need-same-length-3
