@@ -151,6 +151,19 @@ static void streams(void)
     check(sirmjold_stream_reset(s, S, ring, 256) == 0 && ring[0] == 0, "a reset");
     check(sirmjold_stream_wants_write(s, S, ring, 256, 9999).wants == 0, "nothing to write");
     check(sirmjold_stream_send_ump(s, S, CFG, ring, 255, on, 1) == 13, "a history of another length");
+    /* the words of timers and of a request that are not there */
+    static const int unused[] = {5, 6, 10, 11, 24, 25, 26};
+    for (size_t i = 0; i < sizeof unused / sizeof *unused; i++) {
+        s[unused[i]] = 1;
+        check(sirmjold_stream_wants_write(s, S, ring, 256, 0).refusal == 13, "a word that belongs to nothing");
+        s[unused[i]] = 0;
+    }
+    /* refused by the settings: no word is another one after it */
+    const uint32_t no_size[SIRMJOLD_SETTINGS] = {100, 2, 5, 2, 1, 10, 3, 0};
+    uint64_t before[S];
+    memcpy(before, s, sizeof s);
+    check(sirmjold_stream_poll(s, S, no_size, SIRMJOLD_SETTINGS, 0).refusal == 9 && memcmp(s, before, sizeof s) == 0, "a refused poll");
+    check(sirmjold_stream_send_ump(s, S, no_size, SIRMJOLD_SETTINGS, ring, 256, on, 1) == 9 && memcmp(s, before, sizeof s) == 0, "a refused word");
 }
 
 int main(void)

@@ -4,3 +4,4 @@ mod Words
 mod Figures
 mod Calls
 mod RoundTrip
+mod StoredBack

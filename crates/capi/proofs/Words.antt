@@ -2,7 +2,7 @@
 use mathlib.Core.Path.{_≡_, refl, ap, sym, _∙_}
 use mathlib.Core.Bool.{Bool, true, false, cond, _&&_}
 use mathlib.Core.List.{List, [], _∷_, _++_, append-nil}
-use Prim.Native.Nat.{ℕ, zero, suc, _+_, _≤_, _<_}
+use Prim.Native.Nat.{ℕ, zero, suc, _+_, _*_, _≤_, _<_}
 use native.Mathlib.Omega.{arith}
 use lib.ListN.{length, getD}
 use lib.Dec.{eqb, leb}
@@ -57,49 +57,60 @@ module _ (ws : List ℕ) where
 
   pub receiver-short : (length ws ≡ 35 → ⊥) → false ≡ receiverFits ws
   unfolding receiverFits
-  receiver-short h = not-as-many ws 35 receiverLimits h
+  receiver-short h = not-as-many ws 35 (receiverLimits ws) h
 
-  pub receiver-large : (i : ℕ) → i < 9 → most receiverLimits i < at (place receiverLimits i) → false ≡ receiverFits ws
+  pub receiver-large : (i : ℕ) → i < 10 → most (receiverLimits ws) i < at (place (receiverLimits ws) i) → false ≡ receiverFits ws
   unfolding receiverFits
-  receiver-large i h g = too-large ws 35 receiverLimits i h g
+  receiver-large i h g = too-large ws 35 (receiverLimits ws) i h g
 
-  pub receiver-last : length ws ≡ 35 → at 0 ≤ 4294967295 → at 1 ≤ 65535 → at 4 ≤ 1 → at 6 ≤ 255 → at 7 ≤ 1 → at 8 ≤ 1 → at 9 ≤ 1 → at 10 ≤ 65535
-      → leb (at 11) 65535 ≡ receiverFits ws
+  pub receiver-last : length ws ≡ 35 → at 0 ≤ 4294967295 → at 1 ≤ 65535 → at 4 ≤ 1 → at 7 ≤ 1 → at 8 ≤ 1 → at 9 ≤ 1
+      → at 5 ≤ at 4 * 18446744073709551615 → at 6 ≤ at 4 * 255 → at 10 ≤ at 9 * 65535
+      → leb (at 11) (at 9 * 65535) ≡ receiverFits ws
   unfolding receiverFits within
-  receiver-last l a b c d e f g h =
-      rw (eq-eqb (length ws) 35 l, le-leb (at 0) 4294967295 a, le-leb (at 1) 65535 b, le-leb (at 4) 1 c, le-leb (at 6) 255 d, le-leb (at 7) 1 e, le-leb (at 8) 1 f, le-leb (at 9) 1 g, le-leb (at 10) 65535 h)
-      (and-true (leb (at 11) 65535))
+  receiver-last l a b c d e f g h i =
+      rw (eq-eqb (length ws) 35 l, le-leb (at 0) 4294967295 a, le-leb (at 1) 65535 b, le-leb (at 4) 1 c, le-leb (at 7) 1 d, le-leb (at 8) 1 e, le-leb (at 9) 1 f, le-leb (at 5) _ g, le-leb (at 6) _ h, le-leb (at 10) _ i)
+      (and-true (leb (at 11) (at 9 * 65535)))
 
   pub receiver-known : receiverFits ws ≡ true → ReceiverFit ws
   unfolding receiverFits
   receiver-known e =
-      let s = small-at ws 35 receiverLimits e in
+      let s = small-at ws 35 (receiverLimits ws) e in
+      let timer : at 4 ≤ 1 = s 2 (omega arith) in
+      let asked : at 9 ≤ 1 = s 5 (omega arith) in
+      let sent : at 6 ≤ at 4 * 255 = s 7 (omega arith) in
+      let seq : at 10 ≤ at 9 * 65535 = s 8 (omega arith) in
+      let count : at 11 ≤ at 9 * 65535 = s 9 (omega arith) in
       record {
-        whole = as-many ws 35 receiverLimits e;
+        whole = as-many ws 35 (receiverLimits ws) e;
         size = s 0 (omega arith);
         highest = s 1 (omega arith);
-        sent = s 3 (omega arith);
-        seq = s 7 (omega arith);
-        count = s 8 (omega arith);
+        sent = omega arith;
+        seq = omega arith;
+        count = omega arith;
       }
 
   pub sender-short : (length ws ≡ 35 → ⊥) → false ≡ senderFits ws
   unfolding senderFits
-  sender-short h = not-as-many ws 35 senderLimits h
+  sender-short h = not-as-many ws 35 (senderLimits ws) h
 
-  pub sender-large : (i : ℕ) → i < 3 → most senderLimits i < at (place senderLimits i) → false ≡ senderFits ws
+  pub sender-large : (i : ℕ) → i < 5 → most (senderLimits ws) i < at (place (senderLimits ws) i) → false ≡ senderFits ws
   unfolding senderFits
-  sender-large i h g = too-large ws 35 senderLimits i h g
+  sender-large i h g = too-large ws 35 (senderLimits ws) i h g
 
-  pub sender-last : length ws ≡ 35 → at 16 ≤ 65535 → at 23 ≤ 1 → leb (at 25) 65535 ≡ senderFits ws
+  pub sender-last : length ws ≡ 35 → at 16 ≤ 65535 → at 23 ≤ 1 → at 24 ≤ at 23 * 18446744073709551615 → at 25 ≤ at 23 * 65535
+      → leb (at 26) (at 23 * 18446744073709551615) ≡ senderFits ws
   unfolding senderFits within
-  sender-last l a b = rw (eq-eqb (length ws) 35 l, le-leb (at 16) 65535 a, le-leb (at 23) 1 b) (and-true (leb (at 25) 65535))
+  sender-last l a b c d =
+      rw (eq-eqb (length ws) 35 l, le-leb (at 16) 65535 a, le-leb (at 23) 1 b, le-leb (at 24) _ c, le-leb (at 25) _ d)
+      (and-true (leb (at 26) (at 23 * 18446744073709551615)))
 
   pub sender-known : senderFits ws ≡ true → SenderFit ws
   unfolding senderFits
   sender-known e =
-      let s = small-at ws 35 senderLimits e in
-      record { whole = as-many ws 35 senderLimits e; oldest = s 0 (omega arith); step = s 2 (omega arith) }
+      let s = small-at ws 35 (senderLimits ws) e in
+      let on : at 23 ≤ 1 = s 1 (omega arith) in
+      let step : at 25 ≤ at 23 * 65535 = s 3 (omega arith) in
+      record { whole = as-many ws 35 (senderLimits ws) e; oldest = s 0 (omega arith); step = omega arith }
 
   -- both ends
   pub both-fit : fits ws ≡ true → (receiverFits ws ≡ true) × (senderFits ws ≡ true)

@@ -29,24 +29,26 @@ use Rattle.capi.specs.declared.state.AskedWords.{AskedWords}
 abbrev half : ℕ
 half = 65535
 
--- the words that take less than 64 bits, and the largest value of each
-abbrev pub receiverLimits : List (ℕ × ℕ)
-receiverLimits = (0, 4294967295) ∷ (1, half) ∷ (4, 1) ∷ (6, 255) ∷ (7, 1) ∷ (8, 1) ∷ (9, 1) ∷ (10, half) ∷ (11, half) ∷ []
+abbrev at : List ℕ → ℕ → ℕ
+at ws k = getD ws k 0
 
-abbrev pub senderLimits : List (ℕ × ℕ)
-senderLimits = (16, half) ∷ (23, 1) ∷ (25, half) ∷ []
+-- the words that do not take every value, and the largest value of each: a flag is 0 or 1, and the words of a timer or a request that is not there are 0
+abbrev pub receiverLimits : List ℕ → List (ℕ × ℕ)
+receiverLimits ws =
+    (0, 4294967295) ∷ (1, half) ∷ (4, 1) ∷ (7, 1) ∷ (8, 1) ∷ (9, 1)
+    ∷ (5, at ws 4 * 18446744073709551615) ∷ (6, at ws 4 * 255) ∷ (10, at ws 9 * half) ∷ (11, at ws 9 * half) ∷ []
+
+abbrev pub senderLimits : List ℕ → List (ℕ × ℕ)
+senderLimits ws = (16, half) ∷ (23, 1) ∷ (24, at ws 23 * 18446744073709551615) ∷ (25, at ws 23 * half) ∷ (26, at ws 23 * 18446744073709551615) ∷ []
 
 unfoldable pub receiverFits : List ℕ → Bool
-receiverFits ws = eqb (length ws) 35 && within receiverLimits ws
+receiverFits ws = eqb (length ws) 35 && within (receiverLimits ws) ws
 
 unfoldable pub senderFits : List ℕ → Bool
-senderFits ws = eqb (length ws) 35 && within senderLimits ws
+senderFits ws = eqb (length ws) 35 && within (senderLimits ws) ws
 
 unfoldable pub fits : List ℕ → Bool
 fits ws = receiverFits ws && senderFits ws
-
-abbrev at : List ℕ → ℕ → ℕ
-at ws k = getD ws k 0
 
 -- words that fit
 pub record ReceiverFit (ws : List ℕ) : Type 0 where

@@ -1,5 +1,5 @@
 // A stream as words in an array that the caller lends: one word for each field, and two requests to a
-// word.
+// word. The words of a timer, a request or an idle timer that is not there are 0.
 //
 //    0   window     size, highest, bits low, bits high
 //    4   timer      0 stopped or 1 running; due, sent
@@ -36,7 +36,8 @@ use window::window::ReceiveWindow;
 // The words of a stream.
 pub const WORDS: usize = 35;
 
-// Whether the words are as many as a stream's, and each of the receiver's is within its field.
+// Whether the words are as many as a stream's, and each of the receiver's is within its field; a flag
+// of 0 leaves the words that belong to it no other value than 0.
 pub fn receiver_fits(words: &[u64]) -> bool
     ensures { λ r. ⌜ r ≡ receiverFits (now (words .entry)) ⌝ }
 {
@@ -52,9 +53,6 @@ pub fn receiver_fits(words: &[u64]) -> bool
     if 1 < words[4] {
         return false;
     }
-    if 0xFF < words[6] {
-        return false;
-    }
     if 1 < words[7] {
         return false;
     }
@@ -64,13 +62,19 @@ pub fn receiver_fits(words: &[u64]) -> bool
     if 1 < words[9] {
         return false;
     }
-    if 0xFFFF < words[10] {
+    if words[4] * 0xFFFF_FFFF_FFFF_FFFF < words[5] {
         return false;
     }
-    words[11] <= 0xFFFF
+    if words[4] * 0xFF < words[6] {
+        return false;
+    }
+    if words[9] * 0xFFFF < words[10] {
+        return false;
+    }
+    words[11] <= words[9] * 0xFFFF
 }
 
-// Whether the words are as many as a stream's, and each of the sender's is within its field.
+// The same for the sender's words.
 pub fn sender_fits(words: &[u64]) -> bool
     ensures { λ r. ⌜ r ≡ senderFits (now (words .entry)) ⌝ }
 {
@@ -83,7 +87,13 @@ pub fn sender_fits(words: &[u64]) -> bool
     if 1 < words[23] {
         return false;
     }
-    words[25] <= 0xFFFF
+    if words[23] * 0xFFFF_FFFF_FFFF_FFFF < words[24] {
+        return false;
+    }
+    if words[23] * 0xFFFF < words[25] {
+        return false;
+    }
+    words[26] <= words[23] * 0xFFFF_FFFF_FFFF_FFFF
 }
 
 // Whether the words are those of a stream.

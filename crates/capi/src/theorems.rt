@@ -1,7 +1,12 @@
-// A theorem as a contract: the function does nothing, and its contract is the theorem.
-ghost use Rattle.capi.specs.Theorems.{LoadsBack};
+// Theorems as contracts: each function does nothing, and its contract is the theorem.
+ghost use Rattle.capi.specs.Theorems.{LoadsBack, StoresBack};
 
 // A stream that is stored and loaded is the same stream.
 pub fn loads_back()
     ensures { λ _. ⌜ LoadsBack ⌝ }
+{}
+
+// Words that are loaded and stored are the same words.
+pub fn stores_back()
+    ensures { λ _. ⌜ StoresBack ⌝ }
 {}

@@ -47,20 +47,50 @@ returns-7 c = receiver-large _ 5 (omega arith) (c .if7 .taken)
 shared-slice-read-if8 : tie.Need-shared-slice-read-if8
 shared-slice-read-if8 c = search needs
 
+mul-if8 : tie.Need-mul-if8
+mul-if8 c = search needs
+
+shared-slice-read-if8-2 : tie.Need-shared-slice-read-if8-2
+shared-slice-read-if8-2 c = search needs
+
 returns-8 : tie.Need-returns-8
 returns-8 c = receiver-large _ 6 (omega arith) (c .if8 .taken)
 
 shared-slice-read-if9 : tie.Need-shared-slice-read-if9
 shared-slice-read-if9 c = search needs
 
+mul-if9 : tie.Need-mul-if9
+mul-if9 c = search needs
+
+shared-slice-read-if9-2 : tie.Need-shared-slice-read-if9-2
+shared-slice-read-if9-2 c = search needs
+
 returns-9 : tie.Need-returns-9
 returns-9 c = receiver-large _ 7 (omega arith) (c .if9 .taken)
+
+shared-slice-read-if10 : tie.Need-shared-slice-read-if10
+shared-slice-read-if10 c = search needs
+
+mul-if10 : tie.Need-mul-if10
+mul-if10 c = search needs
+
+shared-slice-read-if10-2 : tie.Need-shared-slice-read-if10-2
+shared-slice-read-if10-2 c = search needs
+
+returns-10 : tie.Need-returns-10
+returns-10 c = receiver-large _ 8 (omega arith) (c .if10 .taken)
 
 shared-slice-read-result : tie.Need-shared-slice-read-result
 shared-slice-read-result c = search needs
 
-returns-10 : tie.Need-returns-10
-returns-10 c = receiver-last _ (omega arith) (omega arith) (omega arith) (omega arith) (omega arith) (omega arith) (omega arith) (omega arith) (omega arith)
+shared-slice-read-result-2 : tie.Need-shared-slice-read-result-2
+shared-slice-read-result-2 c = search needs
+
+mul-result : tie.Need-mul-result
+mul-result c = search needs
+
+returns-11 : tie.Need-returns-11
+returns-11 c = receiver-last _ (omega arith) (omega arith) (omega arith) (omega arith) (omega arith) (omega arith) (omega arith) (omega arith) (omega arith) (omega arith)
 
 pub receiver-fits-spec : {M : Type 1} → statement M
 receiver-fits-spec =
@@ -80,8 +110,18 @@ receiver-fits-spec =
     shared-slice-read-if7
     returns-7
     shared-slice-read-if8
+    mul-if8
+    shared-slice-read-if8-2
     returns-8
     shared-slice-read-if9
+    mul-if9
+    shared-slice-read-if9-2
     returns-9
+    shared-slice-read-if10
+    mul-if10
+    shared-slice-read-if10-2
+    returns-10
     shared-slice-read-result
-    returns-10)
+    shared-slice-read-result-2
+    mul-result
+    returns-11)

@@ -20,11 +20,41 @@ shared-slice-read-if3 c = search needs
 returns-3 : tie.Need-returns-3
 returns-3 c = sender-large _ 1 (omega arith) (c .if3 .taken)
 
+shared-slice-read-if4 : tie.Need-shared-slice-read-if4
+shared-slice-read-if4 c = search needs
+
+mul-if4 : tie.Need-mul-if4
+mul-if4 c = search needs
+
+shared-slice-read-if4-2 : tie.Need-shared-slice-read-if4-2
+shared-slice-read-if4-2 c = search needs
+
+returns-4 : tie.Need-returns-4
+returns-4 c = sender-large _ 2 (omega arith) (c .if4 .taken)
+
+shared-slice-read-if5 : tie.Need-shared-slice-read-if5
+shared-slice-read-if5 c = search needs
+
+mul-if5 : tie.Need-mul-if5
+mul-if5 c = search needs
+
+shared-slice-read-if5-2 : tie.Need-shared-slice-read-if5-2
+shared-slice-read-if5-2 c = search needs
+
+returns-5 : tie.Need-returns-5
+returns-5 c = sender-large _ 3 (omega arith) (c .if5 .taken)
+
 shared-slice-read-result : tie.Need-shared-slice-read-result
 shared-slice-read-result c = search needs
 
-returns-4 : tie.Need-returns-4
-returns-4 c = sender-last _ (omega arith) (omega arith) (omega arith)
+shared-slice-read-result-2 : tie.Need-shared-slice-read-result-2
+shared-slice-read-result-2 c = search needs
+
+mul-result : tie.Need-mul-result
+mul-result c = search needs
+
+returns-6 : tie.Need-returns-6
+returns-6 c = sender-last _ (omega arith) (omega arith) (omega arith) (omega arith) (omega arith)
 
 pub sender-fits-spec : {M : Type 1} → statement M
 sender-fits-spec =
@@ -35,5 +65,15 @@ sender-fits-spec =
     returns-2
     shared-slice-read-if3
     returns-3
+    shared-slice-read-if4
+    mul-if4
+    shared-slice-read-if4-2
+    returns-4
+    shared-slice-read-if5
+    mul-if5
+    shared-slice-read-if5-2
+    returns-5
     shared-slice-read-result
-    returns-4)
+    shared-slice-read-result-2
+    mul-result
+    returns-6)

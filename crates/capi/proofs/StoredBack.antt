@@ -1,0 +1,155 @@
+-- Words that are loaded and stored are the same words.
+use mathlib.Core.Path.{_≡_, refl, ap, sym, _∙_}
+use mathlib.Core.Bool.{Bool, true, false, cond}
+use mathlib.Core.List.{List, [], _∷_, _++_, append-nil, append-assoc}
+use Prim.Native.Nat.{ℕ, zero, suc, _+_, _*_, _/_, _%_, _≤_, _<_}
+use native.Mathlib.Omega.{arith}
+use native.Mathlib.Numerals.{add-one}
+use lib.ListN.{length, getD, take, drop, take-append-drop, drop-of-length-le}
+use lib.Seq.{drop-cons}
+use lib.Dec.{eqb}
+use Rattle.packet.specs.Bytes.{spliced}
+use Rattle.sender.specs.declared.sender.IdleTimer.{IdleTimer}
+use Rattle.sender.specs.declared.sender.IdleTimer.the-variants.{Off, Waiting}
+use Rattle.receiver.specs.declared.receiver.Timer.{Timer}
+use Rattle.receiver.specs.declared.receiver.Timer.the-variants.{Stopped, Running}
+use Rattle.receiver.specs.declared.receiver.Asked.{Asked}
+use Rattle.receiver.specs.declared.receiver.Asked.the-variants.{Nothing, Request}
+use Rattle.capi.specs.Limits.{bit}
+use Rattle.capi.specs.declared.state.IdleWords.{IdleWords}
+use Rattle.capi.specs.declared.state.TimerWords.{TimerWords}
+use Rattle.capi.specs.declared.state.AskedWords.{AskedWords}
+use Rattle.capi.specs.Stream.{receiverLimits, senderLimits, receiverFits, senderFits, fits, loaded, stored, senderIn, receiverIn, queueIn, itemsIn, firstIn, secondIn, pairWord, pairs, senderWords, receiverWords, idleWords, timerWords, askedWords, withReceiver, withSender}
+use Rattle.capi.specs.Theorems.{Wide}
+use Rattle.capi.proofs.Words.{as-many, small-at, both-fit}
+
+-- ---- the words of each case
+bit-same : (on : ℕ) → on ≤ 1 → bit (eqb on 1) ≡ on
+bit-same zero h = refl
+bit-same (suc zero) h = refl
+bit-same (suc (suc n)) h = absurd (let z : ⊥ = omega arith in z)
+
+timer-same : (on due sent : ℕ) → on ≤ 1 → due ≤ on * 18446744073709551615 → sent ≤ on * 255
+    → timerWords (cond (eqb on 0) Stopped (Running record { due = due; sent = sent })) ≡ record { on = on; due = due; sent = sent }
+timer-same zero due sent h g f =
+    let x : 0 ≡ due = omega arith in
+    let y : 0 ≡ sent = omega arith in
+    ap (λ (a : ℕ). record { on = 0; due = a; sent = 0 }) x ∙ ap (λ (a : ℕ). record { on = 0; due = due; sent = a }) y
+timer-same (suc zero) due sent h g f = refl
+timer-same (suc (suc n)) due sent h g f = absurd (let z : ⊥ = omega arith in z)
+
+asked-same : (on seq count : ℕ) → on ≤ 1 → seq ≤ on * 65535 → count ≤ on * 65535
+    → askedWords (cond (eqb on 0) Nothing (Request record { seq = seq; count = count })) ≡ record { on = on; seq = seq; count = count }
+asked-same zero seq count h g f =
+    let x : 0 ≡ seq = omega arith in
+    let y : 0 ≡ count = omega arith in
+    ap (λ (a : ℕ). record { on = 0; seq = a; count = 0 }) x ∙ ap (λ (a : ℕ). record { on = 0; seq = seq; count = a }) y
+asked-same (suc zero) seq count h g f = refl
+asked-same (suc (suc n)) seq count h g f = absurd (let z : ⊥ = omega arith in z)
+
+idle-same : (on due step interval : ℕ) → on ≤ 1 → due ≤ on * 18446744073709551615 → step ≤ on * 65535 → interval ≤ on * 18446744073709551615
+    → idleWords (cond (eqb on 0) Off (Waiting record { due = due; step = step; interval = interval })) ≡ record { on = on; due = due; step = step; interval = interval }
+idle-same zero due step interval h g f e =
+    let x : 0 ≡ due = omega arith in
+    let y : 0 ≡ step = omega arith in
+    let z : 0 ≡ interval = omega arith in
+    ap (λ (a : ℕ). record { on = 0; due = a; step = 0; interval = 0 }) x
+    ∙ ap (λ (a : ℕ). record { on = 0; due = due; step = a; interval = 0 }) y
+    ∙ ap (λ (a : ℕ). record { on = 0; due = due; step = step; interval = a }) z
+idle-same (suc zero) due step interval h g f e = refl
+idle-same (suc (suc n)) due step interval h g f e = absurd (let z : ⊥ = omega arith in z)
+
+-- the two requests of a word are the word
+pair-same : (w : ℕ) → w < 18446744073709551616 → pairWord (firstIn w) (secondIn w) ≡ w
+pair-same w h = omega arith
+
+-- ---- words by their places
+-- n words from word k on
+abbrev run : List ℕ → ℕ → ℕ → List ℕ
+run ws k zero = []
+run ws k (suc n) = getD ws k 0 ∷ run ws (k + 1) n
+
+length-run : (ws : List ℕ) (k n : ℕ) → length (run ws k n) ≡ n
+length-run ws k zero = refl
+length-run ws k (suc n) = ap suc (length-run ws (k + 1) n)
+
+run-drop : (ws : List ℕ) (k n : ℕ) → k + n ≤ length ws → run ws k n ++ drop (k + n) ws ≡ drop k ws
+run-drop ws k zero h = let e : k + 0 ≡ k = omega arith in rw e
+run-drop ws k (suc n) h =
+    let g : k < length ws = omega arith in
+    let i : k + 1 + n ≤ length ws = omega arith in
+    let e : k + suc n ≡ k + 1 + n = omega arith in
+    rw (e, run-drop ws (k + 1) n i, drop-cons ws k 0 g, add-one k)
+
+spliced-same : (ws : List ℕ) (k n : ℕ) → k + n ≤ length ws → spliced ws k (run ws k n) ≡ ws
+unfolding spliced
+spliced-same ws k n h =
+    rw (length-run ws k n)
+    (append-assoc (take k ws) (run ws k n) (drop (k + n) ws)
+    ∙ ap (λ (x : List ℕ). take k ws ++ x) (run-drop ws k n h)
+    ∙ take-append-drop k ws)
+
+run-all : (ws : List ℕ) (n : ℕ) → n ≡ length ws → run ws 0 n ≡ ws
+run-all ws n e =
+    let h : length ws ≤ 0 + n = omega arith in
+    let g : 0 + n ≤ length ws = omega arith in
+    sym (append-nil (run ws 0 n)) ∙ ap (λ (x : List ℕ). run ws 0 n ++ x) (sym (drop-of-length-le ws h)) ∙ run-drop ws 0 n g
+
+module _ (ws : List ℕ) where
+  abbrev at : ℕ → ℕ
+  at k = getD ws k 0
+
+  receiver-run : receiverFits ws ≡ true → receiverWords (receiverIn ws) ≡ run ws 0 12
+  unfolding receiverFits receiverWords receiverIn
+  receiver-run e =
+      let s = small-at ws 35 (receiverLimits ws) e in
+      rw (
+        timer-same (at 4) (at 5) (at 6) (s 2 (omega arith)) (s 6 (omega arith)) (s 7 (omega arith)),
+        asked-same (at 9) (at 10) (at 11) (s 5 (omega arith)) (s 8 (omega arith)) (s 9 (omega arith)),
+        bit-same (at 7) (s 3 (omega arith)),
+        bit-same (at 8) (s 4 (omega arith)),
+      )
+
+  pub receiver-same : receiverFits ws ≡ true → withReceiver ws (receiverIn ws) ≡ ws
+  unfolding receiverFits
+  receiver-same e =
+      let l : length ws ≡ 35 = as-many ws 35 (receiverLimits ws) e in
+      ap (spliced ws 0) (receiver-run e) ∙ spliced-same ws 0 12 (omega arith)
+
+  module _ (wide : Wide ws) where
+    requests-run : pairs (itemsIn ws 27 8) 0 8 ≡ run ws 27 8
+    unfolding pairs itemsIn
+    requests-run =
+        rw (
+          pair-same (at 27) (wide 27),
+          pair-same (at 28) (wide 28),
+          pair-same (at 29) (wide 29),
+          pair-same (at 30) (wide 30),
+          pair-same (at 31) (wide 31),
+          pair-same (at 32) (wide 32),
+          pair-same (at 33) (wide 33),
+          pair-same (at 34) (wide 34),
+        )
+
+    sender-run : senderFits ws ≡ true → senderWords (senderIn ws) ≡ run ws 12 23
+    unfolding senderFits senderWords senderIn queueIn
+    sender-run e =
+        let s = small-at ws 35 (senderLimits ws) e in
+        rw (
+          idle-same (at 23) (at 24) (at 25) (at 26) (s 1 (omega arith)) (s 2 (omega arith)) (s 3 (omega arith)) (s 4 (omega arith)),
+          requests-run,
+        )
+
+    pub sender-same : senderFits ws ≡ true → withSender ws (senderIn ws) ≡ ws
+    unfolding senderFits
+    sender-same e =
+        let l : length ws ≡ 35 = as-many ws 35 (senderLimits ws) e in
+        ap (spliced ws 12) (sender-run e) ∙ spliced-same ws 12 23 (omega arith)
+
+    pub stream-same : fits ws ≡ true → stored (loaded ws) ≡ ws
+    unfolding stored loaded senderFits
+    stream-same e =
+        let l : length ws ≡ 35 = as-many ws 35 (senderLimits ws) (both-fit ws e .1) in
+        let r = receiver-run (both-fit ws e .0) in
+        let q = sender-run (both-fit ws e .1) in
+        rw (r, q) (run-all ws 35 (sym l))
