@@ -294,7 +294,8 @@ struct sirmjold_read {
  * the length of each whole message, in words, at the front of `lens`: one call for each command of a
  * payload. Begin with the place 0, where the signature is tested (1). Data whose `count` is less than
  * its `len` ends inside a message. 10 is a request or an error without its word: reading goes on at
- * `next`, and `len` is given too. 13 when `words` or `lens` is shorter than 255. */
+ * `next`, and `len` is given too. 13 when `words` or `lens` is shorter than 255. Where fewer than four
+ * bytes follow `next`, the next call tells the end: a caller that looks at that itself spares it. */
 struct sirmjold_read sirmjold_command_next(const uint8_t *payload, size_t payload_len, size_t at,
                                            uint32_t *words, size_t words_len, uint8_t *lens,
                                            size_t lens_len);

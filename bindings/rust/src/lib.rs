@@ -720,8 +720,8 @@ impl Default for Reader {
 }
 
 impl Reader {
-    /// The command at a place of the payload, and the place of the next one, if reading goes on; begin with 0.
-    /// Nothing at the end. [`Refusal::BadSignature`] when the payload does not begin with the signature.
+    /// The command at a place of the payload, and the place of the next one, unless fewer than four bytes are left; begin
+    /// with 0. Nothing at the end. [`Refusal::BadSignature`] when the payload does not begin with the signature.
     pub fn next(
         &mut self,
         payload: &[u8],
@@ -739,7 +739,7 @@ impl Reader {
                 MOST,
             )
         };
-        let next = (r.next != 0).then_some(r.next as usize);
+        let next = (r.next != 0 && payload.len() - r.next as usize >= 4).then_some(r.next as usize);
         match Refusal::check(r.refusal) {
             Err(Refusal::Malformed) => return Ok(Some((Read::Malformed, next))),
             tested => tested?,

@@ -26,7 +26,7 @@ fn messages(words: &[u32], cut: bool, sum: u64) -> u64 {
 }
 
 /// Each command of a payload, one call for each: a data command's number to `data`, with the words of its whole messages
-/// and the cut mark.
+/// and the cut mark. Fewer than four bytes are the end.
 #[inline(always)]
 fn commands(payload: &[u8], mut data: impl FnMut(u64, u16, &[u32], bool) -> u64) -> u64 {
     let mut words = [MaybeUninit::<u32>::uninit(); MOST];
@@ -47,6 +47,9 @@ fn commands(payload: &[u8], mut data: impl FnMut(u64, u16, &[u32], bool) -> u64)
             _ => fold(sum, 0),
         };
         at = r.next as usize;
+        if payload.len() - at < 4 {
+            return fold(sum, 0);
+        }
     }
 }
 
