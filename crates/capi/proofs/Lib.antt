@@ -5,3 +5,4 @@ mod Figures
 mod Calls
 mod RoundTrip
 mod StoredBack
+mod Refusals

@@ -65,7 +65,7 @@ pair-same w h = omega arith
 
 -- ---- words by their places
 -- n words from word k on
-abbrev run : List ℕ → ℕ → ℕ → List ℕ
+abbrev pub run : List ℕ → ℕ → ℕ → List ℕ
 run ws k zero = []
 run ws k (suc n) = getD ws k 0 ∷ run ws (k + 1) n
 
@@ -89,7 +89,7 @@ spliced-same ws k n h =
     ∙ ap (λ (x : List ℕ). take k ws ++ x) (run-drop ws k n h)
     ∙ take-append-drop k ws)
 
-run-all : (ws : List ℕ) (n : ℕ) → n ≡ length ws → run ws 0 n ≡ ws
+pub run-all : (ws : List ℕ) (n : ℕ) → n ≡ length ws → run ws 0 n ≡ ws
 run-all ws n e =
     let h : length ws ≤ 0 + n = omega arith in
     let g : 0 + n ≤ length ws = omega arith in

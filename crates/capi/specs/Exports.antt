@@ -123,7 +123,7 @@ unfoldable pub commandExport : (PayloadWriter → CommandWrote × List ℕ) → 
 commandExport write p b = cond (eqb (length p) 2) (commandInto (write (payloadIn p))) (13, p, b)
 
 -- a payload that is not opened leaves the words as they were
-abbrev openedInto : Opened → List ℕ → ℕ × List ℕ
+abbrev pub openedInto : Opened → List ℕ → ℕ × List ℕ
 openedInto (Payload w) p = (0, payloadWords w)
 openedInto (NotOpened why) p = (numberOf why, p)
 
