@@ -84,8 +84,8 @@ past-here b i n p k u =
     rw (e, f) (past-none b i n p)
 
 -- a leg before its first entry
-pub past-start : (b : List ℕ) (at seq p k n : ℕ) → n ≡ seq → Past b at seq p (k - k) at n p (at - at)
-past-start b at seq p k n e = rw e (past-here b at seq p k at)
+pub past-start : (b : List ℕ) (at seq p n : ℕ) → n ≡ seq → Past b at seq p 0 at n p (at - at)
+past-start b at seq p n e = rw e (past-here b at seq p 0 at)
 
 -- where an entry is passed, it does not matter which header was the newest before
 past-any : (b : List ℕ) (i n p q d i' n' p' w : ℕ) → 0 < d → Past b i n p d i' n' p' w → Past b i n q d i' n' p' w
@@ -135,22 +135,21 @@ number-next h h' s e = (omega arith, omega arith, omega arith)
 
 -- ---- one turn of a leg: n is the number of the next entry, and its header stands at place i
 
-module _ (b : List ℕ) (at seq p k i left n prev : ℕ) (x : Past b at seq p (k - left) i n prev (i - at)) (some : 0 < left) (few : left ≤ k) where
-  pub past-wrong : (pl : ℕ) → n < turn → (pl + n * turn) % 18446744073709551616 ≡ getD b i 0 → 64 < pl → pl < 18446744073709551616 → (j : ℕ) → numbered (k + j) b at seq ≡ false
+module _ (b : List ℕ) (at seq p i d n prev : ℕ) (x : Past b at seq p d i n prev (i - at)) where
+  pub past-wrong : (k pl : ℕ) → d < k → n < turn → (pl + n * turn) % 18446744073709551616 ≡ getD b i 0 → 64 < pl → pl < 18446744073709551616 → (j : ℕ) → numbered (k + j) b at seq ≡ false
   unfolding numbered
-  past-wrong pl small less s t j =
-      let e : k + j ≡ k - left + suc (left - 1 + j) = omega arith in
-      rw (e, x .numbers (suc (left - 1 + j)), header-wrong b i n pl small less s t)
+  past-wrong k pl some small less s t j =
+      let e : k + j ≡ d + suc (k - d - 1 + j) = omega arith in
+      rw (e, x .numbers (suc (k - d - 1 + j)), header-wrong b i n pl small less s t)
 
   pub past-turn : (pl i' n' p' : ℕ) → getD b i 0 ≡ n * turn + pl → pl ≤ 64 → i' ≡ i + (1 + pl) → n' ≡ after n 1 → p' ≡ i → at ≤ i
-      → Past b at seq p (k - (left - 1)) (slotOf (length b) at (i' - at)) n' p' (i' - at)
+      → Past b at seq p (d + 1) (slotOf (length b) at (i' - at)) n' p' (i' - at)
   past-turn pl i' n' p' header short to number newest o =
       let l : lengthAt b i ≡ pl = omega arith in
       let same : getD b i 0 ≡ n * turn + lengthAt b i = omega arith in
-      let y = past-join b at seq p (k - left) i n prev (i - at) 1 (nextAt b i) (after n 1) i (entrySize b i) x (past-entry b i n prev (omega arith) same) in
-      let e : k - left + 1 ≡ k - (left - 1) = omega arith in
+      let y = past-join b at seq p d i n prev (i - at) 1 (nextAt b i) (after n 1) i (entrySize b i) x (past-entry b i n prev (omega arith) same) in
       let f : i - at + (1 + pl) ≡ i + (1 + pl) - at = omega arith in
-      rw (to, slot-from (length b) at i (1 + pl) o, number, newest) (rw (e, l, f) at y)
+      rw (to, slot-from (length b) at i (1 + pl) o, number, newest) (rw (l, f) at y)
 
 -- ---- what a leg hands back
 
@@ -158,20 +157,16 @@ module _ (b : List ℕ) (i n k : ℕ) where
   pub ran-lost : (r : Leg) → r .lost ≡ true → ((j : ℕ) → numbered (k + j) b i n ≡ false) → (p : ℕ) → Ran b i n p k r
   ran-lost r e h p = record { stops = λ _. h; goes = λ f. no-yes e f }
 
-  pub ran-on : (q left seq prev words : ℕ) → left < k → Past b i n q (k - left) (slotOf (length b) i words) seq prev words
-      → (p : ℕ) → Ran b i n p k (record { lost = false; seq = seq; prev = prev; words = words; left = left })
-  ran-on q left seq prev words l x p = record { stops = λ e. no-yes e refl; goes = λ _. (l, past-any _ _ _ _ _ _ _ _ _ _ (omega arith) x) }
+  pub ran-on : (q passed seq prev words : ℕ) → 0 < passed → passed ≤ k → Past b i n q passed (slotOf (length b) i words) seq prev words
+      → (p : ℕ) → Ran b i n p k (record { lost = false; seq = seq; prev = prev; words = words; passed = passed })
+  ran-on q passed seq prev words some few x p = record { stops = λ e. no-yes e refl; goes = λ _. (some, few, past-any _ _ _ _ _ _ _ _ _ _ some x) }
 
   -- of k entries it was asked for m
-  pub ran-more : (p m : ℕ) (r : Leg) → m ≤ k → Ran b i n p m r
-      → Ran b i n p k (record { lost = r .lost; seq = r .seq; prev = r .prev; words = r .words; left = r .left + (k - m) })
+  pub ran-more : (p m : ℕ) (r : Leg) → m ≤ k → Ran b i n p m r → Ran b i n p k r
   ran-more p m r l x =
       record {
         stops = λ e j. (let f : k + j ≡ m + (k - m + j) = omega arith in rw f (x .stops e (k - m + j)));
-        goes = λ e.
-            (let g = x .goes e in
-            let f : k - (r .left + (k - m)) ≡ m - r .left = omega (arith, g .0) in
-            (omega (arith, g .0), rw f (g .1)));
+        goes = λ e. (let g = x .goes e in (g .0, omega (arith, g .1), g .2));
       }
 
 -- ---- the walk: of k entries some are left, and of u words
@@ -182,20 +177,20 @@ module _ (b : List ℕ) (i n p k left at seq prev u words : ℕ) (x : Past b i n
       let e : k + j ≡ k - left + (left + j) = omega arith in
       rw e (numbered-fails (k - left + (left + j)) b i n u (x .numbers (left + j) ∙ h j))
 
-  module _ (l : words ≤ u) (left' at' seq' prev' w : ℕ) (y : (left' < left) × Past b at seq prev (left - left') at' seq' prev' w) where
+  module _ (l : words ≤ u) (d at' seq' prev' w : ℕ) (y : (0 < d) × (d ≤ left) × Past b at seq prev d at' seq' prev' w) where
     pub walk-short : words < w → (j : ℕ) → passes (k + j) b i n u ≡ false
     walk-short o j =
-        let z = past-join b i n p (k - left) at seq prev (u - words) (left - left') at' seq' prev' w x (y .1) in
-        let m : left' < left = y .0 in
-        let e : k + j ≡ k - left + (left - left') + (left' + j) = omega arith in
-        rw e (words-fail (k - left + (left - left') + (left' + j)) b i n u (omega (arith, z .taken (left' + j))))
+        let z = past-join b i n p (k - left) at seq prev (u - words) d at' seq' prev' w x (y .2) in
+        let m : d ≤ left = y .1 in
+        let e : k + j ≡ k - left + d + (left - d + j) = omega arith in
+        rw e (words-fail (k - left + d + (left - d + j)) b i n u (omega (arith, z .taken (left - d + j))))
 
-    pub past-walk : w ≤ words → Past b i n p (k - left') at' seq' prev' (u - (words - w))
+    pub past-walk : w ≤ words → Past b i n p (k - (left - d)) at' seq' prev' (u - (words - w))
     past-walk o =
-        let m : left' < left = y .0 in
-        let e : k - left + (left - left') ≡ k - left' = omega arith in
+        let m : d ≤ left = y .1 in
+        let e : k - left + d ≡ k - (left - d) = omega arith in
         let f : u - words + w ≡ u - (words - w) = omega arith in
-        rw (e, f) at (past-join b i n p (k - left) at seq prev (u - words) (left - left') at' seq' prev' w x (y .1))
+        rw (e, f) at (past-join b i n p (k - left) at seq prev (u - words) d at' seq' prev' w x (y .2))
 
 -- ---- what a walk hands back
 

@@ -29,7 +29,7 @@ pub record Past (b : List ℕ) (i n p d at seq prev words : ℕ) : Type 0 where
 -- a leg of at most k entries: one of their headers is wrong, or some are passed
 pub record Ran (b : List ℕ) (i n p k : ℕ) (r : Leg) : Type 0 where
   pub stops : r .lost ≡ true → (j : ℕ) → numbered (k + j) b i n ≡ false
-  pub goes : r .lost ≡ false → (r .left < k) × Past b i n p (k - r .left) (slotOf (length b) i (r .words)) (r .seq) (r .prev) (r .words)
+  pub goes : r .lost ≡ false → (0 < r .passed) × (r .passed ≤ k) × Past b i n p (r .passed) (slotOf (length b) i (r .words)) (r .seq) (r .prev) (r .words)
 
 -- a walk of k entries: one of their headers is wrong or they take too many words, or all are passed
 pub record Walked (b : List ℕ) (w : Stop) (k : ℕ) (r : Stop) : Type 0 where

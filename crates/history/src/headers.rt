@@ -6,7 +6,7 @@
 // are two kinds: `alike` passes entries of one length, and so does not wait for a header to be read to
 // find the next; `run` passes any.
 ghost use mathlib.Core.Path.{_≡_};
-ghost use mathlib.Core.Bool.{true};
+ghost use mathlib.Core.Bool.{true, cond};
 ghost use Prim.Native.Nat.{ℕ, _≤_, _<_};
 ghost use lib.ListN.{length};
 ghost use Rattle.history.specs.Walk.{Ran, Walked};
@@ -41,30 +41,30 @@ pub struct Leg {
     pub prev: usize,
     // The words of the entries passed.
     pub words: usize,
-    // How many entries are left to pass.
-    pub left: usize,
+    // How many entries were passed.
+    pub passed: usize,
 }
 
 // A leg over a wrong header.
 fn wrong() -> Leg
-    ensures { λ r. ⌜ (r .lost ≡ true) × (r .left ≡ 0) ⌝ }
+    ensures { λ r. ⌜ r .lost ≡ true ⌝ }
 {
     Leg {
         lost: true,
         seq: 0,
         prev: 0,
         words: 0,
-        left: 0,
+        passed: 0,
     }
 }
 
 // Passes entries from the header at `at` on, up to `k` or to the end of the slice.
 fn run(buf: &[u32], at: usize, seq: SeqNum, k: usize) -> Leg
     requires { ⌜ (at < length (now buf)) × (length (now buf) ≤ 32768) × (0 < k) ⌝ }
-    ensures { λ r. ⌜ (r .left ≤ k) × ((p : ℕ) → Ran (now (buf .entry)) at seq p k r) ⌝ }
+    ensures { λ r. ⌜ ((p : ℕ) → Ran (now (buf .entry)) at seq p k r) ⌝ }
 {
     let mut i = at;
-    let mut left = k;
+    let mut passed = 0;
     // The number in the upper half, over a length of 0.
     let mut want = (seq as u32) * 0x1_0000;
     let mut prev = at;
@@ -79,8 +79,8 @@ fn run(buf: &[u32], at: usize, seq: SeqNum, k: usize) -> Leg
         prev = i;
         i = next;
         want = std::num::wrapping_add_u32(want, 0x1_0000);
-        left -= 1;
-        if left == 0 {
+        passed += 1;
+        if passed == k {
             break;
         }
         if buf.len() <= i {
@@ -92,7 +92,7 @@ fn run(buf: &[u32], at: usize, seq: SeqNum, k: usize) -> Leg
         seq: (want / 0x1_0000) as u16,
         prev,
         words: i - at,
-        left,
+        passed,
     }
 }
 
@@ -107,7 +107,7 @@ fn alike(buf: &[u32], at: usize, seq: SeqNum, k: usize) -> Leg
     }
     let step = 1 + pl;
     let mut i = at;
-    let mut left = k;
+    let mut passed = 0;
     let mut header = buf[at];
     loop {
         if buf[i] != header {
@@ -115,8 +115,8 @@ fn alike(buf: &[u32], at: usize, seq: SeqNum, k: usize) -> Leg
         }
         i += step;
         header = std::num::wrapping_add_u32(header, 0x1_0000);
-        left -= 1;
-        if left == 0 {
+        passed += 1;
+        if passed == k {
             break;
         }
         if buf.len() <= i {
@@ -128,7 +128,7 @@ fn alike(buf: &[u32], at: usize, seq: SeqNum, k: usize) -> Leg
         seq: (header / 0x1_0000) as u16,
         prev: i - step,
         words: i - at,
-        left,
+        passed,
     }
 }
 
@@ -143,19 +143,18 @@ fn next_leg(buf: &[u32], at: usize, seq: SeqNum, k: usize, guess: bool) -> Leg
     if guess {
         return alike(buf, at, seq, k);
     }
-    let m = least(k, MOST);
-    let out = run(buf, at, seq, m);
-    Leg {
-        lost: out.lost,
-        seq: out.seq,
-        prev: out.prev,
-        words: out.words,
-        left: out.left + (k - m),
-    }
+    run(buf, at, seq, least(k, MOST))
 }
 
-// A leg of fewer entries is followed by a run.
+// Entries of one length that are worth the guess.
 const FEW: usize = 8;
+
+// How many entries a leg must have passed for the next one to be `alike`.
+fn enough(guess: bool) -> usize
+    ensures { λ r. ⌜ r ≡ cond guess 8 128 ⌝ }
+{
+    if guess { FEW } else { MOST }
+}
 
 // Passes `k` entries.
 pub fn walk(buf: &[u32], from: Stop, k: usize) -> Stop
@@ -180,8 +179,8 @@ pub fn walk(buf: &[u32], from: Stop, k: usize) -> Stop
         seq = out.seq;
         prev = out.prev;
         words -= out.words;
-        guess = FEW <= left - out.left;
-        left = out.left;
+        guess = enough(guess) <= out.passed;
+        left -= out.passed;
     }
     Stop {
         lost: false,

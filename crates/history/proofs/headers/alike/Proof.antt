@@ -8,53 +8,53 @@ use Rattle.config.specs.Sequence.{turn}
 use Rattle.history.specs.Ring.{slotOf}
 use Rattle.history.specs.Walk.{Past}
 use Rattle.history.proofs.Slots.{slot-to}
-use Rattle.history.proofs.Past.{past-here, past-start, number-next, header-right, past-wrong, past-turn, ran-lost, ran-on}
+use Rattle.history.proofs.Past.{past-start, number-next, header-right, past-wrong, past-turn, ran-lost, ran-on}
 use borrow.Author.Needs.{needs}
 use Rattle.history.proofs.headers.alike.Statement.{statement}
 use Rattle.history.proofs.headers.alike.Tie as tie
 
 abbrev Inv-loop : tie.InvT-loop
-Inv-loop buf at seq k pl step i₀ left₀ header₀ i left header =
-    (0 < left)
-    × (left ≤ k)
+Inv-loop buf at seq k pl step i₀ passed₀ header₀ i passed header =
+    (passed < k)
     × (at ≤ i)
     × (i < length buf)
     × (header % turn ≡ pl)
     × (header < 4294967296)
-    × Past buf at seq (at - step) (k - left) i (header / turn) (i - step) (i - at)
-    × ((getD buf i 0 ≡ header → ⊥) → (left < k) × (at + step ≤ i))
+    × Past buf at seq (at - step) passed i (header / turn) (i - step) (i - at)
+    × ((getD buf i 0 ≡ header → ⊥) → (0 < passed) × (at + step ≤ i))
 
 abbrev μ-loop : tie.MeasureT-loop
-μ-loop buf at seq k pl step i₀ left₀ header₀ i left header = left
+μ-loop buf at seq k pl step i₀ passed₀ header₀ i passed header = k - passed
 
 -- what holds behind the loop
-abbrev End : (c : tie.At-loop Inv-loop μ-loop) (i left header : ℕ) → Type 0
-End c i left header =
+abbrev End : (c : tie.At-loop Inv-loop μ-loop) (i passed header : ℕ) → Type 0
+End c i passed header =
     let s = c .before .before .before .before .before .before .args in
     let step = 1 + c .before .before .before .wrapping-sub-usize .result in
-    (left < s .k)
+    (0 < passed)
+    × (passed ≤ s .k)
     × (header < 4294967296)
     × (s .at + step ≤ i)
-    × Past (s .buf .now) (s .at) (s .seq) (s .at - step) (s .k - left) (slotOf (length (s .buf .now)) (s .at) (i - s .at)) (header / turn) (i - step) (i - s .at)
+    × Past (s .buf .now) (s .at) (s .seq) (s .at - step) passed (slotOf (length (s .buf .now)) (s .at) (i - s .at)) (header / turn) (i - step) (i - s .at)
 
 -- the next entry is passed
 goes :
     (c : tie.After-wrapping-add-u32 Inv-loop μ-loop)
     → let a = c .before .before .before in
-    End a (a .loop .i + (1 + a .before .before .before .wrapping-sub-usize .result)) (a .loop .left - 1) (c .wrapping-add-u32 .result)
+    End a (a .loop .i + (1 + a .before .before .before .wrapping-sub-usize .result)) (a .loop .passed + 1) (c .wrapping-add-u32 .result)
 goes c =
     let l = c .before .before .before .loop .inv in
-    let n = number-next _ _ (l .5) (c .wrapping-add-u32 .ensures) in
-    (omega arith, n .2, omega arith, past-turn _ _ _ _ _ _ _ _ _ (l .6) (l .0) (l .1) _ _ _ _ (omega arith) (omega arith) refl (n .0) (omega arith) (l .2))
+    let n = number-next _ _ (l .4) (c .wrapping-add-u32 .ensures) in
+    (omega arith, omega arith, n .2, omega arith, past-turn _ _ _ _ _ _ _ _ (l .5) _ _ _ _ (omega arith) (omega arith) refl (n .0) (omega arith) (l .1))
 
 -- the next header is another one
-stays : (c : tie.Then2 Inv-loop μ-loop) → let l = c .before .before .loop in End (c .before .before) (l .i) (l .left) (l .header)
+stays : (c : tie.Then2 Inv-loop μ-loop) → let l = c .before .before .loop in End (c .before .before) (l .i) (l .passed) (l .header)
 stays c =
     let l = c .before .before .loop .inv in
-    let m = l .7 (c .if2 .taken) in
-    (m .0, l .5, m .1, rw (slot-to _ _ _ (l .2) (l .3)) (l .6))
+    let m = l .6 (c .if2 .taken) in
+    (m .0, omega arith, l .4, m .1, rw (slot-to _ _ _ (l .1) (l .2)) (l .5))
 
-ended : (c : tie.Joined2 Inv-loop μ-loop) → End (c .before .before) (c .if2 .i) (c .if2 .left) (c .if2 .header)
+ended : (c : tie.Joined2 Inv-loop μ-loop) → End (c .before .before) (c .if2 .i) (c .if2 .passed) (c .if2 .header)
 ended c =
     ⊎-elim
     (λ w. rw (w .1, w .2, w .3) (stays (record { before = c .before; if2 = w .0 })))
@@ -86,7 +86,7 @@ wrong-requires c κs = search needs
 returns : tie.Need-returns Inv-loop μ-loop
 returns c =
     let s = c .before .before .before .before .before in
-    ran-lost _ _ _ _ _ (c .wrong .ensures .0) (past-wrong _ _ _ _ _ _ _ _ _ (past-here _ _ _ 0 _ _) (s .pre .2) (omega arith) _ (omega arith) (c .before .before .wrapping-sub-usize .ensures) (c .before .if1 .taken) (omega arith))
+    ran-lost _ _ _ _ _ (c .wrong .ensures) (past-wrong _ _ _ _ _ _ _ _ (past-start _ _ _ 0 _ refl) _ _ (s .pre .2) (omega arith) (c .before .before .wrapping-sub-usize .ensures) (c .before .if1 .taken) (omega arith))
 
 add-step : tie.Need-add-step Inv-loop μ-loop
 add-step c = search needs
@@ -104,9 +104,8 @@ loop-holds c =
       omega arith,
       omega arith,
       omega arith,
-      omega arith,
       omega (arith, c .shared-slice-known3 .given (c .before .before .before .before .before .args .at)),
-      past-start _ _ _ _ _ _ (omega arith),
+      past-start _ _ _ _ _ (omega arith),
       λ f. absurd (f refl),
     )
 
@@ -122,8 +121,8 @@ add-i c = search needs
 wrapping-add-u32-requires : tie.Need-wrapping-add-u32-requires Inv-loop μ-loop
 wrapping-add-u32-requires c κs = search needs
 
-sub-left : tie.Need-sub-left Inv-loop μ-loop
-sub-left c = search needs
+add-passed : tie.Need-add-passed Inv-loop μ-loop
+add-passed c = search needs
 
 loop-less : tie.Need-loop-less Inv-loop μ-loop
 loop-less c = search needs
@@ -136,11 +135,10 @@ loop-again c =
       omega arith,
       omega arith,
       omega arith,
-      omega arith,
-      number-next _ _ (a .loop .inv .5) (w .wrapping-add-u32 .ensures) .1 ∙ a .loop .inv .4,
-      g .1,
-      rw (slot-to _ (a .before .before .before .before .before .before .args .at) _ (omega arith) (c .if4 .left)) at (g .3),
-      λ _. (g .0, g .2),
+      number-next _ _ (a .loop .inv .4) (w .wrapping-add-u32 .ensures) .1 ∙ a .loop .inv .3,
+      g .2,
+      rw (slot-to _ (a .before .before .before .before .before .before .args .at) _ (omega arith) (c .if4 .left)) at (g .4),
+      λ _. (g .0, g .3),
     )
 
 cast-t22 : tie.Need-cast-t22 Inv-loop μ-loop
@@ -153,7 +151,7 @@ sub-t13 : tie.Need-sub-t13 Inv-loop μ-loop
 sub-t13 c = let e = ended (c .before .before) in omega arith
 
 returns-2 : tie.Need-returns-2 Inv-loop μ-loop
-returns-2 c = let e = ended (c .before .before) in ran-on _ _ _ _ _ _ _ _ _ (e .0) (e .3)
+returns-2 c = let e = ended (c .before .before) in ran-on _ _ _ _ _ _ _ _ _ (e .0) (e .1) (e .4)
 
 pub alike-spec : {M : Type 1} → statement M
 alike-spec =
@@ -176,7 +174,7 @@ alike-spec =
     shared-slice-read-if2
     add-i
     wrapping-add-u32-requires
-    sub-left
+    add-passed
     loop-less
     loop-again
     cast-t22

@@ -1,4 +1,4 @@
--- A leg as it comes from `alike`, or a run of fewer entries with the others left.
+-- A leg as it comes from `alike`, or a run that was asked for fewer entries.
 use native.Mathlib.Omega.{arith}
 use Rattle.history.proofs.Past.{ran-more}
 use borrow.Author.Needs.{needs}
@@ -17,16 +17,8 @@ least-requires c κs = search needs
 run-requires : tie.Need-run-requires
 run-requires c κs = search needs
 
-sub-t9 : tie.Need-sub-t9
-sub-t9 c = search needs
-
-add-t10 : tie.Need-add-t10
-add-t10 c = search needs
-
 returns-2 : tie.Need-returns-2
-returns-2 c p = ran-more _ _ _ _ p _ _ (omega arith) (c .before .run .ensures .1 p)
+returns-2 c p = ran-more _ _ _ _ p _ _ (omega arith) (c .run .ensures p)
 
 pub next-leg-spec : {M : Type 1} → statement M
-next-leg-spec =
-    tie.close
-    (tie.spec alike-requires returns least-requires run-requires sub-t9 add-t10 returns-2)
+next-leg-spec = tie.close (tie.spec alike-requires returns least-requires run-requires returns-2)

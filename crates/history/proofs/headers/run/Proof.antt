@@ -13,17 +13,16 @@ use Rattle.history.proofs.headers.run.Statement.{statement}
 use Rattle.history.proofs.headers.run.Tie as tie
 
 abbrev Inv-loop : tie.InvT-loop
-Inv-loop buf at seq k i₀ left₀ want₀ prev₀ i left want prev =
-    (0 < left)
-    × (left ≤ k)
+Inv-loop buf at seq k i₀ passed₀ want₀ prev₀ i passed want prev =
+    (passed < k)
     × (at ≤ i)
     × (i < length buf)
     × (want % turn ≡ 0)
     × (want < 4294967296)
-    × Past buf at seq at (k - left) i (want / turn) prev (i - at)
+    × Past buf at seq at passed i (want / turn) prev (i - at)
 
 abbrev μ-loop : tie.MeasureT-loop
-μ-loop buf at seq k i₀ left₀ want₀ prev₀ i left want prev = left
+μ-loop buf at seq k i₀ passed₀ want₀ prev₀ i passed want prev = k - passed
 
 -- the header less its number
 less :
@@ -34,7 +33,7 @@ less c =
     let a = c .before .before .before .before in
     less-number _ _ _ _ _ _ (c .before .before .before .wrapping-sub-usize .ensures) (c .before .wrapping-add-usize .ensures) (c .wrapping-sub-usize2 .ensures)
     (omega (arith, c .before .before .shared-slice-known2 .given (a .loop .i)))
-    (a .loop .inv .4)
+    (a .loop .inv .3)
 
 -- the place after an entry that is passed
 behind : (c : tie.Else1 Inv-loop μ-loop) → c .before .before .wrapping-add-usize .result ≡ c .before .before .before .before .before .loop .i + (1 + c .before .wrapping-sub-usize2 .result)
@@ -42,28 +41,28 @@ behind c =
     let e = place-after _ _ _ _ _ _ (c .before .before .before .before .wrapping-sub-usize .ensures) (c .before .before .wrapping-add-usize .ensures) (c .before .wrapping-sub-usize2 .ensures) (omega arith) (omega arith) in
     omega arith
 
-passed :
+over :
     (c : tie.After-wrapping-add-u32 Inv-loop μ-loop)
     → let a = c .before .before .before .before .before .before in
     let s = a .before .before .args in
     let i' = c .before .before .before .wrapping-add-usize .result in
-    Past (s .buf .now) (s .at) (s .seq) (s .at) (s .k - (a .loop .left - 1)) (slotOf (length (s .buf .now)) (s .at) (i' - s .at)) (c .wrapping-add-u32 .result / turn) (a .loop .i) (i' - s .at)
-passed c =
+    Past (s .buf .now) (s .at) (s .seq) (s .at) (a .loop .passed + 1) (slotOf (length (s .buf .now)) (s .at) (i' - s .at)) (c .wrapping-add-u32 .result / turn) (a .loop .i) (i' - s .at)
+over c =
     let e = c .before in
     let l = e .before .before .before .before .before .loop .inv in
-    past-turn _ _ _ _ _ _ _ _ _ (l .6) (l .0) (l .1) _ _ _ _
+    past-turn _ _ _ _ _ _ _ _ (l .5) _ _ _ _
     (header-right _ _ _ (omega arith) (less (e .before)) (e .if1 .left))
     (e .if1 .left)
     (behind e)
-    (number-next _ _ (l .5) (c .wrapping-add-u32 .ensures) .0)
+    (number-next _ _ (l .4) (c .wrapping-add-u32 .ensures) .0)
     refl
-    (l .2)
+    (l .1)
 
 mul-want : tie.Need-mul-want Inv-loop μ-loop
 mul-want c = search needs
 
 loop-holds : tie.Need-loop-holds Inv-loop μ-loop
-loop-holds c = (omega arith, omega arith, omega arith, omega arith, omega arith, omega arith, past-start _ _ _ _ _ _ (omega arith))
+loop-holds c = (omega arith, omega arith, omega arith, omega arith, omega arith, past-start _ _ _ _ _ (omega arith))
 
 add-wrapping-sub-usize : tie.Need-add-wrapping-sub-usize Inv-loop μ-loop
 add-wrapping-sub-usize c = search needs
@@ -99,14 +98,13 @@ wrong-requires c κs = search needs
 returns : tie.Need-returns Inv-loop μ-loop
 returns c =
     let l = c .before .before .before .before .before .before .loop .inv in
-    let e = c .wrong .ensures in
-    (omega arith, ran-lost _ _ _ _ _ (e .0) (past-wrong _ _ _ _ _ _ _ _ _ (l .6) (l .0) (l .1) _ (omega arith) (less (c .before .before)) (c .before .if1 .taken) (omega arith)))
+    ran-lost _ _ _ _ _ (c .wrong .ensures) (past-wrong _ _ _ _ _ _ _ _ (l .5) _ _ (l .0) (omega arith) (less (c .before .before)) (c .before .if1 .taken) (omega arith))
 
 wrapping-add-u32-requires : tie.Need-wrapping-add-u32-requires Inv-loop μ-loop
 wrapping-add-u32-requires c κs = search needs
 
-sub-left : tie.Need-sub-left Inv-loop μ-loop
-sub-left c = search needs
+add-passed : tie.Need-add-passed Inv-loop μ-loop
+add-passed c = search needs
 
 loop-less : tie.Need-loop-less Inv-loop μ-loop
 loop-less c = search needs
@@ -116,14 +114,13 @@ loop-again c =
     let w = c .before .before in
     let a = w .before .before .before .before .before .before in
     let e = behind (w .before) in
-    let n = number-next _ _ (a .loop .inv .5) (w .wrapping-add-u32 .ensures) in (
+    let n = number-next _ _ (a .loop .inv .4) (w .wrapping-add-u32 .ensures) in (
       omega arith,
       omega arith,
       omega arith,
-      omega arith,
-      n .1 ∙ a .loop .inv .4,
+      n .1 ∙ a .loop .inv .3,
       n .2,
-      rw (slot-to _ (a .before .before .args .at) _ (omega arith) (c .if3 .left)) at (passed w),
+      rw (slot-to _ (a .before .before .args .at) _ (omega arith) (c .if3 .left)) at (over w),
     )
 
 cast-t17 : tie.Need-cast-t17 Inv-loop μ-loop
@@ -133,7 +130,7 @@ sub-t18 : tie.Need-sub-t18 Inv-loop μ-loop
 sub-t18 c = let e = behind (c .before .before) in omega arith
 
 returns-2 : tie.Need-returns-2 Inv-loop μ-loop
-returns-2 c = (omega arith, ran-on _ _ _ _ _ _ _ _ _ (omega arith) (passed (c .before)))
+returns-2 c = ran-on _ _ _ _ _ _ _ _ _ (omega arith) (omega arith) (over (c .before))
 
 pub run-spec : {M : Type 1} → statement M
 run-spec =
@@ -155,7 +152,7 @@ run-spec =
     wrong-requires
     returns
     wrapping-add-u32-requires
-    sub-left
+    add-passed
     loop-less
     loop-again
     cast-t17

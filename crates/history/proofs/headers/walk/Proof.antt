@@ -46,28 +46,31 @@ returns-2 c =
 slot-requires : tie.Need-slot-requires Inv-loop μ-loop
 slot-requires c κs = search needs
 
-sub-guess : tie.Need-sub-guess Inv-loop μ-loop
-sub-guess c =
-    let e = c .before .before .before .before .before in
-    let r = e .before .next-leg .ensures 0 .goes (e .if1 .left) in
-    omega (arith, r .0)
+enough-requires : tie.Need-enough-requires Inv-loop μ-loop
+enough-requires c κs = search needs
+
+sub-left : tie.Need-sub-left Inv-loop μ-loop
+sub-left c =
+    let e = c .before .before .before .before .before .before .before in
+    e .before .next-leg .ensures 0 .goes (e .if1 .left) .1
 
 loop-less : tie.Need-loop-less Inv-loop μ-loop
 loop-less c =
-    let e = c .before .before .before .before .before in
-    e .before .next-leg .ensures 0 .goes (e .if1 .left) .0
+    let e = c .before .before .before .before .before .before .before in
+    let r = e .before .next-leg .ensures 0 .goes (e .if1 .left) in
+    omega (arith, r .0, r .1)
 
 loop-again : tie.Need-loop-again Inv-loop μ-loop
 loop-again c =
-    let e = c .before .before .before .before .before in
+    let e = c .before .before .before .before .before .before .before in
     let l = e .before .before .before .loop in
     let r = e .before .next-leg .ensures (l .prev) .goes (e .if1 .left) in
-    let slot = c .before .before .slot .ensures in (
-      omega (arith, r .0),
+    let slot = c .before .before .before .before .slot .ensures in (
+      omega (arith, r .1),
       slot .1,
       omega arith,
       omega arith,
-      rw (slot .0) (past-walk _ _ _ _ _ _ _ _ _ _ _ (l .inv .4) (l .inv .0) (l .inv .3) _ _ _ _ _ r (c .before .before .before .if2 .left)),
+      rw (slot .0) (past-walk _ _ _ _ _ _ _ _ _ _ _ (l .inv .4) (l .inv .0) (l .inv .3) _ _ _ _ _ r (c .before .before .before .before .before .if2 .left)),
     )
 
 returns-3 : tie.Need-returns-3 Inv-loop μ-loop
@@ -88,7 +91,8 @@ walk-spec =
     lost-requires-2
     returns-2
     slot-requires
-    sub-guess
+    enough-requires
+    sub-left
     loop-less
     loop-again
     returns-3)
