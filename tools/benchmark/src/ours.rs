@@ -157,6 +157,10 @@ impl Side for Ours {
         p[0] as usize
     }
 
+    fn write_data_apart(buf: &mut [u8], seq: u16, words: &[u32]) -> usize {
+        Self::write_data(buf, seq, words)
+    }
+
     fn window() -> [u64; 4] {
         let mut w = [0; 4];
         assert_eq!(unsafe { raw::sirmjold_window_starting_at(w.as_mut_ptr(), 4, WINDOW as u32, 0xFFFF) }, 0);

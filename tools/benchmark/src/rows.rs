@@ -99,15 +99,23 @@ fn read_cut<S: Side>(bytes: usize) -> Batch {
     reading::<S>(p)
 }
 
-fn write_command<S: Side>(words: usize) -> Batch {
+fn writing(words: usize, write: impl Fn(&mut [u8], u16, &[u32]) -> usize + 'static) -> Batch {
     let words: Vec<u32> = (0..words as u32).map(note).collect();
     let mut buf = vec![0; LIMIT];
     Box::new(move || {
         (0..UNITS).fold(0, |sum, k| {
-            let len = S::write_data(&mut buf, k as u16, black_box(&words));
+            let len = write(&mut buf, k as u16, black_box(&words));
             fold(sum, len as u64 + u64::from(buf[len - 1]))
         })
     })
+}
+
+fn write_command<S: Side>(words: usize) -> Batch {
+    writing(words, S::write_data)
+}
+
+fn write_command_apart<S: Side>(words: usize) -> Batch {
+    writing(words, S::write_data_apart)
 }
 
 /// Numbers that arrive, as steps from the number before: `steps` over and over.
@@ -329,6 +337,7 @@ pub fn rows() -> Vec<Sized> {
         row!("the same steps apart, 6 commands", "payload", None, read_blocks_apart, LIMIT),
         row!("write a command, 1 word", "command", None, write_command, 1, test_payload),
         row!("write a command, 64 words", "command", None, write_command, 64, test_payload),
+        row!("the same steps apart, a command of 1 word", "command", None, write_command_apart, 1, test_payload),
     ];
     let kinds = ["in order", "every fourth skipped", "every fourth late", "each twice"];
     for (k, kind) in kinds.iter().enumerate() {

@@ -70,6 +70,16 @@ fn message_apart(walk: &mut UmpMessages<'_>) -> Option<UmpMessage> {
     walk.next()
 }
 
+#[inline(never)]
+fn new_apart(buf: &mut [u8]) -> PayloadWriter<'_> {
+    PayloadWriter::new(buf, limit())
+}
+
+#[inline(never)]
+fn write_apart(w: &mut PayloadWriter<'_>, seq: u16, words: &[u32]) -> bool {
+    UmpData::write(w, SeqNum(seq), words).is_ok()
+}
+
 fn limit() -> MaxPayload {
     MaxPayload::new(LIMIT).expect("a limit that is taken")
 }
@@ -113,6 +123,12 @@ impl Side for Rust {
     fn write_data(buf: &mut [u8], seq: u16, words: &[u32]) -> usize {
         let mut w = PayloadWriter::new(buf, limit());
         UmpData::write(&mut w, SeqNum(seq), words).expect("words that fit");
+        w.len()
+    }
+
+    fn write_data_apart(buf: &mut [u8], seq: u16, words: &[u32]) -> usize {
+        let mut w = new_apart(buf);
+        assert!(write_apart(&mut w, seq, words));
         w.len()
     }
 

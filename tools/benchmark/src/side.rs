@@ -16,7 +16,7 @@ pub trait Stream {
     fn wants(&self, now: u64) -> bool;
 }
 
-pub trait Side {
+pub trait Side: 'static {
     type Window: 'static;
     type Small: Stream + 'static;
     type Large: Stream + 'static;
@@ -26,6 +26,8 @@ pub trait Side {
     fn read_apart(payload: &[u8]) -> u64;
     /// One data command in a fresh payload; its length.
     fn write_data(buf: &mut [u8], seq: u16, words: &[u32]) -> usize;
+    /// The same, opening and writing each a call that is kept apart.
+    fn write_data_apart(buf: &mut [u8], seq: u16, words: &[u32]) -> usize;
     fn window() -> Self::Window;
     fn accept(w: &mut Self::Window, seq: u16) -> u64;
 }
