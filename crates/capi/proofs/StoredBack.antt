@@ -29,7 +29,7 @@ bit-same zero h = refl
 bit-same (suc zero) h = refl
 bit-same (suc (suc n)) h = absurd (let z : ⊥ = omega arith in z)
 
-timer-same : (on due sent : ℕ) → on ≤ 1 → due ≤ on * 18446744073709551615 → sent ≤ on * 255
+timer-same : (on due sent : ℕ) → on ≤ 1 → due ≤ cond (eqb on 0) 0 18446744073709551615 → sent ≤ cond (eqb on 0) 0 255
     → timerWords (cond (eqb on 0) Stopped (Running record { due = due; sent = sent })) ≡ record { on = on; due = due; sent = sent }
 timer-same zero due sent h g f =
     let x : 0 ≡ due = omega arith in
@@ -38,7 +38,7 @@ timer-same zero due sent h g f =
 timer-same (suc zero) due sent h g f = refl
 timer-same (suc (suc n)) due sent h g f = absurd (let z : ⊥ = omega arith in z)
 
-asked-same : (on seq count : ℕ) → on ≤ 1 → seq ≤ on * 65535 → count ≤ on * 65535
+asked-same : (on seq count : ℕ) → on ≤ 1 → seq ≤ cond (eqb on 0) 0 65535 → count ≤ cond (eqb on 0) 0 65535
     → askedWords (cond (eqb on 0) Nothing (Request record { seq = seq; count = count })) ≡ record { on = on; seq = seq; count = count }
 asked-same zero seq count h g f =
     let x : 0 ≡ seq = omega arith in
@@ -47,7 +47,7 @@ asked-same zero seq count h g f =
 asked-same (suc zero) seq count h g f = refl
 asked-same (suc (suc n)) seq count h g f = absurd (let z : ⊥ = omega arith in z)
 
-idle-same : (on due step interval : ℕ) → on ≤ 1 → due ≤ on * 18446744073709551615 → step ≤ on * 65535 → interval ≤ on * 18446744073709551615
+idle-same : (on due step interval : ℕ) → on ≤ 1 → due ≤ cond (eqb on 0) 0 18446744073709551615 → step ≤ cond (eqb on 0) 0 65535 → interval ≤ cond (eqb on 0) 0 18446744073709551615
     → idleWords (cond (eqb on 0) Off (Waiting record { due = due; step = step; interval = interval })) ≡ record { on = on; due = due; step = step; interval = interval }
 idle-same zero due step interval h g f e =
     let x : 0 ≡ due = omega arith in

@@ -25,7 +25,7 @@ use Rattle.receiver.specs.declared.receiver.Timer.{Timer}
 use Rattle.receiver.specs.declared.receiver.Asked.{Asked}
 use Rattle.stream.specs.declared.stream.DataStream.{DataStream}
 use Rattle.capi.specs.Limits.{within, bit}
-use Rattle.capi.specs.Stream.{receiverLimits, senderLimits, receiverFits, senderFits, fits, ReceiverFit, SenderFit, firstIn, secondIn, loaded, stored, senderIn, receiverIn, queueIn, itemsIn, pairs, pairWord, senderWords, receiverWords, historyIn, idleIn, windowIn, timerIn, askedIn, idleWords, timerWords, askedWords, withReceiver}
+use Rattle.capi.specs.Stream.{ofFlag, receiverLimits, senderLimits, receiverFits, senderFits, fits, ReceiverFit, SenderFit, firstIn, secondIn, loaded, stored, senderIn, receiverIn, queueIn, itemsIn, pairs, pairWord, senderWords, receiverWords, historyIn, idleIn, windowIn, timerIn, askedIn, idleWords, timerWords, askedWords, withReceiver}
 use Rattle.capi.specs.Window.{windowLimits, windowFits, Narrow}
 use Rattle.capi.proofs.Within.{within-at, above-at, place, most, and-false, put-whole}
 
@@ -51,6 +51,12 @@ module _ (ws : List ℕ) (n : ℕ) (ps : List (ℕ × ℕ)) where
   pub small-at : both ≡ true → (i : ℕ) → i < length ps → getD ws (place ps i) 0 ≤ most ps i
   small-at e i h = within-at ps ws (and-right (eqb (length ws) n) (within ps ws) e) i h
 
+-- a limit by a flag, as the code has it
+flag-times : (f m : ℕ) → f ≤ 1 → cond (eqb f 0) 0 m ≡ f * m
+flag-times zero m h = let e : 0 ≡ 0 * m = omega arith in e
+flag-times (suc zero) m h = let e : m ≡ 1 * m = omega arith in e
+flag-times (suc (suc n)) m h = absurd (let z : ⊥ = omega arith in z)
+
 module _ (ws : List ℕ) where
   abbrev at : ℕ → ℕ
   at k = getD ws k 0
@@ -63,12 +69,15 @@ module _ (ws : List ℕ) where
   unfolding receiverFits
   receiver-large i h g = too-large ws 35 (receiverLimits ws) i h g
 
+  pub receiver-unheld : (i k m : ℕ) → i < 10 → at k ≤ 1 → most (receiverLimits ws) i ≡ ofFlag ws k m → at k * m < at (place (receiverLimits ws) i) → false ≡ receiverFits ws
+  receiver-unheld i k m h f e g = receiver-large i h (rw (e, flag-times (at k) m f) g)
+
   pub receiver-last : length ws ≡ 35 → at 0 ≤ 4294967295 → at 1 ≤ 65535 → at 4 ≤ 1 → at 7 ≤ 1 → at 8 ≤ 1 → at 9 ≤ 1
       → at 5 ≤ at 4 * 18446744073709551615 → at 6 ≤ at 4 * 255 → at 10 ≤ at 9 * 65535
       → leb (at 11) (at 9 * 65535) ≡ receiverFits ws
   unfolding receiverFits within
   receiver-last l a b c d e f g h i =
-      rw (eq-eqb (length ws) 35 l, le-leb (at 0) 4294967295 a, le-leb (at 1) 65535 b, le-leb (at 4) 1 c, le-leb (at 7) 1 d, le-leb (at 8) 1 e, le-leb (at 9) 1 f, le-leb (at 5) _ g, le-leb (at 6) _ h, le-leb (at 10) _ i)
+      rw (flag-times (at 4) 18446744073709551615 c, flag-times (at 4) 255 c, flag-times (at 9) 65535 f, eq-eqb (length ws) 35 l, le-leb (at 0) 4294967295 a, le-leb (at 1) 65535 b, le-leb (at 4) 1 c, le-leb (at 7) 1 d, le-leb (at 8) 1 e, le-leb (at 9) 1 f, le-leb (at 5) _ g, le-leb (at 6) _ h, le-leb (at 10) _ i)
       (and-true (leb (at 11) (at 9 * 65535)))
 
   pub receiver-known : receiverFits ws ≡ true → ReceiverFit ws
@@ -77,9 +86,9 @@ module _ (ws : List ℕ) where
       let s = small-at ws 35 (receiverLimits ws) e in
       let timer : at 4 ≤ 1 = s 2 (omega arith) in
       let asked : at 9 ≤ 1 = s 5 (omega arith) in
-      let sent : at 6 ≤ at 4 * 255 = s 7 (omega arith) in
-      let seq : at 10 ≤ at 9 * 65535 = s 8 (omega arith) in
-      let count : at 11 ≤ at 9 * 65535 = s 9 (omega arith) in
+      let sent : at 6 ≤ at 4 * 255 = rw (flag-times (at 4) 255 timer) at (s 7 (omega arith)) in
+      let seq : at 10 ≤ at 9 * 65535 = rw (flag-times (at 9) 65535 asked) at (s 8 (omega arith)) in
+      let count : at 11 ≤ at 9 * 65535 = rw (flag-times (at 9) 65535 asked) at (s 9 (omega arith)) in
       record {
         whole = as-many ws 35 (receiverLimits ws) e;
         size = s 0 (omega arith);
@@ -97,11 +106,14 @@ module _ (ws : List ℕ) where
   unfolding senderFits
   sender-large i h g = too-large ws 35 (senderLimits ws) i h g
 
+  pub sender-unheld : (i m : ℕ) → i < 5 → at 23 ≤ 1 → most (senderLimits ws) i ≡ ofFlag ws 23 m → at 23 * m < at (place (senderLimits ws) i) → false ≡ senderFits ws
+  sender-unheld i m h f e g = sender-large i h (rw (e, flag-times (at 23) m f) g)
+
   pub sender-last : length ws ≡ 35 → at 16 ≤ 65535 → at 23 ≤ 1 → at 24 ≤ at 23 * 18446744073709551615 → at 25 ≤ at 23 * 65535
       → leb (at 26) (at 23 * 18446744073709551615) ≡ senderFits ws
   unfolding senderFits within
   sender-last l a b c d =
-      rw (eq-eqb (length ws) 35 l, le-leb (at 16) 65535 a, le-leb (at 23) 1 b, le-leb (at 24) _ c, le-leb (at 25) _ d)
+      rw (flag-times (at 23) 18446744073709551615 b, flag-times (at 23) 65535 b, eq-eqb (length ws) 35 l, le-leb (at 16) 65535 a, le-leb (at 23) 1 b, le-leb (at 24) _ c, le-leb (at 25) _ d)
       (and-true (leb (at 26) (at 23 * 18446744073709551615)))
 
   pub sender-known : senderFits ws ≡ true → SenderFit ws
@@ -109,7 +121,7 @@ module _ (ws : List ℕ) where
   sender-known e =
       let s = small-at ws 35 (senderLimits ws) e in
       let on : at 23 ≤ 1 = s 1 (omega arith) in
-      let step : at 25 ≤ at 23 * 65535 = s 3 (omega arith) in
+      let step : at 25 ≤ at 23 * 65535 = rw (flag-times (at 23) 65535 on) at (s 3 (omega arith)) in
       record { whole = as-many ws 35 (senderLimits ws) e; oldest = s 0 (omega arith); step = omega arith }
 
   -- both ends

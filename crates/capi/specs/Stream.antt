@@ -32,14 +32,18 @@ half = 65535
 abbrev at : List ℕ → ℕ → ℕ
 at ws k = getD ws k 0
 
--- the words that do not take every value, and the largest value of each: a flag is 0 or 1, and the words of a timer or a request that is not there are 0
+-- the largest value of a word that belongs to the timer or the request whose flag stands in word k: nothing but 0 where that is not there
+abbrev pub ofFlag : List ℕ → ℕ → ℕ → ℕ
+ofFlag ws k most = cond (eqb (at ws k) 0) 0 most
+
+-- the words that do not take every value, and the largest value of each
 abbrev pub receiverLimits : List ℕ → List (ℕ × ℕ)
 receiverLimits ws =
     (0, 4294967295) ∷ (1, half) ∷ (4, 1) ∷ (7, 1) ∷ (8, 1) ∷ (9, 1)
-    ∷ (5, at ws 4 * 18446744073709551615) ∷ (6, at ws 4 * 255) ∷ (10, at ws 9 * half) ∷ (11, at ws 9 * half) ∷ []
+    ∷ (5, ofFlag ws 4 18446744073709551615) ∷ (6, ofFlag ws 4 255) ∷ (10, ofFlag ws 9 half) ∷ (11, ofFlag ws 9 half) ∷ []
 
 abbrev pub senderLimits : List ℕ → List (ℕ × ℕ)
-senderLimits ws = (16, half) ∷ (23, 1) ∷ (24, at ws 23 * 18446744073709551615) ∷ (25, at ws 23 * half) ∷ (26, at ws 23 * 18446744073709551615) ∷ []
+senderLimits ws = (16, half) ∷ (23, 1) ∷ (24, ofFlag ws 23 18446744073709551615) ∷ (25, ofFlag ws 23 half) ∷ (26, ofFlag ws 23 18446744073709551615) ∷ []
 
 unfoldable pub receiverFits : List ℕ → Bool
 receiverFits ws = eqb (length ws) 35 && within (receiverLimits ws) ws

@@ -1,5 +1,6 @@
 -- Each test is one of the definition.
-use Rattle.capi.proofs.Words.{receiver-short, receiver-large, receiver-last}
+use Rattle.capi.proofs.Words.{receiver-short, receiver-large, receiver-unheld, receiver-last}
+use mathlib.Core.Path.{refl}
 use native.Mathlib.Omega.{arith}
 use borrow.Author.Needs.{needs}
 use Rattle.capi.proofs.state.receiver_fits.Statement.{statement}
@@ -54,7 +55,7 @@ shared-slice-read-if8-2 : tie.Need-shared-slice-read-if8-2
 shared-slice-read-if8-2 c = search needs
 
 returns-8 : tie.Need-returns-8
-returns-8 c = receiver-large _ 6 (omega arith) (c .if8 .taken)
+returns-8 c = receiver-unheld _ 6 4 18446744073709551615 (omega arith) (omega arith) refl (c .if8 .taken)
 
 shared-slice-read-if9 : tie.Need-shared-slice-read-if9
 shared-slice-read-if9 c = search needs
@@ -66,7 +67,7 @@ shared-slice-read-if9-2 : tie.Need-shared-slice-read-if9-2
 shared-slice-read-if9-2 c = search needs
 
 returns-9 : tie.Need-returns-9
-returns-9 c = receiver-large _ 7 (omega arith) (c .if9 .taken)
+returns-9 c = receiver-unheld _ 7 4 255 (omega arith) (omega arith) refl (c .if9 .taken)
 
 shared-slice-read-if10 : tie.Need-shared-slice-read-if10
 shared-slice-read-if10 c = search needs
@@ -78,7 +79,7 @@ shared-slice-read-if10-2 : tie.Need-shared-slice-read-if10-2
 shared-slice-read-if10-2 c = search needs
 
 returns-10 : tie.Need-returns-10
-returns-10 c = receiver-large _ 8 (omega arith) (c .if10 .taken)
+returns-10 c = receiver-unheld _ 8 9 65535 (omega arith) (omega arith) refl (c .if10 .taken)
 
 shared-slice-read-result : tie.Need-shared-slice-read-result
 shared-slice-read-result c = search needs

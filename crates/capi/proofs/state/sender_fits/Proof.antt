@@ -1,5 +1,6 @@
 -- Each test is one of the definition.
-use Rattle.capi.proofs.Words.{sender-short, sender-large, sender-last}
+use Rattle.capi.proofs.Words.{sender-short, sender-large, sender-unheld, sender-last}
+use mathlib.Core.Path.{refl}
 use native.Mathlib.Omega.{arith}
 use borrow.Author.Needs.{needs}
 use Rattle.capi.proofs.state.sender_fits.Statement.{statement}
@@ -30,7 +31,7 @@ shared-slice-read-if4-2 : tie.Need-shared-slice-read-if4-2
 shared-slice-read-if4-2 c = search needs
 
 returns-4 : tie.Need-returns-4
-returns-4 c = sender-large _ 2 (omega arith) (c .if4 .taken)
+returns-4 c = sender-unheld _ 2 18446744073709551615 (omega arith) (omega arith) refl (c .if4 .taken)
 
 shared-slice-read-if5 : tie.Need-shared-slice-read-if5
 shared-slice-read-if5 c = search needs
@@ -42,7 +43,7 @@ shared-slice-read-if5-2 : tie.Need-shared-slice-read-if5-2
 shared-slice-read-if5-2 c = search needs
 
 returns-5 : tie.Need-returns-5
-returns-5 c = sender-large _ 3 (omega arith) (c .if5 .taken)
+returns-5 c = sender-unheld _ 3 65535 (omega arith) (omega arith) refl (c .if5 .taken)
 
 shared-slice-read-result : tie.Need-shared-slice-read-result
 shared-slice-read-result c = search needs
