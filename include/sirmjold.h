@@ -31,7 +31,7 @@ enum sirmjold_refusal {
     SIRMJOLD_OK = 0,
     SIRMJOLD_BAD_SIGNATURE = 1,
     SIRMJOLD_OVERFLOW = 2,         /* does not fit in what is left of the payload */
-    SIRMJOLD_TOO_LARGE = 3,        /* does not fit in an empty payload */
+    SIRMJOLD_TOO_LARGE = 3,        /* does not fit in an empty payload; a message of over SIZE words */
     SIRMJOLD_INVALID_VALUE = 4,    /* a payload limit, or the words of a raw command */
     SIRMJOLD_INVALID_UMP_DATA = 5, /* words that end inside a message, or too many */
     SIRMJOLD_FULL = 6,             /* the send history has no room */
@@ -47,23 +47,26 @@ enum sirmjold_refusal {
 /* The settings, by place: an array of SIRMJOLD_SETTINGS words. K, R or M over 255, or X over 1, is
  * refused as 13; the rest by the settings' own numbers, 9, 7 and 8. */
 enum sirmjold_setting {
-    SIRMJOLD_T1 = 0,  /* ms from the last command with words to the first idle command, 1 to 300 */
+    SIRMJOLD_T1 = 0,  /* ms from the last command with words to the first idle command, and between
+                       * the first 1 + R of these; 1 to 300 */
     SIRMJOLD_G = 1,   /* each further idle interval is this many times the one before */
     SIRMJOLD_K = 2,   /* how many further idle commands follow */
-    SIRMJOLD_R = 3,   /* how many written commands each payload repeats */
+    SIRMJOLD_R = 3,   /* how many written commands a payload repeats before new ones, if they fit */
     SIRMJOLD_X = 4,   /* 1: Retransmit Requests are served and sent */
     SIRMJOLD_D = 5,   /* ms before the first Retransmit Request */
     SIRMJOLD_M = 6,   /* how many requests are made for a gap */
     SIRMJOLD_SIZE = 7 /* the most words of one data command, 1 to 64 */
 };
 
-/* In every answer: `refusal` is 0 or a number of enum sirmjold_refusal, and then all else is 0. */
+/* In every answer that has one, `refusal` is 0 or a number of enum sirmjold_refusal, and then all else
+ * is 0, but that a 10 of sirmjold_command_next gives `next` and `len` too. */
 
 enum sirmjold_outcome_kind {
     SIRMJOLD_QUEUED = 0,
     SIRMJOLD_PENDING = 1, /* ignored: a request with the same number waits */
     SIRMJOLD_NO_PLACE = 2, /* ignored: every place is taken */
-    SIRMJOLD_ERROR = 3,   /* the caller writes this Retransmit Error */
+    SIRMJOLD_ERROR = 3,   /* the caller writes this Retransmit Error: `seq` is the oldest number that
+                           * the history holds (the next one if it holds none), not the one asked for */
     SIRMJOLD_NOT_SUPPORTED = 4
 };
 
@@ -82,7 +85,13 @@ enum sirmjold_class {
 
 /* A data command: hand its messages on unless it is a duplicate. `skipped` numbers lie between it
  * and the highest before it: the gap. Lost: from the oldest to the newest number that left the window
- * unheard. A count of 0 is none. */
+ * unheard. A count of 0 is none.
+ *
+ * Commands are handed on as they arrive, so a late note-on can follow its own note-off. A pipe that is
+ * held by it sounds on, with no loss reported and nothing missing. The rule for a chamber: a late
+ * command releases notes and never holds one, and a reported loss, here or in an event, releases all
+ * held notes, before the messages of the command that it came with. docs/CONTRACT.md says more, and
+ * examples/c/console_and_chamber.c keeps to it. */
 struct sirmjold_delivery {
     uint8_t refusal;
     uint8_t class_;
@@ -143,7 +152,8 @@ struct sirmjold_written {
 uint8_t sirmjold_stream_new(uint64_t *s, size_t s_len, const uint32_t *cfg, size_t cfg_len,
                             uint32_t window, size_t places, uint32_t *ring, size_t ring_len);
 
-/* Back to the fresh stream of the same sizes; the history is zeroed. */
+/* Back to the fresh stream of the same sizes; the history is zeroed. The peer has to be reset too, and
+ * nothing written before may be heard after: a command with a number that was heard is a duplicate. */
 uint8_t sirmjold_stream_reset(uint64_t *s, size_t s_len, uint32_t *ring, size_t ring_len);
 
 /* Queues whole messages to send: 5, 3 and 6 for words that are not queued. */
@@ -160,14 +170,18 @@ struct sirmjold_outcome sirmjold_stream_on_retransmit_request(
 struct sirmjold_delivery sirmjold_stream_on_ump_data(uint64_t *s, size_t s_len, const uint32_t *cfg,
                                                      size_t cfg_len, uint64_t time, uint16_t seq);
 
-/* A Retransmit Error arrives. */
+/* A Retransmit Error arrives: what the unanswered request asked for and is missing is lost. The error's
+ * own reason and number are handed back, and decide nothing. */
 struct sirmjold_event sirmjold_stream_on_retransmit_error(uint64_t *s, size_t s_len, uint8_t reason,
                                                           uint16_t seq);
 
-/* A NAK to a Retransmit Request arrives. */
+/* A NAK to a Retransmit Request arrives: no requests until a reset. With one unanswered, all that is
+ * missing is lost, and reported. What is missing otherwise, and every later gap, stays missing until
+ * it arrives, or leaves the window and is reported then. */
 struct sirmjold_event sirmjold_stream_on_retransmit_nak(uint64_t *s, size_t s_len);
 
-/* Runs the receiver's timer. */
+/* Runs the receiver's timer: makes a request due, or gives up and reports what is missing. Numbers above
+ * the highest heard are not missing: that the last ones were lost shows when something newer is heard. */
 struct sirmjold_event sirmjold_stream_poll(uint64_t *s, size_t s_len, const uint32_t *cfg,
                                            size_t cfg_len, uint64_t time);
 
@@ -180,7 +194,7 @@ struct sirmjold_request sirmjold_stream_write_request(uint64_t *s, size_t s_len,
 struct sirmjold_deadline sirmjold_stream_next_deadline(const uint64_t *s, size_t s_len,
                                                        const uint32_t *ring, size_t ring_len);
 
-/* Whether `write_data` at this time has something to write. */
+/* Whether `write_data` at this time has something to write, or a due request to drop. */
 struct sirmjold_wants sirmjold_stream_wants_write(const uint64_t *s, size_t s_len,
                                                   const uint32_t *ring, size_t ring_len,
                                                   uint64_t time);
@@ -311,7 +325,8 @@ struct sirmjold_message sirmjold_messages_next(const uint8_t *body, size_t body_
 /* The word at an index of a command's bytes. */
 struct sirmjold_word_answer sirmjold_word(const uint8_t *body, size_t body_len, size_t index);
 
-/* ---- a receive window alone: words `w` */
+/* ---- a receive window alone: words `w`. Of a delivery, `skipped` alone tells the gap, and `classify`
+ * tells no loss. */
 
 struct sirmjold_span {
     uint8_t refusal;

@@ -1,4 +1,5 @@
-/* 01's session cases, and one of each refusal, through every function of include/sirmjold.h.
+/* 01's session cases, but for the program `arrivals`, and one of each refusal. Every function of
+ * include/sirmjold.h is called.
  *
  * Built and run by tools/run_c_example. */
 #include <sirmjold.h>
@@ -158,12 +159,100 @@ static void streams(void)
         check(sirmjold_stream_wants_write(s, S, ring, 256, 0).refusal == 13, "a word that belongs to nothing");
         s[unused[i]] = 0;
     }
-    /* refused by the settings: no word is another one after it */
+    /* refused by the settings: no word has changed */
     const uint32_t no_size[SIRMJOLD_SETTINGS] = {100, 2, 5, 2, 1, 10, 3, 0};
     uint64_t before[S];
     memcpy(before, s, sizeof s);
     check(sirmjold_stream_poll(s, S, no_size, SIRMJOLD_SETTINGS, 0).refusal == 9 && memcmp(s, before, sizeof s) == 0, "a refused poll");
     check(sirmjold_stream_send_ump(s, S, no_size, SIRMJOLD_SETTINGS, ring, 256, on, 1) == 9 && memcmp(s, before, sizeof s) == 0, "a refused word");
+}
+
+/* A fresh stream of the sizes below. */
+static void fresh(uint64_t *s, uint32_t *ring)
+{
+    check(sirmjold_stream_new(s, S, CFG, 64, 4, ring, 256) == 0, "a fresh stream");
+}
+
+/* Queues a word and writes it into a payload of at most `max` bytes; how many bytes it has. */
+static uint64_t played(uint64_t *s, uint32_t *ring, uint32_t word, uint64_t time, size_t max, uint8_t *buf)
+{
+    uint64_t p[P];
+    check(sirmjold_stream_send_ump(s, S, CFG, ring, 256, &word, 1) == 0, "a word is queued");
+    check(sirmjold_payload_new(p, P, max) == 0, "an empty payload");
+    check(sirmjold_stream_write_data(s, S, CFG, time, p, P, buf, 1400, ring, 256).refusal == 0, "it is written");
+    return p[0];
+}
+
+static void repeats(void)
+{
+    static const uint8_t p12[] = {0x4D, 0x49, 0x44, 0x49, 0xFF, 1, 0, 1, 0x20, 0x80, 0x3C, 0};
+    uint64_t s[S];
+    uint32_t ring[256];
+    uint8_t buf[1400];
+    fresh(s, ring);
+    played(s, ring, 0x20903C40, 1000, 1400, buf);
+    check(played(s, ring, 0x20803C00, 1050, 16, buf) == 12 && memcmp(buf, p12, 12) == 0, "P12");
+}
+
+/* Data written at 0, then a write at each due time. */
+static void idles(void)
+{
+    static const uint64_t due[] = {100, 200, 300, 500, 900, 1700, 3300, 6500};
+    uint64_t s[S], p[P];
+    uint32_t ring[256];
+    uint8_t buf[1400];
+    fresh(s, ring);
+    played(s, ring, 0x20903C40, 0, 1400, buf);
+    for (size_t i = 0; i < sizeof due / sizeof *due; i++) {
+        struct sirmjold_deadline d = sirmjold_stream_next_deadline(s, S, ring, 256);
+        check(d.kind == 1 && d.time == due[i], "the next idle command");
+        sirmjold_payload_new(p, P, 1400);
+        sirmjold_stream_write_data(s, S, CFG, d.time, p, P, buf, 1400, ring, 256);
+        check(memcmp(buf + p[0] - 4, (uint8_t[]){0xFF, 0, 0, (uint8_t)(i + 1)}, 4) == 0, "it is the last of its payload");
+    }
+    check(sirmjold_stream_next_deadline(s, S, ring, 256).kind == 0, "then none");
+}
+
+/* Refusals of settings, and of words for which the history has no room. */
+static void too_much(void)
+{
+    static const uint32_t interval[SIRMJOLD_SETTINGS] = {301, 2, 5, 2, 1, 10, 3, 64};
+    static const uint32_t growth[SIRMJOLD_SETTINGS] = {100, 0, 5, 2, 1, 10, 3, 64};
+    static const uint32_t narrow[SIRMJOLD_SETTINGS] = {100, 2, 5, 2, 1, 10, 3, 1};
+    const uint32_t two[2] = {0x40903C00, 0xFF000000};
+    uint32_t ones[64], ring[65];
+    uint64_t s[S];
+    for (size_t i = 0; i < 64; i++)
+        ones[i] = 0x20903C40;
+    check(sirmjold_stream_new(s, S, interval, SIRMJOLD_SETTINGS, 64, 4, ring, 65) == 7, "an interval of 301 ms");
+    check(sirmjold_stream_new(s, S, growth, SIRMJOLD_SETTINGS, 64, 4, ring, 65) == 8, "a growth of 0");
+    check(sirmjold_stream_new(s, S, CFG, 64, 4, ring, 65) == 0, "a history of 65 words");
+    check(sirmjold_stream_send_ump(s, S, narrow, SIRMJOLD_SETTINGS, ring, 65, two, 2) == 3, "a message above the size");
+    check(sirmjold_stream_send_ump(s, S, CFG, ring, 65, ones, 64) == 0, "64 words and a header");
+    check(sirmjold_stream_send_ump(s, S, CFG, ring, 65, ones, 1) == 6, "no room for one more");
+}
+
+/* The sender alone is reset: its next command has a number that was heard, and is not handed on, though
+ * nothing is lost or missing. With both ends reset it is. */
+static void resets(void)
+{
+    uint64_t console[S], chamber[S];
+    uint32_t there[256], here[256], words[MOST];
+    uint8_t buf[1400], lens[MOST];
+    fresh(console, there);
+    fresh(chamber, here);
+    for (int resets = 0; resets < 3; resets++) {
+        if (resets > 0)
+            check(sirmjold_stream_reset(console, S, there, 256) == 0, "the sender is reset");
+        if (resets > 1)
+            check(sirmjold_stream_reset(chamber, S, here, 256) == 0, "the receiver is reset");
+        uint64_t len = played(console, there, 0x20903C40, 0, 1400, buf);
+        struct sirmjold_read r = sirmjold_command_next(buf, len, 0, words, MOST, lens, MOST);
+        check(is(sirmjold_stream_on_ump_data(chamber, S, CFG, 0, r.seq),
+                 resets == 1 ? SIRMJOLD_DUPLICATE : SIRMJOLD_NEW, 0, 0, 0),
+              "new, but where the sender alone was reset");
+        check(sirmjold_stream_next_deadline(chamber, S, here, 256).kind == 0, "nothing is missing");
+    }
 }
 
 int main(void)
@@ -172,6 +261,10 @@ int main(void)
     payloads();
     readings();
     streams();
+    repeats();
+    idles();
+    too_much();
+    resets();
     printf("%d cases hold, %d do not\n", passed, failed);
     return failed != 0;
 }

@@ -1,6 +1,9 @@
 /* A console plays notes to a chamber over a line that loses, doubles and delays payloads. Both are
- * streams of the library; at the end each note that was played was handed on once, or its command's
- * number lies in a reported loss.
+ * streams of the library; at the end each change that was played, a note-on or a note-off, was handed
+ * on once, or its command's number lies in a reported loss.
+ *
+ * The chamber keeps to a rule, so that no pipe sounds on: a late command releases notes and never
+ * holds one, since its release may already have come; a reported loss releases all held notes.
  *
  * Built and run by tools/run_c_example; takes the generator's seed as an argument.
  */
@@ -11,7 +14,8 @@
 
 #include "sirmjold.h"
 
-#define NOTES 400
+#define CHANGES 400 /* note-ons and note-offs by turns */
+#define KEYS 61
 #define RING 65 /* words of the send history: 32 commands of one word */
 #define OUT_FROM 700 /* ms at which the line goes dead, and comes back */
 #define OUT_TO 1000
@@ -41,9 +45,11 @@ struct flying {
 static struct end console, chamber;
 static struct flying line[FLIGHT];
 static uint32_t random_state;
-static unsigned handed[NOTES];     /* how often each note was handed on */
+static unsigned handed[CHANGES];   /* how often each change was handed on */
 static uint8_t lost[65536];        /* numbers in a reported loss */
+static uint8_t held[128];          /* the keys whose pipes sound */
 static unsigned sent_payloads, dropped_payloads, doubled_payloads, losses;
+static unsigned notes_held, late_ons, let_go;
 
 static void fail(const char *what, unsigned n)
 {
@@ -84,24 +90,56 @@ static void put(int to_chamber, uint64_t now, const uint8_t *bytes, size_t len)
     }
 }
 
+/* The change with this number, a MIDI 1.0 message of one word: each note-off follows its note-on. */
+static uint32_t change(unsigned n)
+{
+    uint32_t key = 36 + n / 2 % KEYS;
+    return n % 2 ? 0x20800000u | key << 8 : 0x20900040u | key << 8;
+}
+
+/* How many keys are held. */
+static unsigned sounding(void)
+{
+    unsigned n = 0;
+    for (unsigned key = 0; key < 128; key++)
+        n += held[key];
+    return n;
+}
+
+/* A loss: what it held may have been releases, so all notes are released. */
 static void report(uint16_t first, uint16_t count)
 {
-    if (count)
-        losses++;
+    if (!count)
+        return;
+    losses++;
     for (unsigned k = 0; k < count; k++)
         lost[(uint16_t)(first + k)] = 1;
+    let_go += sounding();
+    memset(held, 0, sizeof held);
+}
+
+/* What the chamber does with a message; one that comes late holds nothing. */
+static void sound(uint32_t word, int late)
+{
+    uint32_t key = word >> 8 & 0x7F;
+    if ((word >> 20 & 0xF) == 8 || (word & 0x7F) == 0) {
+        held[key] = 0;
+    } else if (late) {
+        late_ons++;
+    } else {
+        held[key] = 1;
+        notes_held++;
+    }
 }
 
 /* The chamber hands on the messages of a data command. */
-static void hand_on(const uint32_t *words, const uint8_t *lens, size_t count, uint16_t seq)
+static void hand_on(const uint32_t *words, const uint8_t *lens, size_t count, uint16_t seq, int late)
 {
     for (size_t at = 0, k = 0; at < count; at += lens[k++]) {
-        uint32_t note = words[at] & 0xFFFF;
-        if (note >= NOTES)
-            fail("a note that nobody played", note);
-        handed[note]++;
-        if (note != seq)
-            fail("a note in another command than its own", note);
+        if (seq >= CHANGES || words[at] != change(seq))
+            fail("a change in another command than its own", seq);
+        handed[seq]++;
+        sound(words[at], late);
     }
 }
 
@@ -158,9 +196,9 @@ static void arrive(struct flying *f, uint64_t now)
                 e->words, SIRMJOLD_STREAM_WORDS, cfg, SIRMJOLD_SETTINGS, now, c.seq);
             if (d.refusal)
                 fail("on_ump_data", d.refusal);
-            report(d.lost_first, d.lost_count);
+            report(d.lost_first, d.lost_count); /* before the messages of the same command */
             if (d.class_ != SIRMJOLD_DUPLICATE)
-                hand_on(words, lens, c.count, c.seq);
+                hand_on(words, lens, c.count, c.seq, d.class_ == SIRMJOLD_LATE);
         } else if (c.kind == SIRMJOLD_READ_REQUEST) {
             struct sirmjold_outcome o = sirmjold_stream_on_retransmit_request(
                 e->words, SIRMJOLD_STREAM_WORDS, cfg, SIRMJOLD_SETTINGS, e->ring, RING, c.seq,
@@ -257,9 +295,9 @@ int main(int argc, char **argv)
     refusals();
 
     for (uint64_t now = 0; now < 6000; now++) {
-        if (played < NOTES && now % 5 == 0) {
-            uint32_t word = 0x20000000u | played; /* one word: a note that carries its number */
-            /* each note is written before the next is played: its command has its number */
+        if (played < CHANGES && now % 5 == 0) {
+            uint32_t word = change(played);
+            /* each change is written before the next is played: its command has its number */
             if (sirmjold_stream_send_ump(console.words, SIRMJOLD_STREAM_WORDS, cfg,
                                          SIRMJOLD_SETTINGS, console.ring, RING, &word, 1))
                 fail("send_ump", played);
@@ -280,19 +318,23 @@ int main(int argc, char **argv)
         }
     }
 
-    for (unsigned n = 0; n < NOTES; n++) {
+    for (unsigned n = 0; n < CHANGES; n++) {
         if (handed[n] > 1)
-            fail("a note was handed on twice", n);
+            fail("a change was handed on twice", n);
         if (handed[n] == 1)
             on++;
         else if (lost[(uint16_t)n])
             in_loss++;
         else
-            fail("a note was neither handed on nor reported lost", n);
+            fail("a change was neither handed on nor reported lost", n);
     }
+    if (sounding())
+        fail("pipes sound on", sounding());
     printf("payloads %u, lost on the line %u, doubled %u\n", sent_payloads, dropped_payloads,
            doubled_payloads);
-    printf("notes played %u, handed on %u, in a reported loss %u (%u reports)\n", played, on,
+    printf("changes played %u, handed on %u, in a reported loss %u (%u reports)\n", played, on,
            in_loss, losses);
+    printf("notes held %u, late and not held %u, released by a loss %u, sounding at the end %u\n",
+           notes_held, late_ons, let_go, sounding());
     return 0;
 }

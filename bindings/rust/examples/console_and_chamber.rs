@@ -1,5 +1,9 @@
 //! A console plays notes to a chamber over a line that loses, doubles and delays payloads. At the end
-//! each note that was played was handed on once, or its command's number lies in a reported loss.
+//! each change that was played, a note-on or a note-off, was handed on once, or its command's number lies
+//! in a reported loss.
+//!
+//! The chamber keeps to a rule, so that no pipe sounds on: a late command releases notes and never holds
+//! one, since its release may already have come; a reported loss releases all held notes.
 //!
 //! Built and run by tools/run_rust_example; takes the generator's seed as an argument.
 use sirmjold::{
@@ -7,7 +11,9 @@ use sirmjold::{
     StreamConfig, StreamEvent,
 };
 
-const NOTES: usize = 400;
+/// Note-ons and note-offs by turns.
+const CHANGES: usize = 400;
+const KEYS: u32 = 61;
 const LIMIT: usize = 1400;
 /// Words of the send history: 32 commands of one word.
 const RING: usize = 65;
@@ -74,18 +80,48 @@ impl Line {
     }
 }
 
-/// What the chamber has heard.
+/// The change with this number, a MIDI 1.0 message of one word: each note-off follows its note-on.
+fn change(n: usize) -> u32 {
+    let key = 36 + n as u32 / 2 % KEYS;
+    [0x2090_0040, 0x2080_0000][n % 2] | key << 8
+}
+
+/// What the chamber has heard, and which pipes sound.
 struct Book {
     handed: Vec<usize>,
     lost: Vec<bool>,
     reports: usize,
+    held: [bool; 128],
+    notes_held: usize,
+    late_ons: usize,
+    let_go: usize,
 }
 
 impl Book {
+    fn sounding(&self) -> usize {
+        self.held.iter().filter(|h| **h).count()
+    }
+
+    /// A loss: what it held may have been releases, so all notes are released.
     fn report(&mut self, range: SeqRange) {
         self.reports += 1;
         for k in 0..range.count {
             self.lost[usize::from(range.first.wrapping_add(k))] = true;
+        }
+        self.let_go += self.sounding();
+        self.held = [false; 128];
+    }
+
+    /// What the chamber does with a message; one that comes late holds nothing.
+    fn sound(&mut self, word: u32, class: Class) {
+        let key = (word >> 8 & 0x7F) as usize;
+        if word >> 20 & 0xF == 8 || word & 0x7F == 0 {
+            self.held[key] = false;
+        } else if class == Class::Late {
+            self.late_ons += 1;
+        } else {
+            self.held[key] = true;
+            self.notes_held += 1;
         }
     }
 }
@@ -151,18 +187,20 @@ fn arrive(
         match command {
             Command::UmpData(seq, messages) => {
                 let delivery = end.on_ump_data(cfg, now, seq).unwrap();
+                // before the messages of the same command
                 if let Some(range) = delivery.lost {
                     book.report(range);
                 }
                 if delivery.class != Class::Duplicate {
                     for m in messages {
-                        let note = m.words()[0] & 0xFFFF;
+                        let n = usize::from(seq);
                         assert_eq!(
-                            note,
-                            u32::from(seq),
-                            "a note in another command than its own"
+                            m.words(),
+                            [change(n)],
+                            "a change in another command than its own"
                         );
-                        book.handed[note as usize] += 1;
+                        book.handed[n] += 1;
+                        book.sound(m.words()[0], delivery.class);
                     }
                 }
             }
@@ -202,17 +240,19 @@ fn main() {
         doubled: 0,
     };
     let mut book = Book {
-        handed: vec![0; NOTES],
+        handed: vec![0; CHANGES],
         lost: vec![false; 65536],
         reports: 0,
+        held: [false; 128],
+        notes_held: 0,
+        late_ons: 0,
+        let_go: 0,
     };
     let mut played = 0;
     for now in 0..6000 {
-        if played < NOTES && now % 5 == 0 {
-            // each note is written before the next is played: its command has its number
-            console
-                .send_ump(&cfg, &[0x2000_0000 | played as u32])
-                .unwrap();
+        if played < CHANGES && now % 5 == 0 {
+            // each change is written before the next is played: its command has its number
+            console.send_ump(&cfg, &[change(played)]).unwrap();
             played += 1;
         }
         if let StreamEvent::DataLoss(range) = chamber.poll(&cfg, now).unwrap() {
@@ -230,23 +270,31 @@ fn main() {
         }
     }
     let mut on = 0;
-    for note in 0..played {
-        match book.handed[note] {
+    for n in 0..played {
+        match book.handed[n] {
             0 => assert!(
-                book.lost[note],
-                "note {note} was neither handed on nor reported lost"
+                book.lost[n],
+                "change {n} was neither handed on nor reported lost"
             ),
             1 => on += 1,
-            n => panic!("note {note} was handed on {n} times"),
+            times => panic!("change {n} was handed on {times} times"),
         }
     }
+    assert_eq!(book.sounding(), 0, "pipes sound on");
     println!(
         "payloads {}, lost on the line {}, doubled {}",
         line.sent, line.dropped, line.doubled
     );
     println!(
-        "notes played {played}, handed on {on}, in a reported loss {} ({} reports)",
+        "changes played {played}, handed on {on}, in a reported loss {} ({} reports)",
         played - on,
         book.reports
+    );
+    println!(
+        "notes held {}, late and not held {}, released by a loss {}, sounding at the end {}",
+        book.notes_held,
+        book.late_ons,
+        book.let_go,
+        book.sounding()
     );
 }

@@ -3,6 +3,15 @@
 //!
 //! [`Stream`] has both ends of a stream, [`Payload`] writes payloads, [`commands`] reads them, and
 //! [`Window`] is a receive window alone. Times are the caller's, in ms.
+//!
+//! # So that no pipe sounds on
+//!
+//! Commands are handed on as they arrive, so a [`Class::Late`] note-on can follow its own note-off. A pipe
+//! that is held by it sounds on, with no loss reported and nothing missing. The rule for a chamber: a
+//! late command releases notes and never holds one, and a reported loss ([`Delivery::lost`],
+//! [`StreamEvent::DataLoss`], [`StreamEvent::ErrorLoss`]) releases all held notes, before the messages of
+//! the command that it came with. The example `console_and_chamber` keeps to it; `docs/CONTRACT.md` says
+//! more, and what is promised of delivery.
 #![no_std]
 #![warn(missing_docs)]
 
@@ -15,7 +24,7 @@ pub enum Refusal {
     BadSignature,
     /// The command does not fit in what is left of the payload.
     Overflow,
-    /// The command does not fit in an empty payload.
+    /// The command does not fit in an empty payload, or a message has more words than a command may.
     TooLarge,
     /// A value out of its range: a payload limit, or the words of a raw command.
     InvalidValue,
@@ -63,13 +72,14 @@ impl Refusal {
 /// The settings of a stream. No state keeps them: each call that uses them is given them.
 #[derive(Debug, Clone, Copy, PartialEq, Eq)]
 pub struct StreamConfig {
-    /// T1: ms from the last command with words to the first idle command, 1 to 300.
+    /// T1: ms from the last command with words to the first idle command, and between the first 1 + R of
+    /// these; 1 to 300.
     pub idle_interval_ms: u32,
     /// G: each further idle interval is this many times the one before, 1 or more.
     pub idle_growth: u32,
     /// K: how many further idle commands follow.
     pub idle_further: u8,
-    /// R: how many written commands each payload repeats.
+    /// R: how many written commands a payload repeats before new ones, if they fit.
     pub fec_repeats: u8,
     /// Whether Retransmit Requests are served and sent.
     pub retransmit: bool,
@@ -136,7 +146,7 @@ impl SeqRange {
 pub enum Class {
     /// Ahead of the highest, with this many numbers skipped in between.
     New(u16),
-    /// In the window, and not processed before.
+    /// In the window, and not processed before: hand it on, but hold no note for it (see the crate's page).
     Late,
     /// Processed before, or too far behind to tell.
     Duplicate,
@@ -149,7 +159,8 @@ pub struct Delivery {
     pub class: Class,
     /// The numbers that were skipped before it.
     pub gap: Option<SeqRange>,
-    /// From the oldest to the newest number that left the window unprocessed.
+    /// From the oldest to the newest number that left the window unprocessed; it counts before the
+    /// command's messages.
     pub lost: Option<SeqRange>,
 }
 
@@ -173,8 +184,15 @@ impl Delivery {
 pub struct RetransmitError {
     /// 0 unknown, 1 not in the buffer.
     pub reason: u8,
-    /// The number that was asked for.
+    /// The oldest number that the answering history holds (the next one if it holds none), not the one
+    /// that was asked for.
     pub seq: u16,
+}
+
+impl RetransmitError {
+    fn of(reason: u8, seq: u16) -> RetransmitError {
+        RetransmitError { reason, seq }
+    }
 }
 
 /// A Retransmit Request.
@@ -184,6 +202,12 @@ pub struct RetransmitRequest {
     pub seq: u16,
     /// How many; 0 for all from `seq` on.
     pub count: u16,
+}
+
+impl RetransmitRequest {
+    fn of(seq: u16, count: u16) -> RetransmitRequest {
+        RetransmitRequest { seq, count }
+    }
 }
 
 /// What became of a Retransmit Request.
@@ -221,10 +245,7 @@ impl StreamEvent {
             first: e.first,
             count: e.count,
         };
-        let error = RetransmitError {
-            reason: e.reason,
-            seq: e.seq,
-        };
+        let error = RetransmitError::of(e.reason, e.seq);
         Ok(match e.kind {
             0 => StreamEvent::Nothing,
             1 => StreamEvent::DataLoss(range),
@@ -291,7 +312,8 @@ impl<'a> Stream<'a> {
         Ok(s)
     }
 
-    /// Back to the fresh stream of the same sizes; the history is zeroed.
+    /// Back to the fresh stream of the same sizes; the history is zeroed. The peer has to be reset too, and
+    /// nothing written before may be heard after: a command with a number that was heard is a duplicate.
     pub fn reset(&mut self) -> Result<(), Refusal> {
         // SAFETY: as in `new`.
         Refusal::check(unsafe {
@@ -347,10 +369,7 @@ impl<'a> Stream<'a> {
             0 => RequestOutcome::Queued,
             1 => RequestOutcome::Pending,
             2 => RequestOutcome::Full,
-            3 => RequestOutcome::Error(RetransmitError {
-                reason: o.reason,
-                seq: o.seq,
-            }),
+            3 => RequestOutcome::Error(RetransmitError::of(o.reason, o.seq)),
             _ => RequestOutcome::NotSupported,
         })
     }
@@ -376,7 +395,8 @@ impl<'a> Stream<'a> {
         })
     }
 
-    /// A Retransmit Error arrives.
+    /// A Retransmit Error arrives: what the unanswered request asked for and is missing is lost. The error's
+    /// own reason and number are handed back, and decide nothing.
     pub fn on_retransmit_error(&mut self, err: RetransmitError) -> Result<StreamEvent, Refusal> {
         // SAFETY: as in `new`.
         StreamEvent::of(unsafe {
@@ -389,7 +409,9 @@ impl<'a> Stream<'a> {
         })
     }
 
-    /// A NAK to a Retransmit Request arrives.
+    /// A NAK to a Retransmit Request arrives: no requests until a reset. With one unanswered, all that is
+    /// missing is lost, and reported. What is missing otherwise, and every later gap, stays missing until it
+    /// arrives, or leaves the window and is reported then.
     pub fn on_retransmit_nak(&mut self) -> Result<StreamEvent, Refusal> {
         // SAFETY: as in `new`.
         StreamEvent::of(unsafe {
@@ -397,7 +419,8 @@ impl<'a> Stream<'a> {
         })
     }
 
-    /// Runs the receiver's timer.
+    /// Runs the receiver's timer: makes a request due, or gives up and reports what is missing. Numbers above
+    /// the highest heard are not missing: that the last ones were lost shows when something newer is heard.
     pub fn poll(&mut self, cfg: &StreamConfig, time: u64) -> Result<StreamEvent, Refusal> {
         let cfg = cfg.words();
         // SAFETY: as in `new`.
@@ -455,7 +478,7 @@ impl<'a> Stream<'a> {
         Ok((d.kind == 1).then_some(d.time))
     }
 
-    /// Whether `write_data` at this time has something to write.
+    /// Whether `write_data` at this time has something to write, or a due request to drop.
     pub fn wants_write(&self, time: u64) -> Result<bool, Refusal> {
         // SAFETY: as in `new`.
         let w = unsafe {
@@ -472,9 +495,10 @@ impl<'a> Stream<'a> {
     }
 
     /// Writes into a payload: a due request, then the sender's commands. [`Refusal::TooLarge`] when the
-    /// payload is empty and the first of them does not fit: the one refusal that changes something,
-    /// since a due idle command is then queued, waiting requests that fit no payload are gone, and so
-    /// is a due request that is no longer needed.
+    /// payload is empty and the due request, or else the first unwritten command, does not fit. In the first
+    /// case nothing is changed. The second is the one refusal that changes something: a due idle
+    /// command is then queued, waiting requests that fit no payload are gone, and so is a due request where
+    /// requests are disabled or nothing is missing.
     pub fn write_data(
         &mut self,
         cfg: &StreamConfig,
@@ -660,14 +684,8 @@ impl<'a> Iterator for Commands<'a> {
         }
         Some(match c.kind {
             1 => Command::UmpData(c.seq, Messages { body, at: 0 }),
-            2 => Command::RetransmitRequest(RetransmitRequest {
-                seq: c.seq,
-                count: c.count,
-            }),
-            3 => Command::RetransmitError(RetransmitError {
-                reason: c.reason,
-                seq: c.seq,
-            }),
+            2 => Command::RetransmitRequest(RetransmitRequest::of(c.seq, c.count)),
+            3 => Command::RetransmitError(RetransmitError::of(c.reason, c.seq)),
             _ => Command::Raw(item.code, item.csd1, item.csd2, body),
         })
     }
@@ -762,14 +780,8 @@ impl Reader {
                     cut: count < usize::from(r.len),
                 }
             }
-            4 => Read::RetransmitRequest(RetransmitRequest {
-                seq: r.seq,
-                count: r.count,
-            }),
-            5 => Read::RetransmitError(RetransmitError {
-                reason: r.code,
-                seq: r.seq,
-            }),
+            4 => Read::RetransmitRequest(RetransmitRequest::of(r.seq, r.count)),
+            5 => Read::RetransmitError(RetransmitError::of(r.code, r.seq)),
             _ => Read::Raw(r.code, r.seq, &self.words[..usize::from(r.len)]),
         };
         Ok(Some((read, next)))
