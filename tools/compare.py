@@ -1,17 +1,22 @@
 #!/usr/bin/env python3
-"""Runs call lists (CALLS.md of the papers) on `replay` and on the Rust, and compares every answer, and state and payload
+"""Runs call lists (crates/script's front page) on `replay` and on the Rust, and compares every answer, and state and payload
 bytes after every call.
 
     rt check replay && ZMIDI_NET_SOURCE=FOLDER tools/compare.py [--calls N] [--seed S] [--random] [--keep FOLDER]
 
-ZMIDI_NET_SOURCE has the Rust's packet.rs, command.rs and stream.rs.
+ZMIDI_NET_SOURCE has the Rust's packet.rs, command.rs and stream.rs. Needs python3, and what tools/oracle/build needs.
 
-Parts: short lists, all of them, over small sizes; lists in which the sender's numbers pass a turn; random long lists over
-01's domain; payloads read back, cut and damaged (--random: the last two alone). With a history of 4,096 words the state
-is shown now and then only. A list that differs is shortened and printed, and the run fails. The summary counts calls by
-name, answers by kind and refusals by number. --keep writes examples/cases.script and a sample in which each pair of call
-and answer kind occurs to FOLDER/stdin, and the Rust's answers to FOLDER/stdout: that is how crates/replay_recorded was
-made, by
+Parts: directed lists (directed.py), which have to reach their corners; a drawn list for each size of 01's domain; short lists,
+all of them, over small sizes; lists in which the sender's numbers pass a turn; drawn long lists over the domain, half of
+them without `take`, so that the Rust's own DataStream answers throughout; payloads read back, cut and damaged. --random leaves
+out the short lists and the turns. N limits the drawn lists and the reading; the other parts, some 1,530,000 calls, 90,000 with
+--random, run whole.
+
+A list that differs is shortened and printed, and the run fails. Progress goes to standard error: a bar on a terminal, a line
+a minute elsewhere. The summary counts calls by name, answers by kind, refusals by number, and the corners reached.
+
+--keep writes the short directed lists, examples/cases.script and a sample in which each pair of call and answer kind occurs to
+FOLDER/stdin, and the Rust's answers to FOLDER/stdout: that is how crates/replay_recorded was made, by
 
     tools/compare.py --calls 300000 --keep crates/replay_recorded"""
 import argparse
@@ -21,7 +26,10 @@ import os
 import random
 import subprocess
 import sys
+import tempfile
 import time
+
+import directed
 
 here = os.path.dirname(os.path.abspath(__file__))
 BATCH = 30000
@@ -34,9 +42,17 @@ STEPS = [1, 1, 1, 1, 2, 3, 5, 31, 32, 33, 63, 64, 65, 66, 127, 128, 129, 130, 0,
 TYPES = [1, 1, 1, 2, 2, 4, 1, 1, 2, 2, 2, 3, 3, 4, 4, 4]
 
 
+def drawn(rng, n):
+    """Any words."""
+    digits = rng.randbytes(4 * n).hex().upper()
+    return [digits[i:i + 8] for i in range(0, 8 * n, 8)]
+
+
 def message(rng, kind=None):
     t = rng.randrange(16) if kind is None else kind
-    return ["%X%07X" % (t, rng.getrandbits(28))] + ["%08X" % rng.getrandbits(32) for _ in range(TYPES[t] - 1)]
+    words = drawn(rng, TYPES[t])
+    words[0] = "%X" % t + words[0][1:]
+    return words
 
 
 def whole(rng, most):
@@ -55,7 +71,7 @@ def words_to_queue(rng):
     if pick < 13:
         return whole(rng, rng.randrange(1, 12))
     if pick < 16:
-        return whole(rng, rng.choice([60, 63, 64, 65, 66, 128, 250, 256]))
+        return whole(rng, rng.choice([60, 63, 64, 65, 66, 128, 250, 256, 300, 454]))
     if pick == 16:
         return []
     if pick == 17:
@@ -83,6 +99,7 @@ class Walk:
         self.sent, self.queued = 0, False
         self.turns = rng.randrange(8) == 0
         self.steady = rng.randrange(2) == 0
+        self.takes = rng.randrange(2) == 0
 
     def clock(self):
         rng = self.rng
@@ -119,7 +136,8 @@ class Walk:
         k = rng.randrange(100)
         if k < 22:
             self.queued = True
-            return " ".join(["queue"] + words_to_queue(rng))
+            words = words_to_queue(rng)
+            return " ".join(["queue" if len(words) <= 256 else "queuelong"] + words)
         if k < 42:
             self.sent += self.queued
             self.queued = False
@@ -130,18 +148,18 @@ class Walk:
             number = (self.sent - rng.choice([0, 1, 1, 2, 2, 3, 4, 5, 8, 20, 60])) % 65536
             return "request %d %d" % (number, rng.choice([0, 0, 1, 1, 2, 3, 10, 300, 65535]))
         if k < 78:
-            words = whole(rng, rng.choice([0, 1, 1, 2, 4, 64])) if rng.randrange(8) else ["%08X" % rng.getrandbits(32) for _ in range(rng.choice([1, 2, 65, 255]))]
+            words = whole(rng, rng.choice([0, 1, 1, 2, 4, 64])) if rng.randrange(8) else drawn(rng, rng.choice([1, 2, 65, 255]))
             return " ".join(["data %d %d" % (self.clock(), self.number())] + words)
         if k < 85:
             return "poll %d" % self.clock()
         if k < 88:
-            return "take"
+            return "take" if self.takes else "write %d" % self.clock()
         if k < 90:
             return "error %d %d" % (rng.choice([0, 1, 2, 255]), rng.randrange(65536))
         if k == 90:
             return "nak" if rng.randrange(4) == 0 else "poll %d" % self.clock()
         if k == 91:
-            return "deadline"
+            return rng.choice(["deadline", "next"])
         if k == 92:
             return "wants %d" % self.clock()
         if k == 93:
@@ -150,24 +168,33 @@ class Walk:
             return " ".join(["senddata %d" % rng.randrange(65536)] + words_to_queue(rng)[:rng.choice([1, 64, 65, 256])])
         if k == 95:
             return " ".join(["raw %02X %02X %02X" % (rng.choice([0x20, 0x21, 0x80, 0xFF, 0]), rng.randrange(256), rng.randrange(256))]
-                            + ["%08X" % rng.getrandbits(32) for _ in range(rng.choice([0, 1, 1, 2, 255, 256, 300]))])
-        if k < 99:
+                            + drawn(rng, rng.choice([0, 1, 1, 2, 255, 256, 300])))
+        if k < 98:
             return settings(rng) if rng.randrange(3) == 0 else DEFAULT
+        if k == 98:
+            number = (self.high - rng.choice([0, 1, 1, 2, 5, 31, 32, 63, 64, 65, 128, 129, -1, -5, 0x7FFF, 0x8000])) % 65536
+            return "window %d %d" % (number, rng.choice([0, 1, 2, 5, 64, 128, 0x8000, 0xFFFF]))
         return "reset" if rng.randrange(4) == 0 else "buffer"
 
 
-QUIET = ("deadline", "wants", "buffer", "read")
+SHOWN = {"state", "payload", "memory", "buffer", "last"}
+QUIET = ("deadline", "wants", "read", "next", "window")
+HEARD = ("data", "poll", "error", "nak")
 
 
-def seen(lines, every, rng):
-    """After each call the state and the payload, for large histories now and then."""
+def seen(lines):
+    """After each call the state, and the payload or what was heard in full."""
     out = []
-    for line in lines:
+    for i, line in enumerate(lines):
         out.append(line)
-        if line.startswith(QUIET) or (every > 1 and rng.randrange(every)):
+        if line in SHOWN or line.startswith(QUIET):
             continue
-        out.append("state")
-        if not line.startswith(("data", "poll", "error", "nak", "queue", "request")):
+        shown = lines[i + 1:i + 4]
+        if "state" not in shown:
+            out.append("state")
+        if line.startswith(HEARD):
+            out.append("last")
+        elif not line.startswith(("queue", "request")) and "payload" not in shown:
             out.append("payload")
     return out
 
@@ -175,11 +202,18 @@ def seen(lines, every, rng):
 def random_lists(seed):
     rng = random.Random(seed)
     while True:
-        c = rng.choice([65, 65, 66, 66, 256, 256, 256, 4096])
+        c = rng.choice([65, 65, 65, 66, 66, 66, 256, 256, 256, 256, 256, 4096])
         walk = Walk(rng)
         first = [DEFAULT if rng.randrange(2) else settings(rng), "new %d %d %d" % (rng.choice(WINDOWS), c, rng.choice(PLACES)), "open 1400 1400"]
         length = rng.choice([20, 60, 200, 600])
-        yield seen(first + list(walk.calls(length)), 40 if c == 4096 else 1, rng) + ["memory"]
+        yield seen(first + list(walk.calls(length))) + ["memory"]
+
+
+def every_size(seed):
+    """A list for each of the domain's sizes."""
+    rng = random.Random(seed)
+    for w, c, q in itertools.product(WINDOWS, WORDS, PLACES):
+        yield seen([DEFAULT, "new %d %d %d" % (w, c, q), "open 1400 1400"] + list(Walk(rng).calls(100))) + ["memory"]
 
 
 def turn_lists(seed):
@@ -192,9 +226,7 @@ def turn_lists(seed):
             lines += ["queue " + " ".join(message(rng, rng.choice([2, 4]))), "open 1400 1400", "write %d" % now]
             if rng.randrange(20) == 0 or i % 65536 < 4 or i % 65536 > 65531:
                 lines += ["request %d %d" % ((i - rng.randrange(6)) % 65536, rng.randrange(4)), "open %d 1400" % rng.choice([16, 40, 1400]), "write %d" % now, "payload"]
-            if i % 500 == 0 or i % 65536 < 8:
-                lines.append("state")
-        yield lines
+        yield seen(lines)
 
 
 def small_lists():
@@ -205,21 +237,22 @@ def small_lists():
     for w, q in [(1, 1), (2, 4)]:
         for n in (1, 2, 3):
             for some in itertools.product(calls, repeat=n):
-                yield seen([DEFAULT, "new %d 65 %d" % (w, q), "open 1400 1400"] + list(some), 1, None)
+                yield seen([DEFAULT, "new %d 65 %d" % (w, q), "open 1400 1400"] + list(some))
     for some in itertools.product(calls, repeat=4):
-        yield seen([DEFAULT, "new 2 65 1", "open 1400 1400"] + list(some), 1, None)
+        yield seen([DEFAULT, "new 2 65 1", "open 1400 1400"] + list(some))
 
 
 def sizes_lists():
     """Starts at and beyond every bound, in good and bad settings; lines that are no calls."""
     for cfg in [DEFAULT, "cfg 0 2 5 2 1 10 3 64", "cfg 100 0 5 2 1 10 3 64", "cfg 0 0 5 2 1 10 3 0", "cfg 301 2 5 2 1 10 3 65"]:
-        yield [cfg] + ["new %s" % s for s in ("0 256 4", "129 256 4", "64 64 4", "64 32769 4", "64 256 0", "64 256 17", "0 0 0", "18446744073709551615 256 4")] + [
-            "queue", "queue 20903C40", "write 0", "data 0 0", "poll 0", "take", "request 0 0", "state"]
-    yield ["bogus", "queue 2090", "queue 20903C4G", "write", "write 0 0", "write 18446744073709551616", "write 00018446744073709551615", "poll -1", "data 0",
+        yield seen([cfg] + ["new %s" % s for s in ("0 256 4", "129 256 4", "64 64 4", "64 32769 4", "64 256 0", "64 256 17", "0 0 0", "18446744073709551615 256 4")] + [
+            "queue", "queue 20903C40", "write 0", "data 0 0", "poll 0", "take", "request 0 0"])
+    yield seen(["bogus", "queue 2090", "queue 20903C4G", "write", "write 0 0", "write 18446744073709551616", "write 00018446744073709551615", "poll -1", "data 0",
            "data 0 65536", " write 0", "write 0 ", "write  0", "cfg 1 2 3", "cfg 100 2 256 2 1 10 3 64", "cfg 100 2 5 2 2 10 3 64", "open 1400 2049",
            "request 65536 0", "senderror 256 0", "read 4", "read 4D4G", "read 4d494449", "Write 0", "reset now", "nak 1", "state 1", "\t", "raw 1 02 03",
            "raw 100 02 03", "queue " + " ".join(["20903C40"] * 256), "queue " + " ".join(["20903C40"] * 257), "senddata 0 " + " ".join(["20903C40"] * 300),
-           "raw 77 00 00 " + " ".join(["20903C40"] * 301), "data 0 0 " + " ".join(["20903C40"] * 256), "poll " + "0" * 4000 + "7", "poll " + "0" * 4092, "state"]
+           "raw 77 00 00 " + " ".join(["20903C40"] * 301), "data 0 0 " + " ".join(["20903C40"] * 256), "queuelong", "queuelong 20903C4",
+           "queuelong " + " ".join(["20903C40"] * 454), "queuelong " + " ".join(["20903C40"] * 455), "next 1", "last 1", "window 1", "window 1 65536", "last", "poll " + "0" * 4000 + "7", "poll " + "0" * 4092])
 
 
 def read_lists(payloads, seed):
@@ -239,15 +272,23 @@ def read_lists(payloads, seed):
         for _ in range(rng.randrange(6)):
             n = rng.choice([0, 0, 1, 1, 2, 3, 64, 65, 255])
             b += bytes([rng.choice([0xFF, 0xFF, 0x80, 0x81, 0x20, 0x21, 0x8F, 0x77, rng.randrange(256)]), n, rng.randrange(256), rng.randrange(256)])
-            b += bytes(rng.getrandbits(8) for _ in range(4 * n))
+            b += rng.randbytes(4 * n)
         b += bytes(rng.randrange(4))
         yield ["read " + bytes(b[:rng.choice([len(b), len(b), 1400, 2000])]).hex().upper()]
 
 
+def ran(program, text):
+    """What a program answers to a text, and how it ended."""
+    with tempfile.TemporaryFile() as given:
+        given.write(text)
+        given.seek(0)
+        done = subprocess.run([program], stdin=given, stdout=subprocess.PIPE)
+    return done.stdout, done.returncode
+
+
 def run(program, lines):
-    text = "\n".join(lines) + "\n"
-    done = subprocess.run([program], input=text.encode(), stdout=subprocess.PIPE)
-    return done.stdout.decode().splitlines(), done.returncode
+    answers, ended = ran(program, ("\n".join(lines) + "\n").encode())
+    return answers.decode().splitlines(), ended
 
 
 def differ(pair, lines):
@@ -255,13 +296,14 @@ def differ(pair, lines):
     return a != b or a[1] != 0 or len(a[0]) != len(lines)
 
 
-def shorten(pair, lines):
+def shorten(lines, holds):
+    """As few of the lines as will do for what holds of all of them."""
     step = max(len(lines) // 2, 1)
     while True:
         i = 0
         while i < len(lines):
             less = lines[:i] + lines[i + step:]
-            if less and differ(pair, less):
+            if less and holds(less):
                 lines = less
             else:
                 i += step
@@ -270,18 +312,68 @@ def shorten(pair, lines):
         step //= 2
 
 
+class Progress:
+    """How far a run is and how long it will still take: a bar on a terminal, else a line a minute."""
+
+    def __init__(self, goal):
+        self.goal, self.start = goal, time.time()
+        self.bar = sys.stderr.isatty()
+        self.shown = self.start
+
+    def show(self, calls, lines):
+        now = time.time()
+        if now - self.shown < (0.5 if self.bar else 60):
+            return
+        self.shown = now
+        part = min(calls / self.goal, 1)
+        left = int((now - self.start) * (1 - part) / part)
+        left = "%d:%02d:%02d left" % (left // 3600, left // 60 % 60, left % 60) if part < 1 else "last lists"
+        text = "%3d %%, %d calls, %d lines compared, %s" % (100 * part, calls, lines, left)
+        if self.bar:
+            text = "\r[" + ("#" * int(30 * part)).ljust(30) + "] " + text + "\033[K"
+        print(text, end="" if self.bar else "\n", file=sys.stderr, flush=True)
+
+    def end(self):
+        if self.bar:
+            print("\r\033[K", end="", file=sys.stderr, flush=True)
+
+
+STREAM = {"new", "queue", "queuelong", "request", "write", "data", "poll", "error", "nak", "take", "reset", "deadline", "wants", "next", "window"}
+
+
+def kind_of(name, answer):
+    kind = answer.split(" ", 1)[0]
+    if kind == "refused":
+        return answer
+    if kind == "bad":
+        return kind
+    if name in ("next", "wants") or name == "deadline" and kind != "none":
+        return "figure"
+    if name == "write":
+        return "ok, more" if answer.split(" ")[2] == "1" else "ok"
+    if name == "take":
+        return answer
+    if name == "window":
+        return answer.split(" ")[1]
+    if name == "read":
+        return "ok, " + "+".join(sorted({x.split(":")[0] for x in answer.split(" ")[1:]}))
+    return kind
+
+
 class Comparison:
-    def __init__(self, pair):
-        self.pair, self.calls, self.lines, self.lists = pair, 0, 0, 0
-        self.counts, self.refusals, self.sample, self.payloads = collections.Counter(), collections.Counter(), {}, []
-        self.start = self.shown = time.time()
+    def __init__(self, pair, goal, keep):
+        self.pair, self.keep, self.progress = pair, keep, Progress(goal)
+        self.calls, self.lines, self.lists, self.on_stream, self.own = 0, 0, 0, 0, 0
+        self.counts, self.last, self.sizes = collections.Counter(), collections.Counter(), collections.Counter()
+        self.parts, self.corners, self.sample, self.payloads = {}, {}, {}, []
 
     def fail(self, batch):
+        self.progress.end()
         for lines in batch:
             if differ(self.pair, lines):
-                short = shorten(self.pair, lines)
+                short = shorten(lines, lambda less: differ(self.pair, less))
                 ours, theirs = (run(p, short)[0] for p in self.pair)
-                print("\nThese differ (call, ours, the Rust's):")
+                print("These differ (call, ours, the Rust's):")
                 for i, line in enumerate(short):
                     a, b = (x[i] if i < len(x) else "nothing" for x in (ours, theirs))
                     print("  " + line[:300] + "\n    " + a[:300] + ("" if a == b else "\n    " + b[:300] + "   <-"))
@@ -289,89 +381,149 @@ class Comparison:
         sys.exit("a batch differs, but no list of it does alone")
 
     def batch(self, batch):
+        """Runs lists one after the other on both, compares them whole, and counts. Answers every answer."""
         lines = list(itertools.chain.from_iterable(batch))
-        (ours, c1), (theirs, c2) = (run(p, lines) for p in self.pair)
-        if ours != theirs or c1 or c2 or len(ours) != len(lines):
+        text = ("\n".join(lines) + "\n").encode()
+        (ours, c1), (theirs, c2) = (ran(p, text) for p in self.pair)
+        answers = ours.decode().split("\n")
+        if ours != theirs or c1 or c2 or answers.pop() or len(answers) != len(lines):
             self.fail(batch)
         at = 0
         for one in batch:
-            for i, line in enumerate(one):
-                name = line.split(" ", 1)[0]
-                answer = ours[at + i]
-                if name == "payload":
-                    if len(self.payloads) < 20000 and answer != "-":
-                        self.payloads.append(answer)
-                    continue
-                if name in ("state", "memory", "buffer"):
-                    continue
-                self.calls += 1
-                kind = answer.split(" ", 1)[0]
-                if kind == "bad":
-                    name = "(no call)"
-                if kind == "refused":
-                    kind = answer
-                elif name == "deadline" and kind not in ("none", "bad"):
-                    kind = "time"
-                elif name == "write" and kind == "ok":
-                    kind = "ok, more" if answer.split(" ")[2] == "1" else "ok"
-                elif name == "take" and kind == "ok":
-                    kind = answer
-                elif name == "read" and kind == "ok":
-                    kind = "ok, " + "+".join(sorted({x.split(":")[0] for x in answer.split(" ")[1:]}))
-                self.counts[name, kind] += 1
-                if (name, kind) not in self.sample or len(self.sample[name, kind]) > i + 1:
-                    self.sample[name, kind] = one[:i + 1]
-                if answer.startswith("refused"):
-                    self.refusals[answer] += 1
+            self.count(one, answers[at:at + len(one)])
             at += len(one)
         self.lines += len(lines)
         self.lists += len(batch)
-        if time.time() - self.shown > 5:
-            self.shown = time.time()
-            print("%12d calls, %12d lines compared, %.0f s" % (self.calls, self.lines, self.shown - self.start), file=sys.stderr)
+        self.progress.show(self.calls, self.lines)
+        return answers
 
-    def all(self, lists, most):
-        batch, size, goal = [], 0, self.calls + most
+    def count(self, one, answers):
+        own = True
+        for i, (line, answer) in enumerate(zip(one, answers)):
+            if line in SHOWN:
+                if line == "last":
+                    self.last[answer.split(" ")[0] + (" by an error" if answer.startswith("loss") and answer != "loss -" else "")] += 1
+                elif line == "payload" and answer != "-" and len(self.payloads) < 20000:
+                    self.payloads.append(answer)
+                continue
+            name = line.split(" ", 1)[0] if answer != "bad" else "(no call)"
+            key = name, kind_of(name, answer)
+            self.calls += 1
+            self.counts[key] += 1
+            if name in STREAM:
+                if name == "take":
+                    own = False
+                elif name in ("new", "reset") and answer == "ok":
+                    own = True
+                    self.sizes[line] += name == "new"
+                self.on_stream += 1
+                self.own += own
+            if self.keep and (key not in self.sample or len(self.sample[key]) > i + 1):
+                self.sample[key] = one[:i + 1]
+
+    def all(self, part, lists, most=TOP):
+        """Runs a part of a run: its lists, up to so many calls."""
+        before = self.calls
+        batch, size = [], 0
         for one in lists:
             batch.append(one)
             size += len(one)
             if size >= BATCH:
                 self.batch(batch)
                 batch, size = [], 0
-                if self.calls >= goal:
-                    return
+                if self.calls - before >= most:
+                    break
         if batch:
             self.batch(batch)
+        self.parts[part] = self.calls - before
+
+    def directed(self, lists):
+        """Runs each list by itself, and looks for its corners in the answers."""
+        before = self.calls
+        for one in lists:
+            lines = seen(one.lines)
+            pairs = list(zip(lines, self.batch([lines])))
+            for corner, test in one.corners.items():
+                found = sum(1 for call, answer in pairs if test(call, answer))
+                if found == 0:
+                    sys.exit("the list '%s' no longer reaches '%s'" % (one.name, corner))
+                self.corners[corner] = self.corners.get(corner, 0) + found
+        self.parts["directed"] = self.calls - before
+
+    def every_size(self):
+        """How many lists there were of the size that had fewest; none is an error."""
+        fewest = min(self.sizes["new %d %d %d" % size] for size in itertools.product(WINDOWS, WORDS, PLACES))
+        if fewest == 0:
+            sys.exit("a size of the domain was not run")
+        return fewest
+
+    def summary(self, seed):
+        self.progress.end()
+        print("%d calls in %d lists, %d lines compared (seed %d): no difference" % (self.calls, self.lists, self.lines, seed))
+        print("  parts: " + ", ".join("%s %d" % x for x in self.parts.items()))
+        print("  sizes: all %d of the domain, each in %d lists or more" % (len(WINDOWS) * len(WORDS) * len(PLACES), self.every_size()))
+        print("  %d on a stream, %d of them before any take: on the Rust's own DataStream" % (self.on_stream, self.own))
+        for name in sorted({n for n, _ in self.counts}):
+            print("  %-12s" % name + ", ".join("%s %d" % (k, v) for (n, k), v in sorted(self.counts.items()) if n == name))
+        print("  last        " + ", ".join("%s %d" % x for x in sorted(self.last.items())))
+        refusals = collections.Counter()
+        for (_, kind), n in self.counts.items():
+            if kind.startswith("refused"):
+                refusals[int(kind.split(" ")[1])] += n
+        print("  refusals: " + ", ".join("%d %d" % x for x in sorted(refusals.items())))
+        print("  corners: " + ", ".join("%s (%d)" % x for x in self.corners.items()))
+
+
+def short_sample(oracle, key, lines):
+    """A shorter list with an answer of the same kind to its last call; its start, the sizes and settings, stays."""
+    start, rest = lines[:9], lines[9:]
+
+    def holds(less):
+        answers, ended = run(oracle, start + less)
+        return ended == 0 and less[-1] == rest[-1] and kind_of(key[0], answers[-1]) == key[1]
+
+    return seen(start + shorten(rest, holds)) if rest else lines
+
+
+def keep(folder, oracle, sample):
+    """The directed lists come first: one of them begins with a run's start."""
+    text = ["# Directed lists (tools/directed.py). The answers to these and to all that follow are the Rust's."]
+    for one in directed.lists():
+        if one.kept:
+            text += ["# " + one.name] + one.lines
+    text += [""] + open(here + "/../examples/cases.script").read().splitlines()
+    text += ["", "# A sample of made lists, each up to a first answer of its kind (tools/compare.py --keep)."]
+    short = [(key, short_sample(oracle, key, lines)) for key, lines in sample.items()]
+    for key, lines in sorted(short, key=lambda x: (len(x[1]), x[0])):
+        text += ["# " + ": ".join(key)] + lines
+    calls = [line for line in text if line and not line.startswith("#")]
+    open(folder + "/stdin", "w").write("\n".join(text) + "\n")
+    open(folder + "/stdout", "w").write("\n".join(run(oracle, calls)[0]) + "\n")
 
 
 def main():
     args = argparse.ArgumentParser()
-    args.add_argument("--calls", type=int, default=1000000)
+    args.add_argument("--calls", type=int, default=2000000)
     args.add_argument("--seed", type=int, default=1)
     args.add_argument("--random", action="store_true")
     args.add_argument("--keep")
     args = args.parse_args()
-    oracle = subprocess.run([here + "/oracle/build"], stdout=subprocess.PIPE, check=True).stdout.decode().strip()
-    it = Comparison((here + "/../target/bin/replay", oracle))
+    built = subprocess.run([here + "/oracle/build"], stdout=subprocess.PIPE)
+    if built.returncode:
+        sys.exit("no oracle, nothing compared")
+    oracle = built.stdout.decode().strip()
+    it = Comparison((here + "/../target/bin/replay", oracle), args.calls, args.keep)
+    it.directed(directed.lists())
+    it.all("every size", every_size(args.seed))
     if not args.random:
-        it.all(sizes_lists(), TOP)
-        it.all(small_lists(), TOP)
-        it.all(turn_lists(args.seed), TOP)
-    it.all(random_lists(args.seed), args.calls - it.calls - args.calls // 20)
-    it.all(read_lists(it.payloads, args.seed), args.calls - it.calls)
-    print("%d calls in %d lists, %d lines compared (seed %d): no difference" % (it.calls, it.lists, it.lines, args.seed))
-    names = sorted({n for n, _ in it.counts})
-    for name in names:
-        print("  %-12s" % name + ", ".join("%s %d" % (k, v) for (n, k), v in sorted(it.counts.items()) if n == name))
-    print("  refusals: " + ", ".join("%s %d" % (k.split(" ")[1], v) for k, v in sorted(it.refusals.items(), key=lambda x: int(x[0].split(" ")[1]))))
+        it.all("sizes and lines refused", sizes_lists())
+        it.all("short", small_lists())
+        it.all("turns", turn_lists(args.seed))
+    it.all("drawn", random_lists(args.seed), args.calls - it.calls - args.calls // 20)
+    it.all("read", read_lists(it.payloads, args.seed), args.calls - it.calls)
+    it.summary(args.seed)
     if args.keep:
-        text = open(here + "/../examples/cases.script").read().splitlines()
-        text += ["", "# A sample of made lists, each up to a first answer of its kind (tools/compare.py --keep). The answers are the Rust's."]
-        for kind, lines in sorted(it.sample.items(), key=lambda x: len(x[1])):
-            text += ["# " + ": ".join(kind)] + lines
-        calls = [line for line in text if line and not line.startswith("#")]
-        open(args.keep + "/stdin", "w").write("\n".join(text) + "\n")
-        open(args.keep + "/stdout", "w").write("\n".join(run(oracle, calls)[0]) + "\n")
+        keep(args.keep, oracle, it.sample)
 
 
 if __name__ == "__main__":

@@ -31,7 +31,10 @@ def run(program, given):
 def main():
     count = int(sys.argv[1]) if len(sys.argv) > 1 else 1000000
     seed = int(sys.argv[2]) if len(sys.argv) > 2 else 1
-    oracle = subprocess.run([here + "/oracle/build"], stdout=subprocess.PIPE, check=True).stdout.decode().strip()
+    built = subprocess.run([here + "/oracle/build"], stdout=subprocess.PIPE)
+    if built.returncode:
+        sys.exit("no oracle, nothing compared")
+    oracle = built.stdout.decode().strip()
     stream = list(numbers(count, seed))
     script = "new 64 256 4\n" + "".join("data 0 %d\n" % n for n in stream)
     ours = [line.split(" ")[1:] for line in run(here + "/../target/bin/arrivals", b"".join(n.to_bytes(2, "big") for n in stream))]

@@ -7,6 +7,7 @@ use receiver::receiver::Delivery;
 use receiver::receiver::Hearing;
 use receiver::receiver::Request;
 use receiver::receiver::StreamEvent;
+use sender::sender::Next;
 use sender::sender::RequestOutcome;
 use sender::sender::Send;
 use sender::sender::Writing;
@@ -16,6 +17,7 @@ use stream::stream::Wants;
 use text::forms;
 use text::forms::Answer;
 use window::window::Class;
+use window::window::SeqRange;
 use window::window::Span;
 
 // The entries of the table in `say`, in its order.
@@ -49,15 +51,26 @@ const MORE: usize = 13;
 
 const FIGURE: usize = 14;
 
-// These two are followed by the words that are handed on.
+// These three are followed by the words that are handed on.
 pub const NEW: usize = 15;
 
 pub const LATE: usize = 16;
 
-const DUPLICATE: usize = 17;
+pub const DUPLICATE: usize = 17;
 
 // What is printed as it stands follows.
 pub const SHOWN: usize = 18;
+
+// What `last` answers.
+const NO_GAP: usize = 19;
+
+const GAP: usize = 20;
+
+const LOSS_ALONE: usize = 21;
+
+const LOSS_BY: usize = 22;
+
+const ERROR_BY: usize = 23;
 
 // Prints an answer.
 pub fn say(out: &mut [u8], used: usize, answer: Answer) -> usize {
@@ -65,7 +78,8 @@ pub fn say(out: &mut [u8], used: usize, answer: Answer) -> usize {
         out,
         used,
         b"bad|ok|refused #|queued|pending|full|error # #|notsupported|none|loss # #|error|\
-        ok # # #|ok #|more|#|N # # # |L 0 0 0 |D 0 0 0 - 0||",
+        ok # # #|ok #|more|#|N # # # |L # # # |D # # # ||\
+        delivery # -|delivery # #,#|loss -|loss #,#|error #,#|",
         answer,
     )
 }
@@ -184,21 +198,36 @@ pub fn wants(w: Wants) -> Answer {
     }
 }
 
-// The gap of a New, and the loss that it brings.
-fn new(gap: u16, lost: Span) -> Answer {
-    match lost {
-        Span::Nothing => of(NEW, gap as u64, 0, 0),
-        Span::Of(range) => of(NEW, gap as u64, range.count as u64, range.first as u64),
+pub fn next(n: Next) -> Answer {
+    match n {
+        Next::Number(seq) => of(FIGURE, seq as u64, 0, 0),
+        Next::Refused(why) => refused(why),
     }
 }
 
+// The numbers of a span; none, from 0 on, where there is nothing.
+fn numbers(s: Span) -> SeqRange {
+    match s {
+        Span::Nothing => SeqRange { first: 0, count: 0 },
+        Span::Of(range) => range,
+    }
+}
+
+fn classed(form: usize, gap: u16, lost: SeqRange) -> Answer {
+    of(form, gap as u64, lost.count as u64, lost.first as u64)
+}
+
+// The class, the numbers skipped, and the loss that it brings.
 fn delivery(d: Delivery) -> Answer {
     let class = d.class;
+    let gap = d.gap;
     let lost = d.lost;
+    let skipped = numbers(gap);
+    let left = numbers(lost);
     match class {
-        Class::New(gap) => new(gap, lost),
-        Class::Late => plain(LATE),
-        Class::Duplicate => plain(DUPLICATE),
+        Class::New(gap) => classed(NEW, gap, left),
+        Class::Late => classed(LATE, skipped.count, left),
+        Class::Duplicate => classed(DUPLICATE, skipped.count, left),
     }
 }
 
@@ -207,4 +236,35 @@ pub fn hearing(h: Hearing) -> Answer {
         Hearing::Delivery(d) => delivery(d),
         Hearing::Refused(why) => refused(why),
     }
+}
+
+// What a delivery's answer leaves out: the number, and the first of those skipped.
+fn delivery_last(d: Delivery) -> Answer {
+    let gap = d.gap;
+    match gap {
+        Span::Nothing => of(NO_GAP, d.seq as u64, 0, 0),
+        Span::Of(range) => of(GAP, d.seq as u64, range.first as u64, range.count as u64),
+    }
+}
+
+pub fn hearing_last(h: Hearing) -> Answer {
+    match h {
+        Hearing::Delivery(d) => delivery_last(d),
+        Hearing::Refused(_) => plain(NONE),
+    }
+}
+
+// What an event's answer leaves out: the error that told it.
+pub fn event_last(e: StreamEvent) -> Answer {
+    match e {
+        StreamEvent::DataLoss(_) => plain(LOSS_ALONE),
+        StreamEvent::ErrorLoss(_, by) => of(LOSS_BY, by.reason as u64, by.seq as u64, 0),
+        StreamEvent::RetransmitError(by) => of(ERROR_BY, by.reason as u64, by.seq as u64, 0),
+        StreamEvent::Nothing => plain(NONE),
+        StreamEvent::Refused(_) => plain(NONE),
+    }
+}
+
+pub fn none() -> Answer {
+    plain(NONE)
 }

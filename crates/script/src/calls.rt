@@ -55,6 +55,14 @@ pub const STATE: usize = 22;
 
 pub const MEMORY: usize = 23;
 
+pub const WINDOW: usize = 24;
+
+pub const NEXT: usize = 25;
+
+pub const LAST: usize = 26;
+
+pub const QUEUELONG: usize = 27;
+
 // A call, its figures and bytes in their order, and how many words it has.
 pub struct Call {
     pub kind: usize,
@@ -72,6 +80,7 @@ pub struct Call {
 // The most words that a call takes.
 fn most(kind: usize) -> usize {
     match kind {
+        QUEUELONG => 454,
         QUEUE => 256,
         DATA => 255,
         _ => 300,
@@ -112,7 +121,8 @@ pub fn read(line: &[u8], words: &mut [u32]) -> Call
     let found = forms::read(
         b"cfg 44118418|open 88|raw xxx*|senddata 2*|sendrequest 22|senderror 12|\
         new 888|queue *|request 22|data 82*|poll 8|error 12|nak |reset |deadline |wants 8|\
-        write 8|take |read .|payload |buffer |state |memory |",
+        write 8|take |read .|payload |buffer |state |memory |window 22|next |last |\
+        queuelong *|",
         line,
         &mut figures,
         words,
@@ -163,14 +173,15 @@ pub fn run(s: Session, c: Call, words: &[u32], memory: &mut [u32], buffer: &mut 
         OPEN => codec::open(s, c, buffer),
         RAW | SENDDATA | SENDREQUEST | SENDERROR => codec::sends(s, c, words, buffer),
         NEW => streams::new(s, c, memory),
-        QUEUE => streams::queue(s, words, memory),
+        QUEUE | QUEUELONG => streams::queue(s, words, memory),
         REQUEST => streams::request(s, c, &memory[..]),
         DATA => streams::data(s, c),
         POLL | ERROR | NAK => streams::events(s, c),
         RESET => streams::reset(s, memory),
-        DEADLINE | WANTS => s.answers(streams::asks(s.stream, c, &memory[..])),
+        DEADLINE | WANTS | NEXT => s.answers(streams::asks(s.stream, c, &memory[..])),
         WRITE => streams::write(s, c, memory, buffer),
         TAKE => streams::take(s, buffer),
+        LAST => s.answers(s.last),
         _ => s.answers(said(kind)),
     }
 }

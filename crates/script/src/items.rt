@@ -112,28 +112,28 @@ fn item(to: &mut [u8], used: usize, header: Header, body: &[u8]) -> usize {
     let o = say(to, used, name);
     let form = name.form;
     match form {
-        DATA => handed(to, o, body, b':'),
+        DATA => handed(to, o, Class::Late, body, b':'),
         RAW => out::bytes(to, o, body),
         _ => o,
     }
 }
 
-// The words of whole messages, and whether the words end inside a message.
-fn handed(to: &mut [u8], used: usize, body: &[u8], between: u8) -> usize {
-    let words = out::bytes(to, used, messages::handed_on(Class::Late, body));
+// The words of whole messages that a command of this class hands on, and whether they end inside a message.
+fn handed(to: &mut [u8], used: usize, class: Class, body: &[u8], between: u8) -> usize {
+    let words = out::bytes(to, used, messages::handed_on(class, body));
     let o = out::byte(to, words, between);
-    out::decimal(to, o, answers::bit(messages::is_cut(Class::Late, body)))
+    out::decimal(to, o, answers::bit(messages::is_cut(class, body)))
 }
 
 // The same of the words of a data command, which are laid out as they come over the line.
-pub fn heard(to: &mut [u8], used: usize, words: &[u32]) -> usize {
+pub fn heard(to: &mut [u8], used: usize, class: Class, words: &[u32]) -> usize {
     let mut bytes = [0u8; 1400];
     let p = PayloadWriter { len: 0, max: 1400 };
     p.command(&mut bytes, 0xFF, 0, 0, words);
-    laid(to, used, &bytes, words.len())
+    laid(to, used, class, &bytes, words.len())
 }
 
-fn laid(to: &mut [u8], used: usize, bytes: &[u8], words: usize) -> usize {
+fn laid(to: &mut [u8], used: usize, class: Class, bytes: &[u8], words: usize) -> usize {
     if 255 < words {
         return used;
     }
@@ -141,5 +141,5 @@ fn laid(to: &mut [u8], used: usize, bytes: &[u8], words: usize) -> usize {
     if bytes.len() < end {
         return used;
     }
-    handed(to, used, &bytes[8..end], b' ')
+    handed(to, used, class, &bytes[8..end], b' ')
 }

@@ -14,12 +14,23 @@
 //   receive   read BYTES, data NOW NUMBER WORD.., poll NOW, error REASON NUMBER, nak
 //   ask       deadline, wants NOW, state, payload, buffer, memory
 //
+// Those are the papers' calls. These show what they leave out; SPAN is FIRST,COUNT, or - for nothing:
+//
+//   queuelong WORD..      queue, with up to 454 words, all that a line holds; queue takes 256
+//   next                  the number that the next written command gets
+//   last                  what the last data, poll, error or nak gave beside its answer:
+//                         delivery NUMBER SPAN (the numbers skipped), loss -, loss REASON,NUMBER (a
+//                         Retransmit Error told it), error REASON,NUMBER, or none
+//   window NUMBER COUNT   class C GAP processed P missing SPAN request SPAN marked SPAN bits BITS: what
+//                         the window takes NUMBER for (N, L or D), what it lacks and would ask for; what
+//                         marking COUNT numbers from NUMBER on in a copy of it marks, and the copy's bits
+//
 // Figures are decimal, WORD, BYTES, CODE, CSD1 and CSD2 hexadecimal. Empty lines and those that begin
 // with # answer nothing. A line that is no call answers `bad`, a refusal `refused N` by its number; in
 // both cases nothing changes but what 01 says.
 //
 // calls names them and reads their fields; codec and streams run them; answers, items and state say what
-// is printed, and show puts the line together. Lines, fields and output are the crate `text`'s.
+// is printed, and show puts the line together (windows: that of window). Lines, fields and output are the crate `text`'s.
 mod answers;
 mod calls;
 mod codec;
@@ -28,6 +39,7 @@ mod session;
 mod show;
 mod state;
 mod streams;
+mod windows;
 
 use calls::Call;
 use session::Session;
@@ -62,7 +74,7 @@ fn whole(
     if lines::skipped(line) {
         return s;
     }
-    let mut words = [0u32; 300];
+    let mut words = [0u32; 454];
     let c = calls::read(line, &mut words);
     let n = c.words;
     let m = streams::lent(&memory[..], s.words_lent(c));

@@ -15,6 +15,8 @@ pub struct Session {
     pub stream: DataStream,
     // To the last call.
     pub answer: Answer,
+    // What `last` answers.
+    pub last: Answer,
     // The bytes of output that wait to be written.
     pub waits: usize,
 }
@@ -28,6 +30,7 @@ impl Session {
             room: 1400,
             stream,
             answer: answers::plain(answers::DONE),
+            last: answers::none(),
             waits: 0,
         }
     }
@@ -46,6 +49,14 @@ impl Session {
     pub fn goes_on(mut self, stream: DataStream, answer: Answer) -> Session {
         self.stream = stream;
         self.answer = answer;
+        self
+    }
+
+    // After data, poll, error or nak: what their answer leaves out is kept.
+    pub fn hears(mut self, stream: DataStream, answer: Answer, last: Answer) -> Session {
+        self.stream = stream;
+        self.answer = answer;
+        self.last = last;
         self
     }
 

@@ -80,7 +80,11 @@ pub fn data(s: Session, c: Call) -> Session {
     let seq = calls::half(c.b);
     let heard = DataStream::on_ump_data(s.stream, s.settings, c.a, UmpData { seq });
     let answer = heard.answer;
-    s.goes_on(heard.stream, answers::hearing(answer))
+    s.hears(
+        heard.stream,
+        answers::hearing(answer),
+        answers::hearing_last(answer),
+    )
 }
 
 // poll NOW, error REASON NUMBER, nak
@@ -96,7 +100,11 @@ fn told(stream: DataStream, cfg: StreamConfig, c: Call) -> Told {
 pub fn events(s: Session, c: Call) -> Session {
     let told = told(s.stream, s.settings, c);
     let event = told.event;
-    s.goes_on(told.stream, answers::event(event))
+    s.hears(
+        told.stream,
+        answers::event(event),
+        answers::event_last(event),
+    )
 }
 
 // reset
@@ -106,11 +114,12 @@ pub fn reset(s: Session, memory: &mut [u32]) -> Session {
     s.goes_on(was.stream, answers::reset(answer))
 }
 
-// deadline, wants NOW
+// deadline, wants NOW, next
 pub fn asks(stream: DataStream, c: Call, memory: &[u32]) -> Answer {
     let kind = c.kind;
     match kind {
         calls::WANTS => answers::wants(stream.wants_write(memory, c.a)),
+        calls::NEXT => answers::next(stream.sender.next_seq(memory)),
         _ => answers::deadline(stream.next_deadline(memory)),
     }
 }

@@ -24,6 +24,9 @@ pub enum Call {
     Wants(u64),
     State,
     Memory,
+    Window { seq: u16, count: u16 },
+    Next,
+    Last,
 }
 
 fn decimal<T: TryFrom<u64>>(field: &str) -> Option<T> {
@@ -82,6 +85,7 @@ pub fn call(line: &[u8]) -> Option<Call> {
         },
         ("new", [w, c, q]) => Call::New { w: decimal(w)?, c: decimal(c)?, q: decimal(q)? },
         ("queue", ws) => Call::Queue(words(ws, 256)?),
+        ("queuelong", ws) => Call::Queue(words(ws, 454)?),
         ("request", [seq, count]) => Call::Request { seq: decimal(seq)?, count: decimal(count)? },
         ("open", [limit, buffer]) => {
             let buffer = decimal(buffer)?;
@@ -110,6 +114,9 @@ pub fn call(line: &[u8]) -> Option<Call> {
         ("wants", [now]) => Call::Wants(decimal(now)?),
         ("state", []) => Call::State,
         ("memory", []) => Call::Memory,
+        ("window", [seq, count]) => Call::Window { seq: decimal(seq)?, count: decimal(count)? },
+        ("next", []) => Call::Next,
+        ("last", []) => Call::Last,
         _ => return None,
     })
 }

@@ -1,7 +1,10 @@
 //! Answers the call script on standard input with the Rust: one line for each call. The script is that of
-//! the program `replay`. Everything that is not the Rust's own answer is in `normal.rs`.
+//! the program `replay`. Everything that is not the Rust's own answer is in `normal.rs`, but for `bad`,
+//! which is `line.rs`'s: a line that is no call.
 mod line;
 mod normal;
+mod show;
+mod stream;
 mod world;
 
 use std::io::{BufRead, Write};

@@ -1,7 +1,8 @@
-//! What is not the Rust's own answer: the intended differences (docs/DIFFERENCES.md), in one place.
-use zmidi_net::command::CommandError;
-use zmidi_net::packet::PacketError;
-use zmidi_net::stream::{StreamConfig, StreamError};
+//! What is not the Rust's own answer, in one place: the numbers of refusals, the intended differences
+//! (docs/DIFFERENCES.md), and the two ends of a stream held apart, which `take` asks for.
+use zmidi_net::command::{CommandError, Malformed};
+use zmidi_net::packet::{PacketError, PayloadWriter};
+use zmidi_net::stream::{DataStream, Receiver, Sender, StreamConfig, StreamError, Written};
 
 /// The number of each refusal.
 pub fn packet(e: PacketError) -> u32 {
@@ -12,6 +13,10 @@ pub fn packet(e: PacketError) -> u32 {
         PacketError::InvalidValue => 4,
         PacketError::Empty => unreachable!("the script has no finish"),
     }
+}
+
+pub fn malformed(_: Malformed) -> u32 {
+    10
 }
 
 pub fn command(e: CommandError) -> u32 {
@@ -54,4 +59,53 @@ pub fn buffer(bytes: &[u8], len: usize, fill: u8) -> Vec<u8> {
 /// Only these codes are typed: others are handed on raw.
 pub fn is_typed(code: u8) -> bool {
     matches!(code, 0xFF | 0x80 | 0x81)
+}
+
+/// A stream's two ends. `DataStream` writes a due request only together with what the sender has to
+/// write, and lends its ends for reading alone. So from a stream's first `take` on, up to the next `new`
+/// or `reset`, its ends are held apart, and what `DataStream` makes of both is put together here as it
+/// does: these three, and the reset. A stream that is asked for no `take` is a `DataStream` throughout.
+pub struct Apart<const W: usize, const C: usize, const Q: usize> {
+    pub sender: Sender<C, Q>,
+    pub receiver: Receiver<W>,
+}
+
+impl<const W: usize, const C: usize, const Q: usize> Apart<W, C, Q> {
+    pub fn of(stream: &DataStream<W, C, Q>) -> Self {
+        Apart { sender: stream.sender().clone(), receiver: stream.receiver().clone() }
+    }
+
+    pub fn write_data(&mut self, cfg: &StreamConfig, now: u64, w: &mut PayloadWriter<'_>) -> Result<Written, StreamError> {
+        let before = w.len();
+        if self.receiver.write_request(cfg, w)? {
+            return Ok(Written { commands: 0, more: true });
+        }
+        let taken = usize::from(w.len() != before);
+        let sent = self.sender.write(cfg, now, w)?;
+        Ok(Written { commands: taken + sent.commands, more: sent.more })
+    }
+
+    pub fn next_deadline(&self) -> Option<u64> {
+        match (self.sender.next_deadline(), self.receiver.next_deadline()) {
+            (Some(a), Some(b)) => Some(a.min(b)),
+            (a, b) => a.or(b),
+        }
+    }
+
+    pub fn wants_write(&self, now: u64) -> bool {
+        self.receiver.request_due() || self.sender.wants_write(now)
+    }
+
+    pub fn reset(&mut self) {
+        self.sender.reset();
+        self.receiver.reset();
+    }
+}
+
+/// The Rust's reset keeps old history words and ring places. What it leaves otherwise has to be the
+/// fresh state, which then takes its place.
+pub fn fresh<const W: usize, const C: usize, const Q: usize>(left: &str, state: impl Fn(&DataStream<W, C, Q>) -> String) -> DataStream<W, C, Q> {
+    let fresh = DataStream::new(StreamConfig::DEFAULT).expect("the default settings");
+    assert_eq!(left, state(&fresh), "a reset leaves the fresh state");
+    fresh
 }
