@@ -3,6 +3,9 @@
 // first (0 where there is none). An odd last byte adds the line `cut`.
 //
 // It streams: two buffers, whatever the length of the input.
+ghost use mathlib.Core.Path.{_≡_};
+ghost use Prim.Native.Nat.{_+_, _*_};
+
 mod out;
 
 use out::Out;
@@ -87,7 +90,10 @@ fn arrive(window: ReceiveWindow, to: Out, buf: &mut [u8], seq: u16) -> Step {
     }
 }
 
-fn number(high: u8, low: u8) -> u16 {
+// The higher byte comes first.
+fn number(high: u8, low: u8) -> u16
+    ensures { λ r. ⌜ r ≡ high * 256 + low ⌝ }
+{
     (high as u16) * 0x100 + (low as u16)
 }
 

@@ -8,9 +8,9 @@ use lib.ListN.{length}
 use lib.Dec.{eqb, leb, ltb}
 use borrow.Author.Tests.{eqb-true}
 use Rattle.config.specs.Range.{outside}
-use Rattle.config.specs.Refusals.{numberOf}
 use Rattle.config.specs.Settings.{checkOf, tested}
 use Rattle.config.specs.declared.refusal.Refusal.{Refusal}
+use Rattle.config.specs.declared.refusal.Refusal.the-variants.{TooLarge}
 use Rattle.config.specs.declared.settings.Check.{Check}
 use Rattle.config.specs.declared.settings.Check.the-variants.{Passed, Refused}
 use Rattle.config.specs.declared.settings.StreamConfig.{StreamConfig}
@@ -281,7 +281,7 @@ module _ (r : Receiver) (p : PayloadWriter) (b : List ℕ) where
   offered : (q : RetransmitRequest) (w : CommandWrote × List ℕ) → Outcome p b (requestPacket q) w
       → Taking r p b (takenBy r q (w .0 .payload) (w .0 .answer), w .1)
   offered q w (notPut why) =
-      either (λ (a : Request). Taking r p b (record { receiver = r; payload = p; answer = a }, b)) (eqb (numberOf why) 2) _ _ (λ _. more) (refused why)
+      either (λ (a : Request). Taking r p b (record { receiver = r; payload = p; answer = a }, b)) (eqb (p .len) 0) _ _ (λ _. refused TooLarge) more
   offered q w (put f l) = taken _ _ _
 
   taken-span : (s : Span) → Taking r p b (takenSpan r p b s)

@@ -3,3 +3,4 @@ pub mod Messages
 pub mod Written
 pub mod Parsing
 pub mod RoundTrip
+mod Covered

@@ -9,15 +9,13 @@ use lib.ListN.{length, set, getD}
 use lib.Seq.{getD-set-other, getD-set-same}
 use lib.Dec.{leb, ltb}
 use Rattle.config.specs.Range.{within, outside}
-use Rattle.config.specs.declared.refusal.Refusal.the-variants.{InvalidState}
 use Rattle.config.proofs.Tests.{and-left, and-right}
 use Rattle.history.specs.Ring.{slotOf}
-use Rattle.history.specs.Queue.{blank, noneWait, queueOk, Fit, request, requests, waiting, asks, oldestOf, behind, popped, inFront, answered, pushAnswer, pushOf, popOf, setFrontOf}
+use Rattle.history.specs.Queue.{blank, noneWait, queueOk, Fit, request, requests, waiting, asks, oldestOf, behind, popped, inFront, answered, pushAnswer, popOf, setFrontOf}
 use Rattle.command.specs.declared.retransmit.RetransmitRequest.{RetransmitRequest}
 use Rattle.history.specs.declared.queue.RetransmitQueue.{RetransmitQueue}
 use Rattle.history.specs.declared.queue.Ignored.the-variants.{Pending, Full}
-use Rattle.history.specs.declared.queue.Push.the-variants.{Queued, Ignored, Refused}
-use Rattle.history.specs.declared.queue.Pushed.{Pushed}
+use Rattle.history.specs.declared.queue.Push.the-variants.{Queued, Ignored}
 use Rattle.history.specs.declared.queue.Oldest.{Oldest}
 use Rattle.history.specs.declared.queue.Oldest.the-variants.{Request, Nothing}
 use Rattle.history.proofs.Slots.{slot-in, slot-zero, slot-add, slot-apart}
@@ -87,14 +85,6 @@ module _ (q : RetransmitQueue) (r : RetransmitRequest) where
         → answered (record { items = set (q .items) at r; head = q .head; len = q .len + 1; size = q .size }) Queued ≡ pushAnswer q r
     unfolding pushAnswer
     push-queued at p s = rw (e, lt-leb _ _ p, s)
-
-  pub push-tested : (a : Pushed) → queueOk q ≡ true → a ≡ pushAnswer q r → a ≡ pushOf q r
-  unfolding pushOf
-  push-tested a e f = rw (e, f)
-
-  pub push-refused : queueOk q ≡ false → answered q (Refused InvalidState) ≡ pushOf q r
-  unfolding pushOf
-  push-refused e = rw e
 
   pub set-none : q .len ≡ 0 → q ≡ setFrontOf q r
   unfolding setFrontOf

@@ -96,11 +96,13 @@ module _ (b : List ℕ) (last unsent words k i n u : ℕ) where
 
 -- ---- the state
 
+pub size-bounds : (low high n : ℕ) → outside low high n ≡ false → (low ≤ n) × (n ≤ high)
+size-bounds low high n s =
+    let t = not-false (within low high n) s in
+    (leb-true _ _ (and-left (leb low n) _ t), leb-true _ _ (and-right (leb low n) _ t))
+
 size-in : (n : ℕ) → outside 65 32768 n ≡ false → within 65 32768 n ≡ true
 size-in n s = not-false (within 65 32768 n) s
-
-pub size-bounds : (n : ℕ) → outside 65 32768 n ≡ false → (65 ≤ n) × (n ≤ 32768)
-size-bounds n s = (leb-true _ _ (and-left (leb 65 n) _ (size-in n s)), leb-true _ _ (and-right (leb 65 n) _ (size-in n s)))
 
 module _ (h : SendHistory) (b : List ℕ) (unsent words : ℕ) where
   pub test-size : outside 65 32768 (h .size) ≡ true → false ≡ stateOk h b unsent words

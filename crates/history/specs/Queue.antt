@@ -5,13 +5,12 @@ use Prim.Native.Nat.{ℕ, zero, suc, _+_, _-_, _≤_, _<_}
 use lib.ListN.{set, getD, replicate}
 use lib.Dec.{ltb, leb, eqb}
 use Rattle.config.specs.Range.{within}
-use Rattle.config.specs.declared.refusal.Refusal.the-variants.{InvalidState}
 use Rattle.history.specs.Ring.{slotOf}
 use Rattle.command.specs.declared.retransmit.RetransmitRequest.{RetransmitRequest}
 use Rattle.history.specs.declared.queue.RetransmitQueue.{RetransmitQueue}
 use Rattle.history.specs.declared.queue.Ignored.the-variants.{Pending, Full}
 use Rattle.history.specs.declared.queue.Push.{Push}
-use Rattle.history.specs.declared.queue.Push.the-variants.{Queued, Ignored, Refused}
+use Rattle.history.specs.declared.queue.Push.the-variants.{Queued, Ignored}
 use Rattle.history.specs.declared.queue.Pushed.{Pushed}
 use Rattle.history.specs.declared.queue.Oldest.{Oldest}
 use Rattle.history.specs.declared.queue.Oldest.the-variants.{Request, Nothing}
@@ -79,10 +78,6 @@ pushAnswer q r =
     cond (asks (waiting q) (r .seq)) (answered q (Ignored Pending))
     (cond (leb (q .size) (q .len)) (answered q (Ignored Full))
     (answered (behind q r) Queued))
-
--- 13 comes first
-unfoldable pub pushOf : RetransmitQueue → RetransmitRequest → Pushed
-pushOf q r = cond (queueOk q) (pushAnswer q r) (answered q (Refused InvalidState))
 
 unfoldable pub popOf : RetransmitQueue → Popped
 popOf q = record { queue = cond (eqb (q .len) 0) q (popped q); oldest = oldestOf (waiting q) }

@@ -15,8 +15,8 @@ abbrev pub fresh : ℕ → SendHistory
 fresh size = record { size = size; head = 0; used = 0; count = 0; oldest = 0; last = 0 }
 
 -- 01, "Start": a start and a reset zero the lent history
-abbrev pub cleared : SendHistory → List ℕ → SendHistory × List ℕ
-cleared h b = (fresh (h .size), replicate (length b) 0)
+abbrev pub cleared : ℕ → List ℕ → SendHistory × List ℕ
+cleared size b = (fresh size, replicate (length b) 0)
 
 -- unless there is none, the newest of k headers from place i on stands at `last`
 abbrev pub newestAt : ℕ → List ℕ → ℕ → ℕ → Bool

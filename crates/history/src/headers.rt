@@ -10,8 +10,8 @@ ghost use mathlib.Core.Bool.{true, cond};
 ghost use Prim.Native.Nat.{ℕ, _≤_, _<_};
 ghost use lib.ListN.{length};
 ghost use Rattle.history.specs.Walk.{Ran, Walked};
-use super::history::least;
 use super::ring;
+use config::range::least;
 use config::sequence::SeqNum;
 
 // The most words of one command.

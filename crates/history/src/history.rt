@@ -1,15 +1,13 @@
 // The commands that were queued, the oldest that still fit, numbered without a gap.
 ghost use mathlib.Core.Path.{_≡_};
 ghost use mathlib.Core.Bool.{false};
-ghost use Prim.Native.Nat.{_≤_, _<_, min};
-ghost use lib.Dec.{ltb};
+ghost use Prim.Native.Nat.{_≤_, _<_};
 ghost use lib.ListN.{length};
-ghost use Rattle.config.specs.Sequence.{after, ahead};
-ghost use Rattle.history.specs.State.{fresh, cleared, stateOk, walkOk, Answers};
+ghost use Rattle.history.specs.State.{stateOk, walkOk, Answers};
 use super::headers;
 use super::headers::Stop;
-use super::ring;
-use config::sequence;
+use config::range::least;
+use config::range::outside;
 use config::sequence::SeqNum;
 
 // The fewest words that hold a command of 64, and the most: numbers of a ring of that many commands
@@ -40,43 +38,6 @@ pub struct Tested {
 }
 
 impl SendHistory {
-    // No command held; the next number is 0.
-    pub fn new(size: usize) -> Self
-        ensures { λ r. ⌜ r ≡ fresh size ⌝ }
-    {
-        SendHistory {
-            size,
-            head: 0,
-            used: 0,
-            count: 0,
-            oldest: 0,
-            last: 0,
-        }
-    }
-
-    // Back to the start: no command held, and every word of the lent slice 0.
-    pub fn clear(self, buf: &mut [u32]) -> Self
-        ensures { λ r. ⌜ (r, now (buf .exit)) ≡ cleared self (now (buf .entry)) ⌝ }
-    {
-        ring::zero(buf);
-        SendHistory::new(self.size)
-    }
-
-    // The number that the next command gets.
-    pub fn next_seq(self) -> SeqNum
-        ensures { λ r. ⌜ r ≡ after (self .oldest) (self .count) ⌝ }
-    {
-        sequence::add(self.oldest, (self.count % 0x1_0000) as u16)
-    }
-
-    // Whether the command `seq` is held.
-    pub fn contains(self, seq: SeqNum) -> bool
-        ensures { λ r. ⌜ r ≡ ltb (ahead (self .oldest) seq) (self .count) ⌝ }
-    {
-        let k = sequence::distance(self.oldest, seq);
-        (k as usize) < self.count
-    }
-
     // The history's part of the state test; of the commands held, the newest `unsent` are not
     // written and take `unsent_words` words.
     pub fn state_ok(self, buf: &[u32], unsent: usize, unsent_words: usize) -> bool
@@ -91,7 +52,7 @@ impl SendHistory {
     pub fn state_walk(self, buf: &[u32], unsent: usize, unsent_words: usize, back: usize) -> Tested
         ensures { λ r. ⌜ Answers (stateOk self (now (buf .entry)) unsent «unsent_words») self (now (buf .entry)) unsent back r ⌝ }
     {
-        if config::range::outside(MIN_WORDS, MAX_WORDS, self.size) {
+        if outside(MIN_WORDS, MAX_WORDS, self.size) {
             return refused();
         }
         if buf.len() != self.size {
@@ -114,13 +75,6 @@ fn refused() -> Tested
     ensures { λ r. ⌜ r .ok ≡ false ⌝ }
 {
     Tested { ok: false, at: 0 }
-}
-
-// The smaller of the two.
-pub fn least(a: usize, b: usize) -> usize
-    ensures { λ r. ⌜ r ≡ min a b ⌝ }
-{
-    if a <= b { a } else { b }
 }
 
 // One walk over the headers, from the oldest on, with a stop before the last `back` written entries and

@@ -11,11 +11,12 @@
 //
 //   RetransmitQueue, a record with 16 places of which `size` are used: requests, oldest first.
 //
-//   history   the state, its numbers, `clear`, and `state_ok`, the state test; `state_walk` is the same
-//             test, and hands on a place that its walk over the headers came by
-//   queue     the requests; `push`, and `state_ok`
+//   history   the state, and `state_ok`, the state test; `state_walk` is the same test, and hands on a
+//             place that its walk over the headers came by
+//   queue     the requests, and `state_ok`
 //   valid     what a sender calls once it has made those tests: `push`, `append_to_last`, `index_of`,
-//             `write_entry` and their like; `push_request`, `set_front`, `pop`
+//             `write_entry` and their like; `push_request`, `set_front`, `pop`; and, once it has tested
+//             the sizes, `clear` and `clear_requests`, which start anew
 //
 // A state that fails its test is refused as `InvalidState`. Nothing is shifted: the oldest leave by
 // moving the head, and words go in and out as at most two straight runs.

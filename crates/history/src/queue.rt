@@ -1,10 +1,8 @@
 // The Retransmit Requests that wait to be served.
 ghost use mathlib.Core.Path.{_≡_};
-ghost use lib.Dec.{eqb};
-ghost use Rattle.history.specs.Queue.{noneWait, queueOk, pushOf};
-use super::valid;
+ghost use Rattle.history.specs.Queue.{queueOk};
 use command::retransmit::RetransmitRequest;
-use config::refusal::Refusal;
+use config::range::outside;
 
 // The places of a queue.
 pub const PLACES: usize = 16;
@@ -33,7 +31,6 @@ pub enum Ignored {
 pub enum Push {
     Queued,
     Ignored(Ignored),
-    Refused(Refusal),
 }
 
 pub struct Pushed {
@@ -53,62 +50,16 @@ pub struct Popped {
 }
 
 impl RetransmitQueue {
-    // No request waits.
-    pub fn new(size: usize) -> Self
-        ensures { λ r. ⌜ r ≡ noneWait size ⌝ }
-    {
-        RetransmitQueue {
-            items: [RetransmitRequest { seq: 0, count: 0 }; 16],
-            head: 0,
-            len: 0,
-            size,
-        }
-    }
-
-    // Back to the start.
-    pub fn clear(self) -> Self
-        ensures { λ r. ⌜ r ≡ noneWait (self .size) ⌝ }
-    {
-        RetransmitQueue::new(self.size)
-    }
-
-    // How many requests wait.
-    pub fn len(self) -> usize
-        ensures { λ r. ⌜ r ≡ self .len ⌝ }
-    {
-        self.len
-    }
-
-    // Whether no request waits.
-    pub fn is_empty(self) -> bool
-        ensures { λ r. ⌜ r ≡ eqb (self .len) 0 ⌝ }
-    {
-        self.len == 0
-    }
-
     // The request ring's part of the state test.
     pub fn state_ok(self) -> bool
         ensures { λ r. ⌜ r ≡ queueOk self ⌝ }
     {
-        if config::range::outside(1, PLACES, self.size) {
+        if outside(1, PLACES, self.size) {
             return false;
         }
         if self.size <= self.head {
             return false;
         }
         self.len <= self.size
-    }
-
-    // Adds a request behind the newest, unless one with its number waits or no place is free.
-    pub fn push(self, req: RetransmitRequest) -> Pushed
-        ensures { λ r. ⌜ r ≡ pushOf self req ⌝ }
-    {
-        if self.state_ok() {
-            return valid::push_request(self, req);
-        }
-        Pushed {
-            queue: self,
-            answer: Push::Refused(Refusal::InvalidState),
-        }
     }
 }

@@ -3,6 +3,7 @@ ghost use mathlib.Core.Path.{_≡_};
 ghost use Prim.Native.Nat.{_+_, _-_, _≤_, _<_};
 ghost use lib.ListN.{length, drop, replicate};
 ghost use Rattle.history.specs.Ring.{slotOf, runOf, ringStored};
+use config::range::least;
 
 // The place `n` after `i` in a ring of `c`.
 pub fn slot(c: usize, i: usize, n: usize) -> usize
@@ -18,8 +19,7 @@ pub fn run_end(c: usize, at: usize, n: usize) -> usize
     requires { ⌜ at ≤ c ⌝ }
     ensures { λ r. ⌜ r ≡ runOf c at n ⌝ }
 {
-    let room = c - at;
-    if n <= room { n } else { room }
+    least(n, c - at)
 }
 
 // Stores `n` words, from the word `from` on, at place `at` and after it, up to the end at most.

@@ -1,11 +1,12 @@
-// What a sender calls once its state has passed the state test.
+// What a sender calls once its state has passed the state test, or a start its sizes.
 ghost use mathlib.Core.Path.{_≡_};
 ghost use Prim.Native.Nat.{_+_, _-_, _≤_, _<_};
 ghost use lib.ListN.{length};
-ghost use Rattle.history.specs.State.{Good};
+ghost use Rattle.config.specs.Sequence.{after};
+ghost use Rattle.history.specs.State.{Good, cleared};
 ghost use Rattle.history.specs.Headers.{numberAt, lengthAt, nextAt, headerAt, wordsFrom};
 ghost use Rattle.history.specs.Push.{popOne, Freed, pushed, appended};
-ghost use Rattle.history.specs.Queue.{Fit, waiting, asks, oldestOf, pushAnswer, setFrontOf, popOf};
+ghost use Rattle.history.specs.Queue.{Fit, noneWait, waiting, asks, oldestOf, pushAnswer, setFrontOf, popOf};
 ghost use mathlib.Core.Bool.{true};
 ghost use Rattle.packet.specs.Write.{validOf, writtenOf};
 ghost use Rattle.history.specs.Written.{entryPacket};
@@ -24,6 +25,22 @@ use config::sequence;
 use config::sequence::SeqNum;
 use packet::writer::PayloadWriter;
 use packet::writer::Wrote;
+
+// A start and a reset: no command held, the next number 0, and every word of the lent slice 0.
+pub fn clear(size: usize, buf: &mut [u32]) -> SendHistory
+    requires { ⌜ (65 ≤ size) × (size ≤ 32768) × (length (now buf) ≡ size) ⌝ }
+    ensures { λ r. ⌜ (r, now (buf .exit)) ≡ cleared size (now (buf .entry)) ⌝ }
+{
+    ring::zero(buf);
+    SendHistory {
+        size,
+        head: 0,
+        used: 0,
+        count: 0,
+        oldest: 0,
+        last: 0,
+    }
+}
 
 // The count of words of the entry whose header stands at `at`.
 pub fn pl(buf: &[u32], at: usize) -> usize
@@ -96,6 +113,13 @@ fn make_room(h: SendHistory, buf: &[u32], need: usize, stay: usize) -> SendHisto
     g
 }
 
+// The number that the next command gets.
+fn next_seq(h: SendHistory) -> SeqNum
+    ensures { λ r. ⌜ r ≡ after (h .oldest) (h .count) ⌝ }
+{
+    sequence::add(h.oldest, (h.count % 0x1_0000) as u16)
+}
+
 // Adds one entry behind the newest, after as many of the oldest have left as its header and words
 // need.
 pub fn push(h: SendHistory, buf: &mut [u32], words: &[u32]) -> SendHistory
@@ -105,7 +129,7 @@ pub fn push(h: SendHistory, buf: &mut [u32], words: &[u32]) -> SendHistory
     let need = 1 + words.len();
     let g = make_room(h, &buf[..], need, 0);
     let at = ring::slot(g.size, g.head, g.used);
-    let number = g.next_seq();
+    let number = next_seq(g);
     buf[at] = (number as u32) * 0x1_0000 + (words.len() as u32);
     let next = ring::slot(g.size, at, 1);
     ring::put(buf, next, words);
@@ -162,6 +186,19 @@ pub fn write_entry(p: PayloadWriter, buf: &mut [u8], history: &[u32], at: usize)
         &history[start..end],
         &history[..rest],
     )
+}
+
+// A start and a reset: no request waits.
+pub fn clear_requests(size: usize) -> RetransmitQueue
+    requires { ⌜ (1 ≤ size) × (size ≤ 16) ⌝ }
+    ensures { λ r. ⌜ r ≡ noneWait size ⌝ }
+{
+    RetransmitQueue {
+        items: [RetransmitRequest { seq: 0, count: 0 }; 16],
+        head: 0,
+        len: 0,
+        size,
+    }
 }
 
 // Whether a request for `seq` waits.

@@ -5,3 +5,5 @@ pub mod Written
 pub mod Reading
 pub mod RoundTrip
 pub mod Outcomes
+mod Figures
+mod Covered

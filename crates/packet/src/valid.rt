@@ -15,6 +15,7 @@ use super::writer::MIN_PAYLOAD;
 use super::writer::PayloadWriter;
 use super::writer::Write;
 use super::writer::Wrote;
+use config::range::least;
 use config::range::outside;
 use config::refusal::Refusal;
 
@@ -41,8 +42,7 @@ pub fn is_valid(p: PayloadWriter, room: usize) -> bool
 fn limit(p: PayloadWriter, room: usize) -> usize
     ensures { λ r. ⌜ r ≡ limitOf p room ⌝ }
 {
-    let max = p.max;
-    if max <= room { max } else { room }
+    least(p.max, room)
 }
 
 // Where the next header goes: after the signature, or after what is written.

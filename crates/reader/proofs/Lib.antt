@@ -3,3 +3,4 @@ pub mod Parts
 pub mod Steps
 mod Made
 pub mod Agree
+mod Covered

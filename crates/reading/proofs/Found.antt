@@ -8,7 +8,9 @@ use native.Mathlib.Omega.{arith}
 use borrow.Author.Tests.{eq-eqb, ne-eqb, lt-ltb, le-ltb}
 use lib.ListN.{length, take, drop, length-take}
 use lib.Dec.{eqb, ltb}
+use Rattle.config.specs.Refusals.{numberOf}
 use Rattle.config.specs.declared.refusal.Refusal.{Refusal}
+use Rattle.config.specs.declared.refusal.Refusal.the-variants.{BadSignature, InvalidState}
 use Rattle.config.proofs.Tests.{split}
 use Rattle.packet.specs.Bytes.{wordsOf, spliced}
 use Rattle.packet.specs.Read.{csdOf, signed, openOf, nextOf, bodyOf}
@@ -127,12 +129,12 @@ module _ (b : List ℕ) (at : ℕ) (words lens : List ℕ) where
 
 -- ---- the tests
 module _ (b : List ℕ) (at : ℕ) (words lens : List ℕ) where
-  pub read-words : length words < 255 → (r : Read) → r ≡ refusedRead 13 → _≡_ {A = Answer} (r, words, lens) (readAt b at words lens)
+  pub read-words : length words < 255 → (r : Read) → r ≡ refusedRead (numberOf InvalidState) → _≡_ {A = Answer} (r, words, lens) (readAt b at words lens)
   unfolding readAt
   read-words f r q = rw (lt-ltb (length words) 255 f, q)
 
   module _ (f : 255 ≤ length words) where
-    pub read-lens : length lens < 255 → (r : Read) → r ≡ refusedRead 13 → _≡_ {A = Answer} (r, words, lens) (readAt b at words lens)
+    pub read-lens : length lens < 255 → (r : Read) → r ≡ refusedRead (numberOf InvalidState) → _≡_ {A = Answer} (r, words, lens) (readAt b at words lens)
     unfolding readAt
     read-lens g r q = rw (le-ltb (length words) 255 f, lt-ltb (length lens) 255 g, q)
 
@@ -143,6 +145,6 @@ module _ (b : List ℕ) (at : ℕ) (words lens : List ℕ) where
           let q′ : a ≡ itemRead (nextOf b (firstOf at)) b words lens = rw e at q in
           rw (le-ltb (length words) 255 f, le-ltb (length lens) 255 g, o) q′
 
-      pub read-unsigned : (not (eqb at 0) || signed b) ≡ false → (r : Read) → r ≡ refusedRead 1 → _≡_ {A = Answer} (r, words, lens) (readAt b at words lens)
+      pub read-unsigned : (not (eqb at 0) || signed b) ≡ false → (r : Read) → r ≡ refusedRead (numberOf BadSignature) → _≡_ {A = Answer} (r, words, lens) (readAt b at words lens)
       unfolding readAt
       read-unsigned o r q = rw (le-ltb (length words) 255 f, le-ltb (length lens) 255 g, o, q)

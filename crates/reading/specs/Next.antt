@@ -5,6 +5,7 @@ use mathlib.Core.List.{List}
 use lib.ListN.{length}
 use lib.Dec.{eqb, ltb}
 use Rattle.config.specs.Refusals.{numberOf}
+use Rattle.config.specs.declared.refusal.Refusal.the-variants.{BadSignature, InvalidState}
 use Rattle.packet.specs.Bytes.{wordsOf, spliced}
 use Rattle.packet.specs.Read.{csdOf, signed, nextOf, bodyOf}
 use Rattle.packet.specs.declared.reader.Header.{Header}
@@ -49,6 +50,6 @@ itemRead (WholeCommand h place next) b words lens = wholeRead h (next .at) (word
 -- 13 when an array has no room for the longest command; 1 when the payload does not begin with the signature
 unfoldable pub readAt : List ℕ → ℕ → List ℕ → List ℕ → Read × List ℕ × List ℕ
 readAt b at words lens =
-    cond (ltb (length words) 255 || ltb (length lens) 255) (refusedRead 13, words, lens)
+    cond (ltb (length words) 255 || ltb (length lens) 255) (refusedRead (numberOf InvalidState), words, lens)
     (cond (not (eqb at 0) || signed b) (itemRead (nextOf b (firstOf at)) b words lens)
-    (refusedRead 1, words, lens))
+    (refusedRead (numberOf BadSignature), words, lens))

@@ -7,3 +7,4 @@ pub mod Taken
 mod Answers
 pub mod Validity
 pub mod Handed
+mod Figures

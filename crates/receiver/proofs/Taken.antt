@@ -35,7 +35,7 @@ module _ (r : Receiver) (q : RetransmitRequest) (p : PayloadWriter) (b : List �
   offered-done next n a = offered _ (rw n (ap (takenBy r q (wrote .payload)) (sym a)))
 
   pub offered-refused :
-      (why : Refusal) (answer : Request) → answer ≡ noFit why → wrote .answer ≡ WriteRefused why
+      (why : Refusal) (answer : Request) → answer ≡ noFit (wrote .payload) → wrote .answer ≡ WriteRefused why
       → (record { receiver = r; payload = wrote .payload; answer = answer }, after) ≡ offeredOf r q p b
   offered-refused why answer e a = offered _ (rw e (ap (takenBy r q (wrote .payload)) (sym a)))
 

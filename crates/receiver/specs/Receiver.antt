@@ -4,8 +4,7 @@ use mathlib.Core.Bool.{Bool, true, false, cond, not, _&&_}
 use mathlib.Core.List.{List}
 use lib.Dec.{ltb, eqb}
 use Rattle.config.specs.Sequence.{after}
-use Rattle.config.specs.Refusals.{numberOf}
-use Rattle.config.specs.declared.refusal.Refusal.{Refusal}
+use Rattle.config.specs.declared.refusal.Refusal.the-variants.{TooLarge}
 use Rattle.config.specs.declared.settings.StreamConfig.{StreamConfig}
 use Rattle.packet.specs.Write.{writtenOf}
 use Rattle.packet.specs.declared.writer.PayloadWriter.{PayloadWriter}
@@ -158,14 +157,14 @@ withAsked r asked = record { window = r .window; timer = r .timer; «request_due
 abbrev pub notDue : Receiver → PayloadWriter → Requested
 notDue r p = record { receiver = r; payload = p; answer = NotDue }
 
--- not fitting a nonempty payload is no refusal but "more"
-abbrev pub noFit : Refusal → Request
-noFit why = cond (eqb (numberOf why) 2) More (Refused why)
+-- 3 when the payload is empty; not fitting a nonempty payload is no refusal but "more"
+abbrev pub noFit : PayloadWriter → Request
+noFit p = cond (eqb (p .len) 0) (Refused TooLarge) More
 
 -- written, and then unanswered; or as before where it doesn't fit
 abbrev pub takenBy : Receiver → RetransmitRequest → PayloadWriter → Write → Requested
 takenBy r q p Done = record { receiver = withAsked r (AskedFor q); payload = p; answer = Written }
-takenBy r q p (WriteRefused why) = record { receiver = r; payload = p; answer = noFit why }
+takenBy r q p (WriteRefused why) = record { receiver = r; payload = p; answer = noFit p }
 
 unfoldable pub offeredOf : Receiver → RetransmitRequest → PayloadWriter → List ℕ → Requested × List ℕ
 offeredOf r q p b =

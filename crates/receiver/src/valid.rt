@@ -451,22 +451,22 @@ fn offer(r: Receiver, req: RetransmitRequest, p: PayloadWriter, buf: &mut [u8]) 
             payload,
             answer: Request::Written,
         },
-        Write::Refused(why) => Requested {
+        Write::Refused(_) => Requested {
             receiver: r,
             payload,
-            answer: no_fit(why),
+            answer: no_fit(payload),
         },
     }
 }
 
-// "More" for a payload that holds something, and the refusal for an empty one.
-fn no_fit(why: Refusal) -> Request
-    ensures { λ n. ⌜ n ≡ noFit why ⌝ }
+// 3 for an empty payload, and "more" for one that holds something.
+fn no_fit(p: PayloadWriter) -> Request
+    ensures { λ n. ⌜ n ≡ noFit p ⌝ }
 {
-    match why {
-        Refusal::Overflow => Request::More,
-        other => Request::Refused(other),
+    if p.len == 0 {
+        return Request::Refused(Refusal::TooLarge);
     }
+    Request::More
 }
 
 pub fn next_deadline(r: Receiver) -> Deadline

@@ -8,11 +8,10 @@ use native.Mathlib.Omega.{arith}
 use lib.Dec.{eqb}
 use lib.ListN.{length}
 use Rattle.config.specs.Sequence.{turn}
-use Rattle.config.specs.Refusals.{numberOf}
 use Rattle.config.specs.Settings.{checkOf}
 use Rattle.config.proofs.Tests.{split}
 use Rattle.config.specs.declared.refusal.Refusal.{Refusal}
-use Rattle.config.specs.declared.refusal.Refusal.the-variants.{InvalidState}
+use Rattle.config.specs.declared.refusal.Refusal.the-variants.{TooLarge, InvalidState}
 use Rattle.config.specs.declared.settings.StreamConfig.{StreamConfig}
 use Rattle.config.specs.declared.settings.Check.{Check}
 use Rattle.config.specs.declared.settings.Check.the-variants.{Passed, Refused as CheckRefused}
@@ -132,7 +131,7 @@ module _ (r : Receiver) (t : List Entry) (s : StreamConfig) (p : PayloadWriter) 
           w = writtenOf p b (requestPacket q)
 
           abbrev entryFor : Write → Entry
-          entryFor a = take-entry s p b (writeAnswer a) (w .0 .payload) (w .1)
+          entryFor a = take-entry s p b (writeAnswer (w .0 .payload) a) (w .0 .payload) (w .1)
 
           offer-says : (a : Write) → w .0 .answer ≡ a → entryFor a ≡ answerOf W t (take-request s p b)
           offer-says a k =
@@ -149,8 +148,8 @@ module _ (r : Receiver) (t : List Entry) (s : StreamConfig) (p : PayloadWriter) 
           offered-ok (WriteRefused why) k = record {
             follows =
                 follows-same W r (entryFor (WriteRefused why)) t i refl refl
-                (by-cond (λ z. dueTaken (dueIn W t) z ≡ dueIn W t) (eqb (numberOf why) 2) More (RequestRefused why) (λ n. refl) (λ n. refl)) refl
-                (by-cond (λ z. askedTaken (askedIn W t) (requestIn W (reports t)) z ≡ askedIn W t) (eqb (numberOf why) 2) More (RequestRefused why) (λ n. refl) (λ n. refl));
+                (by-cond (λ z. dueTaken (dueIn W t) z ≡ dueIn W t) (eqb (w .0 .payload .len) 0) (RequestRefused TooLarge) More (λ n. refl) (λ n. refl)) refl
+                (by-cond (λ z. askedTaken (askedIn W t) (requestIn W (reports t)) z ≡ askedIn W t) (eqb (w .0 .payload .len) 0) (RequestRefused TooLarge) More (λ n. refl) (λ n. refl));
             says = offer-says (WriteRefused why) k;
           }
 

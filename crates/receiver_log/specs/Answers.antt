@@ -50,15 +50,15 @@ nakEvent missing Unasked = NoEvent
 nakEvent missing (AskedFor q) = lossOf missing
 
 -- a due request is written, or doesn't fit
-abbrev pub writeAnswer : Write → Request
-writeAnswer Done = Written
-writeAnswer (WriteRefused why) = noFit why
+abbrev pub writeAnswer : PayloadWriter → Write → Request
+writeAnswer p Done = Written
+writeAnswer p (WriteRefused why) = noFit p
 
 abbrev pub offered : StreamConfig → PayloadWriter → List ℕ → Span → Entry
 offered s p b NoSpan = take-entry s p b NotDue p b
 offered s p b (Of range) =
     let w = writtenOf p b (requestPacket record { seq = range .first; count = range .count }) in
-    take-entry s p b (writeAnswer (w .0 .answer)) (w .0 .payload) (w .1)
+    take-entry s p b (writeAnswer (w .0 .payload) (w .0 .answer)) (w .0 .payload) (w .1)
 
 -- nothing due, or dropped since requests are disabled; otherwise offered to the payload
 abbrev pub takeIn : StreamConfig → PayloadWriter → List ℕ → Bool → Span → Entry

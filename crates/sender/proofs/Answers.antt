@@ -2,7 +2,7 @@
 use mathlib.Core.Path.{_≡_, ap}
 use mathlib.Core.Bool.{Bool, true, false}
 use mathlib.Core.List.{List}
-use Prim.Native.Nat.{ℕ}
+use Prim.Native.Nat.{ℕ, _≤_}
 use lib.ListN.{length}
 use borrow.Author.Tests.{eq-eqb, ne-eqb}
 use Rattle.config.specs.Range.{outside}
@@ -14,6 +14,7 @@ use Rattle.config.specs.declared.settings.Check.the-variants.{Passed, Refused a
 use Rattle.packet.specs.Write.{validOf as payloadValid}
 use Rattle.packet.specs.declared.writer.PayloadWriter.{PayloadWriter}
 use Rattle.command.specs.declared.retransmit.RetransmitRequest.{RetransmitRequest}
+use Rattle.history.proofs.StateTest.{size-bounds}
 use Rattle.sender.specs.State.{validOf, startOf, resetOf}
 use Rattle.sender.specs.Queueing.{unsent, sentOf}
 use Rattle.sender.specs.Requests.{requestedOf, deadlineOf, wantsOf, nextOf}
@@ -42,6 +43,14 @@ module _ (words places : ℕ) (ring : List ℕ) (r : Started) where
     pub new-places : outside 65 32768 words ≡ false → length ring ≡ words → outside 1 16 places ≡ true → (r, ring) ≡ newAnswer words places ring
     unfolding newAnswer
     new-places w l p = rw (w, eq-eqb _ _ l, p, n)
+
+-- sizes that pass the tests are those that a start asks for
+pub sizes-fit : (words places n : ℕ) → outside 65 32768 words ≡ false → n ≡ words → outside 1 16 places ≡ false
+    → (65 ≤ words) × (words ≤ 32768) × (n ≡ words) × (1 ≤ places) × (places ≤ 16)
+sizes-fit words places n w l p =
+    let x = size-bounds 65 32768 words w in
+    let y = size-bounds 1 16 places p in
+    (x .0, x .1, l, y .0, y .1)
 
 pub new-done : (words places : ℕ) (ring after : List ℕ) (s : Sender) → outside 65 32768 words ≡ false → length ring ≡ words → outside 1 16 places ≡ false
     → (s, after) ≡ startOf words places ring

@@ -11,3 +11,4 @@ pub mod Rows
 pub mod Serving
 pub mod Idling
 pub mod Repeating
+mod Figures

@@ -7,40 +7,28 @@ use native.Mathlib.Omega.{arith}
 use lib.ListN.{length}
 use borrow.Author.Tests.{lt-ltb, le-ltb, le-leb, lt-leb, eq-eqb, ne-eqb}
 use Rattle.config.specs.Sequence.{turn, after, ahead}
-use Rattle.config.specs.declared.refusal.Refusal.the-variants.{SizeNotAllowed}
 use Rattle.config.specs.declared.settings.StreamConfig.{StreamConfig}
 use Rattle.command.specs.declared.retransmit.RetransmitRequest.{RetransmitRequest}
-use Rattle.history.specs.State.{fresh as noneHeld, cleared}
+use Rattle.history.specs.State.{cleared}
 use Rattle.history.specs.Queue.{noneWait, pushAnswer}
 use Rattle.history.specs.declared.history.SendHistory.{SendHistory}
 use Rattle.history.specs.declared.queue.RetransmitQueue.{RetransmitQueue}
 use Rattle.history.specs.declared.queue.Pushed.{Pushed}
-use Rattle.sender.specs.State.{fresh, startOf}
+use Rattle.sender.specs.State.{startOf}
 use Rattle.sender.specs.Requests.{writtenCount, notInBuffer, withQueue, told, outcomeOf, requestedOf, dueAt, deadlineOf, isDue, wantsOf, nextOf}
-use Rattle.sender.specs.Answers.{notStarted}
 use Rattle.sender.specs.declared.sender.IdleTimer.the-variants.{Off}
 use Rattle.sender.specs.declared.sender.Sender.{Sender}
-use Rattle.sender.specs.declared.sender.Start.the-variants.{Refused as StartRefused}
-use Rattle.sender.specs.declared.sender.Started.{Started}
 use Rattle.sender.specs.declared.sender.RequestOutcome.{RequestOutcome}
 use Rattle.sender.specs.declared.sender.RequestOutcome.the-variants.{Error, NotSupported}
 use Rattle.sender.specs.declared.sender.Deadline.{Deadline}
 use Rattle.sender.specs.declared.sender.Deadline.the-variants.{Nothing}
 
 -- ---- a start
-pub fresh-made : (words places : ℕ) (h : SendHistory) (q : RetransmitQueue) → h ≡ noneHeld words → q ≡ noneWait places
-    → _≡_ {A = Sender} (record { history = h; queue = q; unsent = 0; «unsent_words» = 0; idle = Off }) (fresh words places)
-fresh-made words places h q e f = rw (e, f)
-
-pub not-started : (s : Sender) → s ≡ fresh 0 0 → _≡_ {A = Started} (record { sender = s; answer = StartRefused SizeNotAllowed }) notStarted
-not-started s e = rw e
-
-pub start-made : (words places : ℕ) (ring after : List ℕ) (h g : SendHistory) (q : RetransmitQueue)
-    → h ≡ noneHeld words → (g, after) ≡ cleared h ring → q ≡ noneWait places
-    → (record { history = g; queue = q; unsent = 0; «unsent_words» = 0; idle = Off }, after) ≡ startOf words places ring
-start-made words places ring after h g q e c f =
-    let size : h .size ≡ words = ap (λ (x : SendHistory). x .size) e in
-    let one : g ≡ noneHeld words = ap (λ (x : SendHistory × List ℕ). x .0) c ∙ ap noneHeld size in
+pub start-made : (words places : ℕ) (ring after : List ℕ) (h : SendHistory) (q : RetransmitQueue)
+    → (h, after) ≡ cleared words ring → q ≡ noneWait places
+    → (record { history = h; queue = q; unsent = 0; «unsent_words» = 0; idle = Off }, after) ≡ startOf words places ring
+start-made words places ring after h q c f =
+    let one = ap (λ (x : SendHistory × List ℕ). x .0) c in
     let two = ap (λ (x : SendHistory × List ℕ). x .1) c in
     rw (one, two, f)
 

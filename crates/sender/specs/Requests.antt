@@ -10,13 +10,13 @@ use Rattle.command.specs.declared.retransmit.RetransmitError.{RetransmitError}
 use Rattle.history.specs.Queue.{pushAnswer}
 use Rattle.history.specs.declared.queue.RetransmitQueue.{RetransmitQueue}
 use Rattle.history.specs.declared.queue.Push.{Push}
-use Rattle.history.specs.declared.queue.Push.the-variants.{Queued as PushQueued, Ignored as PushIgnored, Refused as PushRefused}
+use Rattle.history.specs.declared.queue.Push.the-variants.{Queued as PushQueued, Ignored as PushIgnored}
 use Rattle.history.specs.declared.queue.Pushed.{Pushed}
 use Rattle.sender.specs.declared.sender.IdleTimer.{IdleTimer}
 use Rattle.sender.specs.declared.sender.IdleTimer.the-variants.{Off, Waiting}
 use Rattle.sender.specs.declared.sender.Sender.{Sender}
 use Rattle.sender.specs.declared.sender.RequestOutcome.{RequestOutcome}
-use Rattle.sender.specs.declared.sender.RequestOutcome.the-variants.{Queued, Ignored, Error, NotSupported, Refused}
+use Rattle.sender.specs.declared.sender.RequestOutcome.the-variants.{Queued, Ignored, Error, NotSupported}
 use Rattle.sender.specs.declared.sender.Requested.{Requested}
 use Rattle.sender.specs.declared.sender.Deadline.{Deadline}
 use Rattle.sender.specs.declared.sender.Deadline.the-variants.{Nothing, At}
@@ -46,7 +46,6 @@ told s o = record { sender = s; outcome = o }
 abbrev pub outcomeOf : Push → RequestOutcome
 outcomeOf PushQueued = Queued
 outcomeOf (PushIgnored why) = Ignored why
-outcomeOf (PushRefused why) = Refused why
 
 abbrev pub queuedBy : Sender → Pushed → Requested
 queuedBy s p = told (withQueue s (p .queue)) (outcomeOf (p .answer))

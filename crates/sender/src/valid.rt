@@ -11,7 +11,7 @@ ghost use Rattle.command.specs.Messages.{wholeOf};
 ghost use Rattle.history.specs.State.{Good, Answers};
 ghost use Rattle.history.specs.Headers.{lengthAt};
 ghost use Rattle.history.specs.Queue.{Fit};
-ghost use Rattle.sender.specs.State.{idleOk, validOf, fresh, startOf, resetOf};
+ghost use Rattle.sender.specs.State.{idleOk, validOf, startOf, resetOf};
 ghost use Rattle.sender.specs.Commands.{commandsOf, above};
 ghost use Rattle.sender.specs.Queueing.{roomOf, joinedTo, pushedAll, wordsCheck, placedOf, sentOf};
 ghost use Rattle.sender.specs.Requests.{outcomeOf, requestedOf, dueAt, isDue, deadlineOf, wantsOf, nextOf};
@@ -89,36 +89,42 @@ pub fn test(s: Sender, ring: &[u32], back: usize) -> Tested
     tested
 }
 
-// Nothing held, nothing waits.
-fn fresh_sender(words: usize, places: usize) -> Sender
-    ensures { λ r. ⌜ r ≡ fresh words places ⌝ }
-{
-    Sender {
-        history: SendHistory::new(words),
-        queue: RetransmitQueue::new(places),
-        unsent: 0,
-        unsent_words: 0,
-        idle: IdleTimer::Off,
-    }
-}
-
+// A sender of sizes 0, which the state test refuses.
 pub fn not_started() -> Started
     ensures { λ r. ⌜ r ≡ notStarted ⌝ }
 {
     Started {
-        sender: fresh_sender(0, 0),
+        sender: Sender {
+            history: SendHistory {
+                size: 0,
+                head: 0,
+                used: 0,
+                count: 0,
+                oldest: 0,
+                last: 0,
+            },
+            queue: RetransmitQueue {
+                items: [RetransmitRequest { seq: 0, count: 0 }; 16],
+                head: 0,
+                len: 0,
+                size: 0,
+            },
+            unsent: 0,
+            unsent_words: 0,
+            idle: IdleTimer::Off,
+        },
         answer: Start::Refused(Refusal::SizeNotAllowed),
     }
 }
 
 // A fresh sender; the lent history is zeroed.
 pub fn start(words: usize, places: usize, ring: &mut [u32]) -> Sender
+    requires { ⌜ (65 ≤ words) × (words ≤ 32768) × (length (now ring) ≡ words) × (1 ≤ places) × (places ≤ 16) ⌝ }
     ensures { λ r. ⌜ (r, now (ring .exit)) ≡ startOf words places (now (ring .entry)) ⌝ }
 {
-    let history = SendHistory::new(words);
     Sender {
-        history: history.clear(ring),
-        queue: RetransmitQueue::new(places),
+        history: history::valid::clear(words, ring),
+        queue: history::valid::clear_requests(places),
         unsent: 0,
         unsent_words: 0,
         idle: IdleTimer::Off,
@@ -126,6 +132,7 @@ pub fn start(words: usize, places: usize, ring: &mut [u32]) -> Sender
 }
 
 pub fn reset(s: Sender, ring: &mut [u32]) -> Sender
+    requires { ⌜ validOf s (now ring) ≡ true ⌝ }
     ensures { λ r. ⌜ (r, now (ring .exit)) ≡ resetOf s (now (ring .entry)) ⌝ }
 {
     let history = s.history;
@@ -247,7 +254,6 @@ fn outcome(answer: Push) -> RequestOutcome
     match answer {
         Push::Queued => RequestOutcome::Queued,
         Push::Ignored(why) => RequestOutcome::Ignored(why),
-        Push::Refused(why) => RequestOutcome::Refused(why),
     }
 }
 

@@ -21,5 +21,5 @@ pub mod AfterNew
 pub mod AfterMark
 pub mod Accepts
 pub mod InOrder
-
--- Session case P7.
+-- Figures of paper 01.
+mod Figures

@@ -13,8 +13,8 @@ enum-told c = search needs
 with-asked-requires : tie.Need-with-asked-requires
 with-asked-requires c κs = search needs
 
-enum-known-answer : tie.Need-enum-known-answer
-enum-known-answer c = search needs
+enum-told-2 : tie.Need-enum-told-2
+enum-told-2 c = search needs
 
 no-fit-requires : tie.Need-no-fit-requires
 no-fit-requires c κs = search needs
@@ -31,7 +31,7 @@ same-length-2 c = search needs
 
 returns-2 : tie.Need-returns-2
 returns-2 c =
-    offered-refused _ _ _ _ _ _ (c .before .before .before .before .before .before .before .write-request .ensures) _ _ (c .no-fit .ensures) (c .before .before .answer .given .1)
+    offered-refused _ _ _ _ _ _ (c .before .before .before .before .before .before .write-request .ensures) _ _ (c .no-fit .ensures) (c .before .enum-told2 .given .1)
 
 pub offer-spec : {M : Type 1} → statement M
 offer-spec =
@@ -40,7 +40,7 @@ offer-spec =
     write-request-requires
     enum-told
     with-asked-requires
-    enum-known-answer
+    enum-told-2
     no-fit-requires
     same-length
     returns

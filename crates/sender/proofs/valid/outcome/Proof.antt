@@ -11,19 +11,13 @@ enum-told c = search needs
 enum-known-answer : tie.Need-enum-known-answer
 enum-known-answer c = search needs
 
-enum-known-answer-2 : tie.Need-enum-known-answer-2
-enum-known-answer-2 c = search needs
-
 returns : tie.Need-returns
 returns c = search needs
 
 returns-2 : tie.Need-returns-2
 returns-2 c = sym (ap outcomeOf (c .before .answer .given .1))
 
-returns-3 : tie.Need-returns-3
-returns-3 c = sym (ap outcomeOf (c .before .answer2 .given .1))
-
 pub outcome-spec : {M : Type 1} → statement M
 outcome-spec =
     tie.close
-    (tie.spec enum-told enum-known-answer enum-known-answer-2 returns returns-2 returns-3)
+    (tie.spec enum-told enum-known-answer returns returns-2)

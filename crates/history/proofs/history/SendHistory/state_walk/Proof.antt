@@ -43,7 +43,7 @@ returns-5 c =
 walks-requires : tie.Need-walks-requires
 walks-requires c κs =
     let size = c .before .before .before .before .before .before .before .before .before .before .before .args .self .size in
-    omega (arith, size-bounds size (cc), c .before .before .before .before .before .before .if2 .left, c .before .before .before .before .if3 .left, c .before .before .if4 .left, c .if5 .left)
+    omega (arith, size-bounds 65 32768 size (cc), c .before .before .before .before .before .before .if2 .left, c .before .before .before .before .if3 .left, c .before .before .if4 .left, c .if5 .left)
 
 returns-6 : tie.Need-returns-6
 returns-6 c =

@@ -1,5 +1,5 @@
 -- Each test is one of the definition's; a start that passes them zeroes the lent history.
-use Rattle.sender.proofs.Answers.{new-words, new-length, new-places, new-done}
+use Rattle.sender.proofs.Answers.{new-words, new-length, new-places, sizes-fit, new-done}
 use borrow.Author.Needs.{needs}
 use Rattle.sender.proofs.sender.Sender.new.Statement.{statement}
 use Rattle.sender.proofs.sender.Sender.new.Tie as tie
@@ -29,7 +29,7 @@ returns-3 : tie.Need-returns-3
 returns-3 c = new-places _ _ _ _ (search needs) (cc) (search needs) (cc)
 
 start-requires : tie.Need-start-requires
-start-requires c κs = search needs
+start-requires c κs = sizes-fit _ _ _ (cc) (search needs) (cc)
 
 same-length : tie.Need-same-length
 same-length c = search needs

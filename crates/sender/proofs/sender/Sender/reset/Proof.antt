@@ -9,7 +9,7 @@ is-valid-requires : tie.Need-is-valid-requires
 is-valid-requires c κs = search needs
 
 reset-requires : tie.Need-reset-requires
-reset-requires c κs = search needs
+reset-requires c κs = cc
 
 same-length : tie.Need-same-length
 same-length c = search needs

@@ -1,6 +1,6 @@
 -- Both states are tested, and each end is reset.
 use mathlib.Core.Path.{sym, _∙_}
-use Rattle.stream.proofs.Validity.{valid-receiver}
+use Rattle.stream.proofs.Validity.{valid-receiver, valid-sender}
 use Rattle.stream.proofs.Answers.{reset-refused, reset-done}
 use borrow.Author.Needs.{needs}
 use Rattle.stream.proofs.stream.DataStream.reset.Statement.{statement}
@@ -10,7 +10,7 @@ is-valid-requires : tie.Need-is-valid-requires
 is-valid-requires c κs = search needs
 
 reset-requires : tie.Need-reset-requires
-reset-requires c κs = search needs
+reset-requires c κs = valid-sender _ _ (sym (c .before .before .before .before .is-valid .ensures) ∙ c .before .before .before .if1 .taken)
 
 reset-requires-2 : tie.Need-reset-requires-2
 reset-requires-2 c κs = valid-receiver _ _ (sym (c .before .before .before .before .before .before .before .is-valid .ensures) ∙ c .before .before .before .before .before .before .if1 .taken)

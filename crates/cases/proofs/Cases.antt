@@ -1,0 +1,89 @@
+-- The table is computed from the definitions; the far loss of P7 and every window of P8 come from laws.
+use Prim.Native.Nat.{ℕ, _+_, _≤_}
+use mathlib.Core.Bool.{true, false}
+use mathlib.Core.List.{List, [], _∷_}
+use mathlib.Core.Path.{_≡_, refl, sym, ap}
+use native.Mathlib.Omega.{arith}
+use lib.Count.{trailingZeros}
+use borrow.Author.Tests.{le-leb, lt-leb, lt-ltb}
+use Rattle.config.specs.Settings.{checkOf}
+use Rattle.packet.specs.Bytes.{bytesOf, spliced}
+use Rattle.packet.specs.Write.{validOf as payloadValid, writtenOf}
+use Rattle.command.specs.Messages.{typeWords, divided, messagesOf, wholeOf}
+use Rattle.window.proofs.Losses.{far-pos, far-bottom, far-skipped}
+use Rattle.window.proofs.Preserved.{valid-fresh}
+use Rattle.window.proofs.Spans.{span-some}
+use Rattle.window.specs.Answers.{newAnswer, startAnswer, acceptAnswer, extended}
+use Rattle.window.specs.Arrival.{classOf, movedOf, lostOf, newOf, acceptOf}
+use Rattle.window.specs.Set.{val, setOf, topIn, topOf, bottomOf}
+use Rattle.window.specs.Window.{validOf, fresh, processed, missingOf, spanOf, requestOf}
+use Rattle.window.specs.declared.window.Acceptance.the-variants.{Heard}
+use Rattle.window.specs.declared.window.Class.the-variants.{New, Duplicate}
+use Rattle.window.specs.declared.window.SeqRange.{SeqRange}
+use Rattle.window.specs.declared.window.Span.the-variants.{Nothing}
+use Rattle.window.specs.declared.window.Started.the-variants.{Window}
+use Rattle.history.specs.Ring.{slotOf, ringStored, ringRead}
+use Rattle.history.specs.Headers.{headerAt, wordsFrom, numbered}
+use Rattle.history.specs.State.{stateOk, walkOk}
+use Rattle.history.specs.Push.{popOne, popped, grown, pushed, longer, appended}
+use Rattle.history.specs.Written.{entryPacket}
+use Rattle.sender.specs.Commands.{fitting, front, behind, commandsIn, commandsOf, longer as longMessage, above}
+use Rattle.sender.specs.State.{validOf as senderValid}
+use Rattle.sender.specs.Queueing.{roomOf, needOf, joinedTo, pushedAll, queuedTo, queuedOf, wordsCheck, placedOf, sentOf}
+use Rattle.sender.specs.Writing.{rowOf, packetsFrom, servedIn, servedOf, idleNext, idledOf, sizesOf, repeatsOf, anyWords, writtenOff, newOf as newSent, writtenBy}
+use Rattle.sender.specs.Answers.{sendAnswer, writeAnswer}
+use Rattle.cases.specs.Cases.{range, Table, duesFrom, IdleTimes}
+
+-- the lost set has 32,702 positions: its ends come from laws and are not computed
+lost-far : spanOf 32766 64 (lostOf 64 0 32767) ≡ range 0 32702
+lost-far =
+    sym (span-some 32766 64 (lostOf 64 0 32767) 32765 64 all (far-pos 64 0 32767 32701 refl)
+    (ap (λ (x : ℕ). 64 + x) (sym (far-skipped 64 0 32767 32701 refl refl)))
+    (ap (λ (x : ℕ). 64 + x) (sym (far-bottom 64 0 32767 32701 refl))) (refl, refl))
+  where
+    all : SeqRange
+    all = record { first = 0; count = 32702 }
+
+far : acceptAnswer (fresh 64) 0x7FFE .answer ≡ Heard (New 32766) (range 0 32702)
+unfolding acceptAnswer validOf acceptOf classOf newOf missingOf val setOf
+far = ap (Heard (New 32766)) lost-far
+
+module _ (W : ℕ) (l : 1 ≤ W) (m : W ≤ 128) where
+  starts : newAnswer W ≡ Window (fresh W)
+  unfolding startAnswer
+  starts = rw (le-leb _ _ l, le-leb _ _ m)
+
+  -- 0x7FFF is 32,768 behind, and so beyond every window
+  beyond : classOf (fresh W) 0x7FFF ≡ Duplicate
+  unfolding classOf
+  beyond = rw (lt-leb 32768 W (omega arith))
+
+  valid : validOf (fresh W) ≡ true
+  unfolding validOf
+  valid = rw (le-leb _ _ l, le-leb _ _ m, lt-ltb _ _ (valid-fresh W 65535 l m .inside))
+
+  far-behind : acceptAnswer (fresh W) 0x7FFF .answer ≡ Heard Duplicate Nothing
+  unfolding acceptAnswer acceptOf
+  far-behind = rw (valid, beyond)
+
+pub table : Table
+unfolding acceptAnswer validOf acceptOf classOf processed newOf spanOf lostOf missingOf movedOf val setOf topOf topIn bottomOf trailingZeros extended requestOf typeWords divided messagesOf wholeOf slotOf ringStored ringRead headerAt wordsFrom numbered stateOk walkOk popOne popped grown pushed longer appended entryPacket fitting front behind commandsIn commandsOf longMessage above senderValid roomOf needOf joinedTo pushedAll queuedTo queuedOf wordsCheck placedOf sentOf rowOf packetsFrom servedIn servedOf idleNext idledOf sizesOf repeatsOf anyWords writtenOff newSent writtenBy sendAnswer writeAnswer checkOf payloadValid writtenOf bytesOf spliced
+table = record {
+  start = starts;
+  P1 = refl;
+  P2 = refl;
+  P3 = refl;
+  P4 = (refl, refl);
+  P5 = (refl, refl);
+  P6 = refl;
+  P7 = far;
+  P8 = far-behind;
+  P9 = (refl, refl);
+  P10 = (refl, refl, refl);
+  P11 = (refl, refl);
+  P12 = (refl, refl);
+}
+
+pub idle-times : IdleTimes
+unfolding duesFrom typeWords divided messagesOf wholeOf slotOf ringStored ringRead headerAt wordsFrom numbered stateOk walkOk popOne popped grown pushed longer appended entryPacket fitting front behind commandsIn commandsOf longMessage above senderValid roomOf needOf joinedTo pushedAll queuedTo queuedOf wordsCheck placedOf sentOf rowOf packetsFrom servedIn servedOf idleNext idledOf sizesOf repeatsOf anyWords writtenOff newSent writtenBy sendAnswer writeAnswer checkOf payloadValid writtenOf bytesOf spliced
+idle-times = refl

@@ -1,0 +1,2 @@
+-- Why the table holds.
+mod Cases

@@ -1,0 +1,10 @@
+// 01's session cases that are marked P, as one table of the definitions, and its idle times.
+//
+// There is no state and no code here. Each function of `theorems` does nothing, and its contract is a
+// theorem:
+//
+//   session_cases   P1 to P12 (specs/Cases.antt, `Table`)
+//   idle_times      when idle commands are written after data at 0
+//
+// The cases of the codec that are not marked P go through the program `codec_cases`.
+pub mod theorems;
