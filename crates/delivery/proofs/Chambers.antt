@@ -1,26 +1,29 @@
 -- What a chamber hands on, over its log alone: nothing is handed on where nothing is heard, and places joined one after the other.
-use Prim.Native.Nat.{ℕ, zero, suc, _+_, _%_, _≤_, _<_}
-use mathlib.Core.Path.{_≡_, refl, ap₂, sym}
+use Prim.Native.Nat.{ℕ, zero, suc, _+_, _*_, _%_, _≤_, _<_}
+use mathlib.Core.Path.{_≡_, refl, ap, ap₂, sym, _∙_}
 use mathlib.Core.Logic.{_⊎_, inl, inr}
 use mathlib.Core.Bool.{true, false}
 use mathlib.Core.List.{List, [], _∷_, _++_, append-assoc}
 use native.Mathlib.Omega.{arith}
 use lib.Dec.{ltb, eqb}
-use lib.ListN.{length, getD}
+use lib.ListN.{length, getD, take}
+use lib.Seq.{take-length}
+use borrow.Author.Tests.{not-true}
 use Rattle.config.specs.Sequence.{turn}
 use Rattle.config.proofs.Tests.{split, tests}
-use Rattle.command.specs.Messages.{wholeOf, wordsIn}
+use Rattle.packet.specs.Bytes.{wordsOf}
+use Rattle.command.specs.Messages.{messagesOf, wholeOf, wordsIn}
 use Rattle.window.specs.Arrival.{reach}
 use Rattle.window.specs.declared.window.Class.{Class}
 use Rattle.window.specs.declared.window.Class.the-variants.{New, Late, Duplicate}
-use Rattle.receiver.specs.Messages.{handedWords}
+use Rattle.receiver.specs.Messages.{wholeWords, handedWords, handedBytes, handedCut}
 use Rattle.receiver.specs.declared.receiver.Hearing.the-variants.{Delivery as Delivered, Refused as HearingRefused}
 use Rattle.receiver_log.specs.Calls.{Entry, data-entry, poll-entry, error-entry, nak-entry, take-entry}
-use Rattle.receiver_log.specs.Log.{Report, reportOf, origin, place, high, hands, times, lost, Missing}
+use Rattle.receiver_log.specs.Log.{Report, reportOf, origin, place, high, times, lost, Missing}
 use Rattle.receiver_log.specs.Promise.{Promise}
 use Rattle.receiver_log.proofs.Choices.{never}
 use Rattle.receiver_log.proofs.Numbers.{read-ahead, read-behind}
-use Rattle.delivery.specs.Chamber.{isHeard, delivered, joined, listed}
+use Rattle.delivery.specs.Chamber.{isHeard, delivered, joined, listed, AllHanded}
 use Rattle.delivery.specs.Sentence.{NoLoss}
 use Rattle.delivery.proofs.Messages.{whole-words}
 
@@ -33,12 +36,24 @@ read-position H p a b =
       | inr k ↦ rw n at (read-behind H (origin + p) (omega (arith, tests)) b)
     ]
 
+-- ---- what the program hands on
+
 -- whole messages are handed on as they came
-pub handed-whole : (k : Class) (ws : List ℕ) → hands k ≡ true → wholeOf ws ≡ true → handedWords k ws ≡ ws
-unfolding handedWords
-handed-whole (New gap) ws h e = whole-words ws e
-handed-whole Late ws h e = whole-words ws e
-handed-whole Duplicate ws h e = absurd (never h refl)
+module _ (ws : List ℕ) (e : wholeOf ws ≡ true) where
+  whole-bytes : (b : List ℕ) → wordsOf b ≡ ws → length b ≡ 4 * length ws → take (4 * length (wholeWords (wordsOf b))) b ≡ b
+  whole-bytes b w n =
+      let m : 4 * length (wholeWords (wordsOf b)) ≡ length b = ap (λ (xs : List ℕ). 4 * length xs) (ap wholeWords w ∙ whole-words ws e) ∙ sym n in
+      rw m (take-length b)
+
+  whole-uncut : (b : List ℕ) → wordsOf b ≡ ws → messagesOf (wordsOf b) .cut ≡ false
+  unfolding wholeOf
+  whole-uncut b w = rw w (not-true (messagesOf ws .cut) e)
+
+  pub whole-handed : (class : Class) → AllHanded class ws
+  unfolding handedWords handedBytes handedCut
+  whole-handed (New gap) = record { words = whole-words ws e; bytes = whole-bytes; uncut = whole-uncut }
+  whole-handed Late = record { words = whole-words ws e; bytes = whole-bytes; uncut = whole-uncut }
+  whole-handed Duplicate = record { words = refl; bytes = λ b w n. refl; uncut = λ b w. refl }
 
 -- ---- calls that hear nothing
 

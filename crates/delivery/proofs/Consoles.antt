@@ -1,33 +1,56 @@
 -- After every list of a console's calls: what its sender holds agrees with the log, and each payload holds what the log says.
 use Prim.Native.Nat.{ℕ, _<_}
-use mathlib.Core.Path.{_≡_}
-use mathlib.Core.Bool.{cond}
+use mathlib.Core.Path.{_≡_, refl}
+use mathlib.Core.Bool.{Bool, true, false, cond, not, _&&_}
 use mathlib.Core.List.{List, [], _∷_, _++_}
 use native.Mathlib.Omega.{arith}
 use lib.Dec.{ltb}
 use lib.ListN.{length}
 use Rattle.config.specs.Range.{outside}
+use Rattle.config.specs.Settings.{checkOf}
+use Rattle.config.specs.declared.settings.Check.the-variants.{Passed}
 use Rattle.config.specs.declared.settings.StreamConfig.{StreamConfig}
 use Rattle.config.proofs.Tests.{tests}
 use Rattle.packet.specs.Layout.{Words32}
-use Rattle.packet.specs.Write.{openedOf}
+use Rattle.packet.specs.Write.{openedOf, validOf as payloadValid}
+use Rattle.packet.specs.declared.writer.PayloadWriter.{PayloadWriter}
 use Rattle.packet.specs.declared.writer.Opened.{Opened}
 use Rattle.command.specs.declared.retransmit.RetransmitRequest.{RetransmitRequest}
+use Rattle.sender.specs.State.{validOf}
 use Rattle.sender.specs.Answers.{newAnswer, writeAnswer}
+use Rattle.sender.specs.declared.sender.Sender.{Sender}
 use Rattle.sender.specs.declared.sender.Send.{Send}
 use Rattle.sender.specs.declared.sender.Start.the-variants.{Done}
+use Rattle.sender.specs.declared.sender.Wrote.{Wrote}
 use Rattle.sender_log.specs.Book.{Book, nothing, sentIn, requestedIn}
 use Rattle.sender_log.specs.Writes.{writeIn}
 use Rattle.sender_log.specs.Calls.{TypedConfig}
 use Rattle.sender_log.proofs.Follows.{Follows, start-follows, send-follows, request-follows, write-follows}
 use Rattle.receiver_log.proofs.Choices.{by-cond}
 use Rattle.delivery.specs.Commands.{Command, dataIn}
-use Rattle.delivery.specs.Console.{Lent, Call, open-payload, lend-again, queue-words, retransmit-request, write-into, put-into, Entry, queued, noted, Console, Step, noting, payloadAt, openStep, lentAgain, putStep, putInto, writeStep, stepOf, logFrom, freshConsole, Allowed, AllAllowed, accepted, added, held, written, commands, Was, was}
+use Rattle.delivery.specs.Console.{Lent, Call, open-payload, lend-again, queue-words, retransmit-request, write-into, put-into, write-astray, Entry, queued, noted, Console, Step, noting, payloadAt, openStep, lentAgain, putStep, putInto, writeStep, stepOf, logFrom, freshConsole, Allowed, AllAllowed, accepted, added, held, written, commands, Was, was}
 use Rattle.delivery.proofs.Payloads.{Holds}
-use Rattle.delivery.proofs.Books.{Agrees, nothing-agrees, sent-agrees, requested-agrees}
+use Rattle.delivery.proofs.Books.{Agrees, nothing-agrees, by-check, sent-agrees, requested-agrees}
 use Rattle.delivery.proofs.Writing.{write-grown}
 use Rattle.delivery.proofs.Tags.{on, commands-tagged}
 use Rattle.delivery.proofs.Lent.{Reads, reads-opened, reads-lent, reads-put, reads-more, reads-added, Payloads, none-opened, payloads-quiet, payloads-opened, payloads-stood, payloads-wrote}
+
+-- ---- a write that is refused for its settings or for its payload's state
+
+not-both : (b : Bool) → not (b && false) ≡ true
+not-both true = refl
+not-both false = refl
+
+-- changes neither sender nor history
+pub astray-keeps : (s : Sender) (cfg : StreamConfig) (now : ℕ) (p : PayloadWriter) (b ring : List ℕ) → (checkOf cfg ≡ Passed → payloadValid p (length b) ≡ false)
+    → (writeAnswer s cfg now p b ring .0 .sender ≡ s) × (writeAnswer s cfg now p b ring .2 ≡ ring)
+unfolding writeAnswer
+astray-keeps s cfg now p b ring h = by-check Kept (checkOf cfg) _ _ (λ why. (refl, refl)) (λ passed. rw (h passed, not-both (validOf s ring)) (refl, refl))
+  where
+    Kept : Wrote × List ℕ × List ℕ → Type 0
+    Kept w = (w .0 .sender ≡ s) × (w .2 ≡ ring)
+
+-- ---- every call keeps what holds
 
 module _ (c q : ℕ) where
   pub record Good (d : Console) (t : List Entry) : Type 0 where
@@ -128,6 +151,8 @@ module _ (c q : ℕ) where
   step-good d t i (write-into k cfg now) a =
       by-cond (StepGood t) (ltb k (length (d .payloads))) _ _ (λ e. write-good d t i k cfg now a (omega (arith, tests))) (λ e. noted-good d t i)
   step-good d t i (put-into k call) a = put-good d t i k (putInto call) (λ v cs. reads-put call v cs (a .0) (a .1))
+  step-good d t i (write-astray p b cfg now) a =
+      let e = astray-keeps (d .sender) cfg now p b (d .ring) a in rw (e .0, e .1) (noted-good d t i)
 
   log-good : (calls : List Call) (d : Console) (t : List Entry) → Good d t → AllAllowed calls → (e : Console) × Good e (logFrom d t calls)
   unfolding logFrom

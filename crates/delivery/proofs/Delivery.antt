@@ -8,46 +8,66 @@ use native.Mathlib.Omega.{arith}
 use lib.Dec.{ltb, eqb}
 use lib.ListN.{length, getD, length-append}
 use lib.Seq.{getD-append-seam}
-use Rattle.config.proofs.Tests.{split, tests, and-left, and-right}
+use Rattle.config.proofs.Tests.{split, tests, and-right}
+use Rattle.config.specs.declared.settings.StreamConfig.{StreamConfig}
 use Rattle.command.specs.Messages.{wholeOf, wordsIn}
 use Rattle.window.specs.Arrival.{reach}
 use Rattle.window.specs.declared.window.Class.{Class}
 use Rattle.window.specs.declared.window.Span.{Span}
-use Rattle.receiver_log.specs.Calls.{Entry as Heard}
+use Rattle.receiver.specs.declared.receiver.Delivery.{Delivery}
+use Rattle.receiver.specs.declared.receiver.Hearing.the-variants.{Delivery as Delivered}
+use Rattle.receiver_log.specs.Calls.{Entry as Heard, data-entry}
 use Rattle.receiver_log.specs.Log.{Report, heard, reportOf, reports, origin, place, high, hands, times}
 use Rattle.receiver_log.specs.Promise.{Promise}
+use Rattle.receiver_log.proofs.Choices.{never}
 use Rattle.receiver_log.proofs.Runs.{receiver-promise}
 use Rattle.delivery.specs.Commands.{Command, dataOf}
-use Rattle.delivery.specs.Console.{Lent, bytes, Console, Entry, accepted, written, commands, positions, positionOf, Was}
-use Rattle.delivery.specs.Chamber.{delivered, joined, listed, handedOn, handedByPosition}
-use Rattle.delivery.specs.Sentence.{highest, Line, fresh, hear, pass, Safe, ByPosition, Run, sentLog, heardLog, heardIn, Holds, Sentence, Contract}
+use Rattle.delivery.specs.Console.{Lent, bytes, Console, Entry, accepted, written, positions, positionOf, Was}
+use Rattle.delivery.specs.Chamber.{isHeard, delivered, joined, listed, handedOn, handedByPosition, AllHanded}
+use Rattle.delivery.specs.Sentence.{highest, Line, fresh, hear, pass, Safe, ByPosition, Run, sentLog, heardLog, heardIn, Holds, Copy, Sentence, Contract, HandedWords}
 use Rattle.delivery.proofs.Lists.{all-at, length-none}
-use Rattle.delivery.proofs.Wires.{Sent, At}
 use Rattle.delivery.proofs.Sound.{Sound}
-use Rattle.delivery.proofs.Tags.{on, on-sent, noCommand}
+use Rattle.delivery.proofs.Wires.{At}
+use Rattle.delivery.proofs.Tags.{on, noCommand, Found, on-found}
 use Rattle.delivery.proofs.Consoles.{Good, console-good}
-use Rattle.delivery.proofs.Chambers.{read-position, handed-whole, Same, unheard-same, no-loss-lost, once-each, joined-is, listed-is, joined-add, joined-none}
+use Rattle.delivery.proofs.Chambers.{read-position, whole-handed, Same, unheard-same, no-loss-lost, once-each, joined-is, listed-is, joined-add, joined-none}
 
 module _ (words places : ℕ) (d : Console) (t : List Entry) (i : Good words places d t) where
   -- ---- what the console's log says
 
-  -- a command that is found in a payload's bytes is that of its position
-  heard-at : (k : ℕ) (v : Lent) → Was t k v → (before behind : List Command) (s : Command) → dataOf (bytes v) ≡ before ++ (s ∷ behind)
-      → At (positions t) s (positionOf (written t) k (length before))
-  heard-at k v w before behind s e =
+  -- a command that is found in a payload's bytes was added by a write
+  heard-found : (k : ℕ) (v : Lent) → Was t k v → (before behind : List Command) (s : Command) → dataOf (bytes v) ≡ before ++ (s ∷ behind)
+      → Found (written t) k (length before) s
+  heard-found k v w before behind s e =
       let pr = i .payloads .past k v w in
       let all : on k (written t) ≡ before ++ (s ∷ (behind ++ pr .0)) =
       pr .1 ∙ ap (λ (z : List Command). z ++ pr .0) e ∙ append-assoc before (s ∷ behind) (pr .0) in
       let l : length before < length (on k (written t)) = omega (arith, ap length all, length-append before (s ∷ (behind ++ pr .0))) in
       let here : getD (on k (written t)) (length before) noCommand ≡ s = rw all (getD-append-seam before s (behind ++ pr .0) noCommand) in
-      let sent : Sent (commands (written t)) s (positionOf (written t) k (length before)) = rw here at (on-sent (written t) k (length before) (i .payloads .indexed) l) in
-      rw (i .agrees .wire .positions) (i .agrees .wire .sent s (positionOf (written t) k (length before)) sent)
+      rw here at (on-found (written t) k (length before) (i .payloads .indexed) l)
+
+  -- and is that of its position
+  found-at : (k j : ℕ) (s : Command) → Found (written t) k j s → At (positions t) s (positionOf (written t) k j)
+  found-at k j s f = rw (i .agrees .wire .positions) (i .agrees .wire .sent s (positionOf (written t) k j) (f .sent))
 
   -- the words of each position are whole messages
   whole-at : (p : ℕ) → p < length (positions t) → wholeOf (getD (positions t) p []) ≡ true
   whole-at p l =
       let e = i .agrees .wire .positions in
       rw e (all-at Sound (i .agrees .gone ++ i .book .written) p [] (rw e at l) (i .agrees .old) .whole)
+
+  copy-of : (k : ℕ) (v : Lent) → Was t k v → (before behind : List Command) (s : Command) → dataOf (bytes v) ≡ before ++ (s ∷ behind) → Copy t k (length before) s
+  copy-of k v w before behind s e =
+      let f = heard-found k v w before behind s e in
+      let a = found-at k (length before) s f in
+      let ws : s .words ≡ getD (positions t) (positionOf (written t) k (length before)) [] = ap (λ (x : Command). x .words) (a .is) in
+      record {
+        added = f .added;
+        below = a .below;
+        number = ap (λ (x : Command). x .number) (a .is);
+        words = ws;
+        all-handed = whole-handed (s .words) (rw ws (whole-at _ (a .below)));
+      }
 
   -- all is written
   written-words : length (wordsIn (positions t)) ≡ length (accepted t) → wordsIn (positions t) ≡ accepted t
@@ -96,7 +116,7 @@ module _ (words places : ℕ) (d : Console) (t : List Entry) (i : Good words pla
           | inl h ↦ rw h (λ z.
               let e : eqb x (place (high q) (s .number)) ≡ true = and-right (hands k) _ h in
               let at-p : x - origin ≡ p = omega (arith, tests) in
-              rw (r .none x (omega arith), at-p, a .is) (handed-whole k (getD (positions t) p []) (and-left (hands k) _ h) (whole-at p (a .below))))
+              rw (r .none x (omega arith), at-p, a .is))
           | inr h ↦ rw h (r .one x)
         ];
         nowhere-else = λ x b. elim (split (hands k && eqb x (place (high q) (s .number)))) [
@@ -124,8 +144,25 @@ module _ (words places : ℕ) (d : Console) (t : List Entry) (i : Good words pla
   right : {q : List Heard} {ps : List ℕ} → Line t q ps → Right (reports q) ps
   right fresh = right-fresh
   right (hear {q = q} {ps = ps} r k v w before behind s e p at-p m n cfg now f) =
-      right-heard (reports q) ps (right r) s p (rw at-p (heard-at k v w before behind s e)) m n (f .class) (f .lost)
+      right-heard (reports q) ps (right r) s p (rw at-p (found-at k (length before) s (heard-found k v w before behind s e))) (omega (arith, m)) (omega (arith, n)) (f .class) (f .lost)
   right (pass {q = q} {ps = ps} r e x) = right-same (reports q) (reportOf e ∷ reports q) ps (right r) (unheard-same e (reports q) x)
+
+  -- of each command heard, the program hands on all words or none
+  all-handed : {q : List Heard} {ps : List ℕ} → Line t q ps → (cfg : StreamConfig) (now seq : ℕ) (ws : List ℕ) (d : Delivery)
+      → List·Memᴰ (data-entry cfg now seq ws (Delivered d)) q → AllHanded (d .class) ws
+  all-handed fresh cfg now seq ws d h = absurd (List·Memᴰ·not-nil h)
+  all-handed (hear {q = q} r k v w before behind s e p at-p m n cfg₀ now₀ f) cfg now seq ws d h = by (List·Memᴰ·cases-cons h) (λ y. all-handed r cfg now seq ws d y)
+    where
+      by : (data-entry cfg now seq ws (Delivered d) ≡ data-entry cfg₀ now₀ (s .number) (s .words) (Delivered f)) ⊎ List·Memᴰ (data-entry cfg now seq ws (Delivered d)) q
+          → (List·Memᴰ (data-entry cfg now seq ws (Delivered d)) q → AllHanded (d .class) ws) → AllHanded (d .class) ws
+      by (inl x) rest = let same : ws ≡ s .words = cc in rw same (copy-of k v w before behind s e .all-handed (d .class))
+      by (inr y) rest = rest y
+  all-handed (pass {q = q} r e x) cfg now seq ws d h = by (List·Memᴰ·cases-cons h) (λ y. all-handed r cfg now seq ws d y)
+    where
+      by : (data-entry cfg now seq ws (Delivered d) ≡ e) ⊎ List·Memᴰ (data-entry cfg now seq ws (Delivered d)) q
+          → (List·Memᴰ (data-entry cfg now seq ws (Delivered d)) q → AllHanded (d .class) ws) → AllHanded (d .class) ws
+      by (inl y) rest = absurd (never (ap isHeard (sym y)) x)
+      by (inr y) rest = rest y
 
 -- ---- the highest of the positions heard
 
@@ -170,7 +207,7 @@ module _ (C : List (List ℕ)) (q : List Report) (d : ByPosition C q) (none : (x
 -- ---- the sentence
 
 promise : (u : Run) → Promise (u .window) (heardIn u)
-promise u = receiver-promise (u .window) (u .least) (u .most) (u .arrivals) (u .typed)
+promise u = receiver-promise (u .window) (omega (arith, u .least)) (omega (arith, u .most)) (u .arrivals) (u .typed)
 
 good : (u : Run) → (d : Console) × Good (u .words) (u .places) d (sentLog u)
 good u = console-good (u .words) (u .places) (u .memory) (u .started) (u .calls) (u .allowed)
@@ -215,6 +252,7 @@ all-listed u h = handed-listed (positions (sentLog u)) (heardIn u) (by-position 
 
 pub sentence : Sentence
 sentence = record {
+  copies = λ u. copy-of (u .words) (u .places) (good u .0) (sentLog u) (good u .1);
   safe = safe;
   by-position = by-position;
   joined = all-joined;
@@ -225,3 +263,6 @@ sentence = record {
 
 pub contract : Contract
 contract = record { first = sentence; second = receiver-promise }
+
+pub handed-words : HandedWords
+handed-words u ps line = all-handed (u .words) (u .places) (good u .0) (sentLog u) (good u .1) line

@@ -9,8 +9,11 @@ mod Books
 mod Writing
 mod Tags
 mod Lent
-mod Consoles
+pub mod Consoles
 mod Chambers
 pub mod Delivery
+pub mod Taking
+mod Refusing
+mod Covered
 pub mod Example
 mod Reach

@@ -68,7 +68,7 @@ front-whole n ws e = by-messages (λ xs. (n : ℕ) → wholeOf (front n xs) ≡ 
 
 -- ---- handed on
 
--- whole messages are handed on as they are
+-- all words of whole messages are words of whole messages
 pub whole-words : (ws : List ℕ) → wholeOf ws ≡ true → wholeWords ws ≡ ws
 unfolding wholeWords wordsIn
 whole-words ws e = by-messages (λ xs. wholeWords xs ≡ xs) (rw messages-nil) step ws e

@@ -1,7 +1,7 @@
 -- Packets that a write adds: copies of positions, errors, new commands.
 use Prim.Native.Nat.{ℕ, suc, _+_, _*_, _/_, _%_, _≤_, _<_}
 use mathlib.Core.Path.{_≡_, refl, ap, sym, _∙_}
-use mathlib.Core.Bool.{false, cond}
+use mathlib.Core.Bool.{true, false, cond}
 use mathlib.Core.Logic.{inl, inr}
 use mathlib.Core.List.{List, [], _∷_, _++_, append-assoc}
 use native.Mathlib.Omega.{arith}
@@ -18,6 +18,10 @@ use Rattle.delivery.proofs.Sound.{Sound}
 use Rattle.delivery.proofs.Wires.{numberedFrom, onto, Wire, wire-copy}
 
 -- ---- data commands among packets
+
+-- a sender's own commands are
+own-data : (number : ℕ) (ws : List ℕ) → isData (dataPacket number ws) ≡ true
+own-data number ws = refl
 
 pub data-append : (cs ds : List Packet) → dataIn (cs ++ ds) ≡ dataIn cs ++ dataIn ds
 unfolding dataIn

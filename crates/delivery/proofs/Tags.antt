@@ -3,7 +3,7 @@ use Prim.Native.Nat.{ℕ, suc, _<_}
 use mathlib.Core.Path.{_≡_, refl, sym, _∙_}
 use mathlib.Core.Logic.{_⊎_, inl, inr}
 use mathlib.Core.Bool.{true, false, cond}
-use mathlib.Core.List.{List, [], _∷_, _++_, append-assoc, append-nil}
+use mathlib.Core.List.{List, [], _∷_, _++_, append-assoc, append-nil, List·Memᴰ, List·Memᴰ·head, List·Memᴰ·tail}
 use native.Mathlib.Omega.{arith}
 use lib.Dec.{eqb}
 use lib.ListN.{length, getD, length-append, List·getD-append}
@@ -27,35 +27,50 @@ Indexed (g ∷ w) = (g .index ≡ length (on (g .payload) w)) × Indexed w
 pub same-payload : (k : ℕ) → eqb k k ≡ true
 same-payload k = omega (arith, lifts)
 
--- ---- the i-th of payload k was written at its position
+-- ---- the i-th of payload k: a write added it, at its position
 
 abbrev pub noCommand : Command
 noCommand = record { number = 0; words = [] }
 
+pub record Found (w : List Tag) (k i : ℕ) (c : Command) : Type 0 where
+  pub added : List·Memᴰ (record { payload = k; index = i; what = c }) w
+  pub sent : Sent (commands w) c (positionOf w k i)
+
 module _ (g : Tag) (w : List Tag) (k i : ℕ) where
-  position-here : eqb k (g .payload) ≡ true → eqb i (g .index) ≡ true → positionOf (g ∷ w) k i ≡ position (commands w) (g .what)
-  position-here e f = rw (e, f)
+  found-here : eqb k (g .payload) ≡ true → eqb i (g .index) ≡ true → Found (g ∷ w) k i (g .what)
+  found-here e f =
+      let p : k ≡ g .payload = omega (arith, tests) in
+      let n : i ≡ g .index = omega (arith, tests) in
+      let here : positionOf (g ∷ w) k i ≡ position (commands w) (g .what) = simp (e, f) in
+      let same : _≡_ {A = Tag} (record { payload = k; index = i; what = g .what }) g = rw (p, n) in
+      record { added = List·Memᴰ·head same; sent = rw here (now (commands w) (g .what)) }
+
+  found-earlier : (c : Command) → positionOf (g ∷ w) k i ≡ positionOf w k i → Found w k i c → Found (g ∷ w) k i c
+  found-earlier c e f = record { added = List·Memᴰ·tail (f .added); sent = rw e (earlier (g .what) (f .sent)) }
+
+  position-other : eqb k (g .payload) ≡ false → positionOf (g ∷ w) k i ≡ positionOf w k i
+  position-other e = rw e
 
   position-below : eqb i (g .index) ≡ false → positionOf (g ∷ w) k i ≡ positionOf w k i
-  position-below f = elim (split (eqb k (g .payload))) [ inl e ↦ rw (e, f) | inr e ↦ rw e ]
+  position-below f = elim (split (eqb k (g .payload))) [ inl e ↦ simp (e, f) | inr e ↦ rw e ]
 
-pub on-sent : (w : List Tag) (k i : ℕ) → Indexed w → i < length (on k w) → Sent (commands w) (getD (on k w) i noCommand) (positionOf w k i)
-on-sent [] k i x l = absurd (let z : ⊥ = omega arith in z)
-on-sent (g ∷ w) k i x l = go (split (eqb k (g .payload))) (on-sent w k i (x .1))
+pub on-found : (w : List Tag) (k i : ℕ) → Indexed w → i < length (on k w) → Found w k i (getD (on k w) i noCommand)
+on-found [] k i x l = absurd (let z : ⊥ = omega arith in z)
+on-found (g ∷ w) k i x l = go (split (eqb k (g .payload))) (on-found w k i (x .1))
   where
-    go : (eqb k (g .payload) ≡ true) ⊎ (eqb k (g .payload) ≡ false) → (i < length (on k w) → Sent (commands w) (getD (on k w) i noCommand) (positionOf w k i))
-        → Sent (commands (g ∷ w)) (getD (on k (g ∷ w)) i noCommand) (positionOf (g ∷ w) k i)
-    go (inr e) rest = rw e (earlier (g .what) (rest (rw e at l)))
+    go : (eqb k (g .payload) ≡ true) ⊎ (eqb k (g .payload) ≡ false) → (i < length (on k w) → Found w k i (getD (on k w) i noCommand))
+        → Found (g ∷ w) k i (getD (on k (g ∷ w)) i noCommand)
+    go (inr e) rest = rw e (found-earlier g w k i (getD (on k w) i noCommand) (position-other g w k i e) (rest (rw e at l)))
     go (inl e) rest =
         let kp : k ≡ g .payload = omega (arith, tests) in
         let m : i < length (on k w ++ (g .what ∷ [])) = rw e at l in
         let n : g .index ≡ length (on k w) = rw kp (x .0) in
         elim (split (eqb i (g .index))) [
-          | inl f ↦
-              rw (position-here g w k i e f, e, getD-at (on k w) (g .what) [] noCommand i (omega (arith, tests))) (now (commands w) (g .what))
+          | inl f ↦ rw (e, getD-at (on k w) (g .what) [] noCommand i (omega (arith, tests))) (found-here g w k i e f)
           | inr f ↦
               let j : i < length (on k w) = omega (arith, tests, length-append (on k w) (g .what ∷ [])) in
-              rw (position-below g w k i f, e, List·getD-append (on k w) (g .what ∷ []) noCommand i j) (earlier (g .what) (rest j))
+              rw (e, List·getD-append (on k w) (g .what ∷ []) noCommand i j)
+              (found-earlier g w k i (getD (on k w) i noCommand) (position-below g w k i f) (rest j))
         ]
 
 -- ---- those of one write

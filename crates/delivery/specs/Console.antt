@@ -1,14 +1,16 @@
 -- 01, "The runs of demand 3": a console's end of the line. A fresh sender with its history, and the payloads that are opened, lent, written and sent: the calls, the log that
 -- a list of calls leaves, and what was accepted and written, over that log alone.
-use Prim.Native.Nat.{ℕ, suc, _<_}
+use Prim.Native.Nat.{ℕ, suc}
 use mathlib.Core.Path.{_≡_}
-use mathlib.Core.Bool.{Bool, true, false, cond, _&&_}
+use mathlib.Core.Bool.{false, cond, _&&_}
 use mathlib.Core.List.{List, [], _∷_, _++_}
 use lib.Dec.{eqb, ltb}
-use lib.ListN.{length, getD, take, drop, set}
+use lib.ListN.{length, getD, drop, set}
+use Rattle.config.specs.Settings.{checkOf}
+use Rattle.config.specs.declared.settings.Check.the-variants.{Passed}
 use Rattle.config.specs.declared.settings.StreamConfig.{StreamConfig}
 use Rattle.packet.specs.Layout.{Words32}
-use Rattle.packet.specs.Write.{openedOf, bytesIn}
+use Rattle.packet.specs.Write.{openedOf, bytesIn, validOf as payloadValid}
 use Rattle.packet.specs.declared.writer.PayloadWriter.{PayloadWriter}
 use Rattle.packet.specs.declared.writer.Opened.{Opened}
 use Rattle.packet.specs.declared.writer.Opened.the-variants.{Payload, Refused as OpenRefused}
@@ -54,6 +56,8 @@ pub data Call : Type 0 where
   write-into : ℕ → StreamConfig → ℕ → Call
   -- payload, and a call that writes one command into it: a request, an error, a raw command
   put-into : ℕ → Writes.Call → Call
+  -- payload, buffer, settings, time: a write into whatever payload, refused for its settings or for the payload's state
+  write-astray : PayloadWriter → List ℕ → StreamConfig → ℕ → Call
 
 -- the log: calls with what they were given, answered and left
 pub data Entry : Type 0 where
@@ -119,6 +123,9 @@ stepOf c (retransmit-request cfg r) =
     noting record { sender = requestAnswer (c .sender) cfg (c .ring) r .sender; ring = c .ring; payloads = c .payloads }
 stepOf c (write-into k cfg now) = cond (ltb k (length (c .payloads))) (writeStep c k cfg now) (noting c)
 stepOf c (put-into k call) = cond (ltb k (length (c .payloads))) (putStep c k (putInto call (payloadAt c k))) (noting c)
+stepOf c (write-astray p b cfg now) =
+    let w = writeAnswer (c .sender) cfg now p b (c .ring) in
+    noting record { sender = w .0 .sender; ring = w .2; payloads = c .payloads }
 
 -- the log after a list of calls, newest first
 unfoldable pub logFrom : Console → List Entry → List Call → List Entry
@@ -137,6 +144,7 @@ Allowed (queue-words cfg ws) = Words32 ws
 Allowed (retransmit-request cfg r) = Unit {0}
 Allowed (write-into k cfg now) = TypedConfig cfg
 Allowed (put-into k call) = WriteTyped call × (isData (commandOf call) ≡ false)
+Allowed (write-astray p b cfg now) = checkOf cfg ≡ Passed → payloadValid p (length b) ≡ false
 
 abbrev pub AllAllowed : List Call → Type 0
 AllAllowed [] = Unit {0}

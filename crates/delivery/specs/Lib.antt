@@ -4,3 +4,4 @@ pub mod Positions
 pub mod Console
 pub mod Chamber
 pub mod Sentence
+pub mod Take

@@ -1,14 +1,16 @@
 -- Demand 3. First sentence: if all that was accepted is written, the sender's newest position, if any, is heard, no loss is reported and nothing is missing, then what
 -- is handed on, joined in order of command position, is the accepted message list. Second sentence: crate receiver_log.
-use Prim.Native.Nat.{ℕ, _+_, _-_, _≤_, _<_, max}
+use Prim.Native.Nat.{ℕ, _+_, _-_, _%_, _≤_, _<_, max}
 use mathlib.Core.Path.{_≡_}
 use mathlib.Core.Bool.{false}
 use mathlib.Core.Logic.{_⊎_, _↔_}
 use mathlib.Core.List.{List, [], _∷_, _++_, List·Memᴰ}
 use lib.ListN.{length, getD}
+use Rattle.config.specs.Sequence.{turn}
 use Rattle.config.specs.declared.settings.StreamConfig.{StreamConfig}
 use Rattle.window.specs.Set.{maxWindow}
 use Rattle.window.specs.Arrival.{reach}
+use Rattle.window.specs.declared.window.Class.{Class}
 use Rattle.window.specs.declared.window.Span.the-variants.{Nothing}
 use Rattle.receiver.specs.declared.receiver.Delivery.{Delivery}
 use Rattle.receiver.specs.declared.receiver.Hearing.the-variants.{Delivery as Delivered}
@@ -21,7 +23,7 @@ use Rattle.command.specs.Messages.{wordsIn}
 use Rattle.sender.specs.declared.sender.Start.the-variants.{Done}
 use Rattle.delivery.specs.Commands.{Command, dataOf}
 use Rattle.delivery.specs.Console.{Lent, bytes, Call, Entry, logFrom, freshConsole, AllAllowed, accepted, written, positions, positionOf, Was}
-use Rattle.delivery.specs.Chamber.{isHeard, delivered, handedOn, handedByPosition}
+use Rattle.delivery.specs.Chamber.{isHeard, delivered, handedOn, handedByPosition, AllHanded}
 
 -- ---- the line
 
@@ -109,7 +111,19 @@ Holds u = (ps : List ℕ) × Premises (u .window) (sentLog u) (heardLog u) ps
 
 -- ---- the sentence
 
+-- the i-th data command of payload k is a copy that a write of this sender added: it has the number of its position and the words that the sender wrote there
+pub record Copy (t : List Entry) (k i : ℕ) (c : Command) : Type 0 where
+  pub added : List·Memᴰ (record { payload = k; index = i; what = c }) (written t)
+  pub below : positionOf (written t) k i < length (positions t)
+  pub number : c .number ≡ positionOf (written t) k i % turn
+  pub words : c .words ≡ getD (positions t) (positionOf (written t) k i) []
+  -- and whatever it is answered, the program hands on all of its words or none
+  pub all-handed : (class : Class) → AllHanded class (c .words)
+
 pub record Sentence : Type 0 where
+  -- whatever payload is read, at whatever moment: each data command in it is a copy
+  pub copies : (u : Run) (k : ℕ) (v : Lent) → Was (sentLog u) k v → (before behind : List Command) (c : Command) → dataOf (bytes v) ≡ before ++ (c ∷ behind)
+      → Copy (sentLog u) k (length before) c
   pub safe : (u : Run) (ps : List ℕ) → Line (sentLog u) (heardLog u) ps → Safe (positions (sentLog u)) (heardIn u)
   pub by-position : (u : Run) → Holds u → ByPosition (positions (sentLog u)) (heardIn u)
   pub joined : (u : Run) → Holds u → handedOn (heardIn u) ≡ accepted (sentLog u)
@@ -122,3 +136,11 @@ pub record Sentence : Type 0 where
 pub record Contract : Type 0 where
   pub first : Sentence
   pub second : ReceiverPromise
+
+-- ---- what the program hands on
+
+-- of each command heard on the line, all of its words or, of a Duplicate, none
+abbrev pub HandedWords : Type 0
+HandedWords =
+    (u : Run) (ps : List ℕ) → Line (sentLog u) (heardLog u) ps
+    → (cfg : StreamConfig) (now seq : ℕ) (ws : List ℕ) (d : Delivery) → List·Memᴰ (data-entry cfg now seq ws (Delivered d)) (heardLog u) → AllHanded (d .class) ws

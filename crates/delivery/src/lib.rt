@@ -13,11 +13,15 @@
 // stream and other commands; refused calls are among them. What is heard is a data command that
 // reading the bytes of some payload at some moment finds, within reach of the highest heard.
 //
-// There is no state and no code here. The function of `theorems` does nothing, and its contract is a
+// There is no state and no code here. Each function of `theorems` does nothing, and its contract is a
 // theorem about the definitions of crates `sender` and `receiver`:
 //
 //   contract_sentence   demand 3, both sentences
+//   handed_words        the program hands on all words of a command that is heard on the line
+//   take                a receiver's take leaves a payload as it was, or writes one Retransmit Request
 //
+// proofs/Covered.antt shows that the theorems are said of every call, size and refused call.
 // proofs/Example.antt has a run that meets all premises, with a lost, a repeated and a retransmitted
-// payload; proofs/Reach.antt shows what a command out of reach would do.
+// payload, one that is sent at two moments, and refused calls; proofs/Reach.antt shows what a command
+// out of reach would do.
 pub mod theorems;

@@ -47,7 +47,7 @@ unfolding AllEncodable
 allEncodable-append [] ds h k = k
 allEncodable-append (c ∷ cs) ds h k = (h .0, allEncodable-append cs ds (h .1) k)
 
-items-encoded : (cs : List Packet) (f at : ℕ) → length (encodedAll cs) ≤ f → AllEncodable cs → itemsFrom f at (encodedAll cs) ≡ placed at cs
+pub items-encoded : (cs : List Packet) (f at : ℕ) → length (encodedAll cs) ≤ f → AllEncodable cs → itemsFrom f at (encodedAll cs) ≡ placed at cs
 unfolding encodedAll AllEncodable itemsFrom placed
 items-encoded [] zero at h a = refl
 items-encoded [] (suc f) at h a = refl

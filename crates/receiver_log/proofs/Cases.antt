@@ -1,35 +1,29 @@
 -- 01, "Session cases" and "Position, window, loss", computed over logs: what lists of calls answer, and what the timer is after them.
 use mathlib.Core.Path.{_≡_, refl}
-use mathlib.Core.Bool.{true}
+use mathlib.Core.Bool.{true, false}
 use mathlib.Core.List.{List, [], _∷_}
 use Prim.Native.Nat.{ℕ}
-use Rattle.config.specs.Settings.{checkOf}
-use Rattle.config.specs.declared.settings.StreamConfig.{StreamConfig}
+use lib.Count.{trailingZeros}
+use Rattle.config.specs.Settings.{checkOf, defaults}
 use Rattle.packet.specs.Write.{validOf, writtenOf}
 use Rattle.packet.specs.declared.writer.PayloadWriter.{PayloadWriter}
+use Rattle.window.specs.Window.{validOf as windowValid, processed, missingOf, spanOf}
+use Rattle.window.specs.Set.{val, setOf, topIn, topOf, bottomOf}
+use Rattle.window.specs.Arrival.{classOf, movedOf, lostOf, newOf, acceptOf}
 use Rattle.window.specs.declared.window.Class.the-variants.{New, Late, Duplicate}
 use Rattle.window.specs.declared.window.Span.{Span}
 use Rattle.window.specs.declared.window.Span.the-variants.{Nothing, Of}
-use Rattle.receiver.specs.Receiver.{dueAfter}
+use Rattle.receiver.specs.Receiver.{validOf as receiverValid, dueAfter, settledOf, heardOf, gaveUp, polledOf}
+use Rattle.receiver.specs.Answers.{dataAnswer, pollAnswer}
+use Rattle.receiver.specs.declared.receiver.StreamEvent.the-variants.{Nothing as NoEvent, DataLoss}
 use Rattle.receiver.specs.declared.receiver.Timer.the-variants.{Stopped, Running}
 use Rattle.receiver.specs.declared.receiver.Asked.the-variants.{Request as AskedFor}
-use Rattle.receiver_log.specs.Calls.{Call, data-command, poll, retransmit-error, nak, take-request, Entry}
+use Rattle.receiver_log.specs.Calls.{Call, data-command, poll, retransmit-error, nak, take-request, Entry, stepOf, runFrom, run}
 use Rattle.receiver_log.specs.Log.{heard, told, reports, isAhead, place, start, unprocessed}
 use Rattle.receiver_log.specs.Spans.{endsOf, classIn, lostAt, lostIn, missingEnds, missingIn, askedFor}
 use Rattle.receiver_log.specs.Timing.{timerIn, askedIn, nakIn}
 use Rattle.receiver_log.specs.Answers.{answerOf, saidOf}
-
-abbrev defaults : StreamConfig
-defaults = record {
-  «idle_interval_ms» = 100;
-  «idle_growth» = 2;
-  «idle_further» = 5;
-  «fec_repeats» = 2;
-  retransmit = true;
-  «request_delay_ms» = 10;
-  «max_requests» = 3;
-  «max_command_words» = 64;
-}
+use Rattle.receiver_log.specs.RequestTimes.{Poll, polled, pollsOf, delayed, requestsFrom}
 
 abbrev hear : ℕ → ℕ → Call
 hear now seq = data-command defaults now seq []
@@ -76,6 +70,22 @@ pub given-up : reports (saidOf 64 [] (hear 0 1 ∷ poll defaults 10 ∷ poll def
     ≡ (told (range 0 1) ∷ told Nothing ∷ told Nothing ∷ told Nothing ∷ heard 1 [] (New 1) Nothing ∷ [])
 unfolding saidOf answerOf checkOf classIn isAhead place lostIn lostAt missingEnds endsOf unprocessed start dueAfter
 given-up = refl
+
+-- the same times by their definition, and of a receiver with a window of 4 that is polled at each due time
+abbrev asked-at : List Poll
+asked-at = polled 10 NoEvent true ∷ polled 30 NoEvent true ∷ polled 70 NoEvent true ∷ polled 150 (DataLoss record { first = 0; count = 1 }) false ∷ []
+
+pub requests-by-definition : requestsFrom 10 0 3 0 (DataLoss record { first = 0; count = 1 }) ≡ asked-at
+unfolding requestsFrom
+requests-by-definition = refl
+
+pub requests-polled : pollsOf 5 defaults (run 4 (hear 0 1 ∷ []) .receiver) ≡ asked-at
+unfolding pollsOf pollAnswer polledOf receiverValid gaveUp dueAfter run runFrom stepOf dataAnswer heardOf settledOf checkOf acceptOf classOf newOf movedOf lostOf windowValid processed missingOf spanOf val setOf topIn topOf bottomOf trailingZeros
+requests-polled = refl
+
+-- the power stops at 2^32, and times at 2^64-1
+pub power-capped : (delayed 1 31 0 ≡ 2147483648) × (delayed 1 32 0 ≡ 4294967296) × (delayed 1 33 0 ≡ 4294967296) × (delayed 1 0 18446744073709551615 ≡ 18446744073709551615)
+power-capped = (refl, refl, refl, refl)
 
 -- a request that was taken is unanswered; a Retransmit Error reports what is missing of it
 abbrev payload : PayloadWriter

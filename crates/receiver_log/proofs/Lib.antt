@@ -17,4 +17,6 @@ mod Refusing
 mod Taking
 pub mod Missing
 pub mod Runs
+mod RequestTimes
 mod Cases
+mod Covered

@@ -5,3 +5,4 @@ pub mod Spans
 pub mod Timing
 pub mod Answers
 pub mod Promise
+pub mod RequestTimes

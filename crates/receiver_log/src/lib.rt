@@ -17,4 +17,5 @@
 //   receiver_reached   the state left passes the state test, and is what the log says
 //   never_invalid      no call is refused with 13 for the receiver's state
 //   receiver_answers   what the next call answers is what the log says
+//   request_times      the times of requests and of the report after a new gap and silence
 pub mod theorems;

@@ -1,5 +1,6 @@
 // Theorems as contracts: each of these functions does nothing, and its contract is the theorem.
 ghost use Rattle.receiver_log.specs.Promise.{ReceiverPromise, MissingSpan, NeverInvalid, Reached, Answered};
+ghost use Rattle.receiver_log.specs.RequestTimes.{RequestTimes};
 
 // Demand 3, second sentence: whatever arrives, each position from 0 to the highest has been handed
 // on at most once, and if not handed on lies in a reported loss or is still missing.
@@ -26,4 +27,10 @@ pub fn never_invalid()
 // What the next call answers equals a definition over the log.
 pub fn receiver_answers()
     ensures { λ _. ⌜ Answered ⌝ }
+{}
+
+// After a new gap and silence requests are due D, then 2D, 4D and on later, M of them; one delay after
+// the last the missing span is reported.
+pub fn request_times()
+    ensures { λ _. ⌜ RequestTimes ⌝ }
 {}

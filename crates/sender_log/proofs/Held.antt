@@ -119,6 +119,13 @@ module _ (c : ℕ) (h : SendHistory) (ring : List ℕ) (first : ℕ) (ws us : Li
         let n = subst (Holds (appended h ring xs .0) (appended h ring xs .1)) (appended-parts l) (holds-appended h ring w xs (ws ++ vs) (subst (Holds h ring) e (a .holds)) k) in
         record { words = appended-size ∙ a .words; holds = n; oldest = appended-oldest n }
 
+-- ---- the book
+
+pub pushed-held : (c : ℕ) (h : SendHistory) (ring : List ℕ) (b : Book) → Held c h ring b → (xs : List ℕ) → length xs ≤ 64 → 1 + length xs + size (b .unwritten) ≤ c
+    → Held c (pushed h ring xs .0) (pushed h ring xs .1) (pushedIn c xs b)
+unfolding pushedIn freed
+pushed-held c h ring b a xs k l = pushed-commands c h ring (b .first) (b .written) (b .unwritten) a xs k l
+
 -- the newest command takes n words
 pub record Takes (us : List (List ℕ)) (n : ℕ) : Type 0 where
   pub before : List (List ℕ)
@@ -148,10 +155,6 @@ joined-held c h ring b a (x ∷ xs) t l =
     appended-commands c h ring (b .first) (b .written) (b .unwritten) a (n .before) (n .newest) (x ∷ xs) (n .parts) (n .few) l
 
 -- ---- further commands
-pub pushed-held : (c : ℕ) (h : SendHistory) (ring : List ℕ) (b : Book) → Held c h ring b → (xs : List ℕ) → length xs ≤ 64 → 1 + length xs + size (b .unwritten) ≤ c
-    → Held c (pushed h ring xs .0) (pushed h ring xs .1) (pushedIn c xs b)
-unfolding pushedIn freed
-pushed-held c h ring b a xs k l = pushed-commands c h ring (b .first) (b .written) (b .unwritten) a xs k l
 
 pub pushedAll-held : (cs : List (List ℕ)) (c : ℕ) (h : SendHistory) (ring : List ℕ) (b : Book) → Held c h ring b → Short cs → size cs + size (b .unwritten) ≤ c
     → Held c (pushedAll h ring cs .0) (pushedAll h ring cs .1) (pushedAllIn c cs b)

@@ -157,5 +157,5 @@ unfolding stepsOf timesAt
 idle-times c cfg p by b time f passed v room short none quiet timer enough =
     let T : ℕ = cfg .«idle_interval_ms» in
     let e : 1 + cfg .«fec_repeats» ≡ suc (cfg .«fec_repeats») = omega arith in
-    rw e
-    (dues-steady c cfg p by passed v room (cfg .«fec_repeats») f b record { due = later time T; step = 0; interval = T } (record { short = short; none = none; quiet = quiet; timer = timer }) (omega arith) (omega arith))
+    dues-steady c cfg p by passed v room (cfg .«fec_repeats») f b record { due = later time T; step = 0; interval = T } (record { short = short; none = none; quiet = quiet; timer = timer }) (omega arith) (omega arith)
+    ∙ ap (λ (n : ℕ). timesAt time (replicate n T ++ growing (cfg .«idle_growth») T (cfg .«idle_further»))) (sym e)

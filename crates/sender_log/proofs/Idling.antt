@@ -82,7 +82,8 @@ module _ (c q : ℕ) (s : Sender) (ring : List ℕ) (b : Book) (f : Follows c q 
   idled-by Off = f
   idled-by (Waiting i) =
       let e : not (isEmpty (b .unwritten)) ≡ ltb 0 (s .unsent) = some-left (b .unwritten) ∙ ap (ltb 0) (sym (f .unsent)) in
-      rw e (on (ltb 0 (s .unsent)) refl (ltb now (i .due)))
+      subst (λ (x : Bool). Idles (idledBy s cfg now ring (Waiting i)) (cond (x || ltb now (i .due)) b (withTimer (pushedIn c [] b) (idleNext cfg now i)))) (sym e)
+      (on (ltb 0 (s .unsent)) refl (ltb now (i .due)))
     where
       on : (x : Bool) → ltb 0 (s .unsent) ≡ x → (y : Bool) → Idles
           (cond (x || y) (s, ring) (withIdle (holding s (pushed (s .history) ring [] .0) 1 1) (idleNext cfg now i), pushed (s .history) ring [] .1))

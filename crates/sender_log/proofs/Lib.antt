@@ -1,4 +1,5 @@
 -- Why the sender over lists of calls holds what it says.
+pub mod Choices
 pub mod Newest
 mod Held
 pub mod Packets
@@ -14,3 +15,11 @@ pub mod Rows
 pub mod More
 mod Idle
 mod Cases
+pub mod Covered
+pub mod Words
+pub mod Added
+pub mod Counting
+pub mod Opening
+pub mod Opened
+pub mod Past
+pub mod Wanted

@@ -131,7 +131,7 @@ served-one b small r rs out i false e y j =
       left = λ z. rw (rest-answer b small r (out .written) (l .0)) (l .1);
     }
 
-not-whole : (x y : Bool) → (x || y) ≡ false → x ≡ false
+pub not-whole : (x y : Bool) → (x || y) ≡ false → x ≡ false
 not-whole true y e = e
 not-whole false y e = refl
 
@@ -246,7 +246,7 @@ module _ (cfg : StreamConfig) (now n : ℕ) (b : Book) (p : PayloadWriter) (by :
 
 -- ---- the whole write
 
-idled-waiting : (c : ℕ) (cfg : StreamConfig) (now : ℕ) (b : Book) → idledIn c cfg now b .waiting ≡ b .waiting
+pub idled-waiting : (c : ℕ) (cfg : StreamConfig) (now : ℕ) (b : Book) → idledIn c cfg now b .waiting ≡ b .waiting
 unfolding idledIn pushedIn freed
 idled-waiting c cfg now b = on (b .idle)
   where
@@ -258,7 +258,7 @@ idled-waiting c cfg now b = on (b .idle)
         by-test true = refl
         by-test false = refl
 
-idled-short : (c : ℕ) (cfg : StreamConfig) (now : ℕ) (b : Book) → Short (b .written) → Short (b .unwritten) → Short (idledIn c cfg now b .written) × Short (idledIn c cfg now b .unwritten)
+pub idled-short : (c : ℕ) (cfg : StreamConfig) (now : ℕ) (b : Book) → Short (b .written) → Short (b .unwritten) → Short (idledIn c cfg now b .written) × Short (idledIn c cfg now b .unwritten)
 unfolding idledIn pushedIn freed
 idled-short c cfg now b sw su = on (b .idle)
   where

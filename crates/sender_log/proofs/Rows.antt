@@ -1,9 +1,9 @@
 -- Commands written in a row: one that doesn't fit ends it, and those that fit together are all written.
-use mathlib.Core.Path.{_≡_, refl}
+use mathlib.Core.Path.{_≡_, refl, ap, _∙_}
 use mathlib.Core.Bool.{Bool, true, false, cond}
 use mathlib.Core.Logic.{inl, inr}
 use mathlib.Core.List.{List, [], _∷_, _++_, append-nil}
-use Prim.Native.Nat.{ℕ, zero, suc, _+_, _≤_, _<_}
+use Prim.Native.Nat.{ℕ, zero, suc, _+_, _≤_, _<_, min}
 use native.Mathlib.Omega.{arith}
 use borrow.Author.Tests.{ltb-true, ltb-false, lt-ltb, le-ltb, ne-eqb}
 use lib.Dec.{ltb}
@@ -43,7 +43,7 @@ module _ (p : PayloadWriter) (by : List ℕ) (c : Packet) (v : validOf p (length
   unfolding writtenOf
   one-written l k = rw (v, le-ltb (limitOf p (length by)) (startOf p + sizeOf c) l, le-ltb 255 (length (c .words)) k)
 
-  row-left : (cs : List Packet) → limitOf p (length by) < startOf p + sizeOf c → rowOf p by (c ∷ cs) ≡ record { payload = p; bytes = by; written = 0; whole = false }
+  pub row-left : (cs : List Packet) → limitOf p (length by) < startOf p + sizeOf c → rowOf p by (c ∷ cs) ≡ record { payload = p; bytes = by; written = 0; whole = false }
   unfolding rowOf
   row-left cs l = rw (one-left l)
 
@@ -115,12 +115,30 @@ row-all cs p by f v l =
       | inr t ↦ absurd (let z : ⊥ = omega (arith, r .left t .0) in z)
     ]
 
--- ---- repeats
+-- ---- sizes
 
 pub sizes-append : (xs ys : List Packet) → sizesOf (xs ++ ys) ≡ sizesOf xs + sizesOf ys
 unfolding sizesOf
 sizes-append [] ys = omega arith
 sizes-append (x ∷ xs) ys = omega (arith, sizes-append xs ys)
+
+-- where the next header goes after a row
+pub row-start : (cs : List Packet) (p : PayloadWriter) (by : List ℕ) → Few cs → validOf p (length by) ≡ true
+    → (startOf (rowOf p by cs .payload) ≡ startOf p + sizesOf (take (rowOf p by cs .written) cs)) × (limitOf (rowOf p by cs .payload) (length (rowOf p by cs .bytes)) ≡ limitOf p (length by))
+unfolding rowOf Few sizesOf
+row-start [] p by f v = (omega arith, refl)
+row-start (c ∷ cs) p by f v = elim (split (ltb (limitOf p (length by)) (startOf p + sizeOf c))) [
+  | inl t ↦ rw (row-left p by c v cs (ltb-true (limitOf p (length by)) (startOf p + sizeOf c) t)) (omega arith, refl)
+  | inr t ↦
+      let l = ltb-false (limitOf p (length by)) (startOf p + sizeOf c) t in
+      let n = placed-length p by c v l (f .0) in
+      let i = row-start cs (doneOf p c .payload) (placedOf p by c) (f .1) (after-valid p by c v l (f .0)) in
+      let w : ℕ = rowOf (doneOf p c .payload) (placedOf p by c) cs .written in
+      let m : 1 + w ≡ suc w = omega arith in
+      rw (row-one p by c v l (f .0) cs, m) (omega (arith, i .0, start-after p by c v), i .1 ∙ ap (λ (k : ℕ). min (p .max) k) n)
+]
+
+-- ---- repeats
 
 -- repeats fit beside the first new command
 pub repeats-fit : (p : PayloadWriter) (by : List ℕ) (first : Packet) (cs : List Packet) → fitAll p by (first ∷ []) ≡ true → fitAll p by (first ∷ repeatsOf p by first cs) ≡ true

@@ -1,6 +1,8 @@
 // Theorems as contracts: each of these functions does nothing, and its contract is the theorem.
 ghost use Rattle.sender_log.specs.Promise.{Reached, NeverInvalid, Answered, More, NotStarted};
 ghost use Rattle.sender_log.specs.Idle.{IdleTimes};
+ghost use Rattle.sender_log.specs.Counted.{Counted};
+ghost use Rattle.sender_log.specs.Past.{Held};
 
 // The state that a list of calls leaves passes the state test, and each part of it equals a
 // definition over the calls.
@@ -33,4 +35,17 @@ pub fn idle_times()
 // A start that is refused leaves a sender that every call refuses with 13.
 pub fn not_started()
     ensures { λ _. ⌜ NotStarted ⌝ }
+{}
+
+// Reading a payload after a write finds what it held before, and then exactly as many whole commands
+// as the answer says: retransmits, repeats and new ones in order, up to the first that doesn't fit.
+pub fn write_counted()
+    ensures { λ _. ⌜ Counted ⌝ }
+{}
+
+// The history holds the longest end of all commands ever opened that fits; those are read off the
+// past calls, their answers and the bytes that writes added. The waiting requests and the idle timer
+// follow from the same log.
+pub fn sender_held()
+    ensures { λ _. ⌜ Held ⌝ }
 {}

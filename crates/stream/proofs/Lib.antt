@@ -6,4 +6,4 @@ pub mod NotStarted
 mod Taking
 mod Counts
 mod Writing
-mod Calls
+pub mod Calls
