@@ -7,8 +7,9 @@
  * Of a pointer and a length, the pointer is that of an array of at least that many elements, aligned
  * for its type, and not NULL, even where the length is 0. Arrays of one call do not overlap, and
  * no other thread uses them during the call. Nothing else is asked: every value is tested, and a
- * call that is refused answers one of the numbers below. A refused call changes nothing, but for
- * sirmjold_stream_new and number 3 of sirmjold_stream_write_data, where it is said.
+ * call that is refused answers one of the numbers below. The settings are tested first, then the
+ * words of states, then what the call itself refuses. A refused call changes nothing, but for one
+ * kind of number 3 of sirmjold_stream_write_data, where it is said.
  */
 #ifndef SIRMJOLD_H
 #define SIRMJOLD_H
@@ -44,8 +45,9 @@ enum sirmjold_refusal {
     SIRMJOLD_INVALID_STATE = 13     /* words that no call has left, or arrays of a wrong length */
 };
 
-/* The settings, by place: an array of SIRMJOLD_SETTINGS words. K, R or M over 255, or X over 1, is
- * refused as 13; the rest by the settings' own numbers, 9, 7 and 8. */
+/* The settings, by place: an array of SIRMJOLD_SETTINGS words. Each call that is given them tests them
+ * before anything else: 13 for another length, then 9, 7 and 8, then 13 for K, R or M over 255 or X
+ * over 1. */
 enum sirmjold_setting {
     SIRMJOLD_T1 = 0,  /* ms from the last command with words to the first idle command, and between
                        * the first 1 + R of these; 1 to 300 */
@@ -147,8 +149,8 @@ struct sirmjold_written {
 };
 
 /* A fresh stream: a receive window of `window` numbers (1 to 128), a request ring of `places` places
- * (1 to 16), and the whole of `ring` as its history, which is zeroed. A start that is refused by 9, 7,
- * 8 or 12 leaves words that every call refuses. */
+ * (1 to 16), and the whole of `ring` as its history, which is zeroed. A start that is refused stores
+ * nothing: a stream that runs on these words and this history goes on. */
 uint8_t sirmjold_stream_new(uint64_t *s, size_t s_len, const uint32_t *cfg, size_t cfg_len,
                             uint32_t window, size_t places, uint32_t *ring, size_t ring_len);
 
@@ -200,9 +202,10 @@ struct sirmjold_wants sirmjold_stream_wants_write(const uint64_t *s, size_t s_le
                                                   uint64_t time);
 
 /* Writes into a payload: a due request, then the sender's commands. 3 when the payload is empty and
- * the first of them does not fit: the one refusal that changes something, since a due idle command is
- * then queued, waiting requests that fit no payload are gone, and so is a due request that is no longer
- * needed. */
+ * the due request, or else the first unwritten command, does not fit. Where it is the request, nothing
+ * is changed. Where it is the command, the payload's words and bytes stay, but a due idle command is
+ * queued, waiting requests that fit no payload are gone, and so is a due request that is no longer
+ * needed: the one refusal that changes something. */
 struct sirmjold_written sirmjold_stream_write_data(uint64_t *s, size_t s_len, const uint32_t *cfg,
                                                    size_t cfg_len, uint64_t time, uint64_t *p,
                                                    size_t p_len, uint8_t *buf, size_t buf_len,

@@ -120,10 +120,9 @@ static void streams(void)
     static const uint8_t p11[] = {0x4D, 0x49, 0x44, 0x49, 0xFF, 1, 0, 0, 0x20, 0x90, 0x3C, 0x40,
                                   0xFF, 1,    0,    1,    0x20, 0x80, 0x3C, 0};
     const uint32_t on[1] = {0x20903C40}, off[1] = {0x20803C00};
-    uint64_t s[S], p[P];
+    uint64_t s[S] = {0}, p[P];
     uint32_t ring[256];
     uint8_t buf[1400];
-    check(sirmjold_stream_new(s, S, CFG, 64, 17, ring, 256) == 12, "17 places");
     check(sirmjold_stream_poll(s, S, CFG, 0).refusal == 13, "a stream that was not started");
     check(sirmjold_stream_new(s, S, CFG, 64, 4, ring, 256) == 0, "a stream");
     check(sirmjold_stream_send_ump(s, S, CFG, ring, 256, on, 1) == 0, "P10, the word");
@@ -159,12 +158,107 @@ static void streams(void)
         check(sirmjold_stream_wants_write(s, S, ring, 256, 0).refusal == 13, "a word that belongs to nothing");
         s[unused[i]] = 0;
     }
-    /* refused by the settings: no word has changed */
-    const uint32_t no_size[SIRMJOLD_SETTINGS] = {100, 2, 5, 2, 1, 10, 3, 0};
-    uint64_t before[S];
-    memcpy(before, s, sizeof s);
-    check(sirmjold_stream_poll(s, S, no_size, SIRMJOLD_SETTINGS, 0).refusal == 9 && memcmp(s, before, sizeof s) == 0, "a refused poll");
-    check(sirmjold_stream_send_ump(s, S, no_size, SIRMJOLD_SETTINGS, ring, 256, on, 1) == 9 && memcmp(s, before, sizeof s) == 0, "a refused word");
+}
+
+/* A stream that runs: one word is queued. */
+static uint64_t s[S], s_before[S];
+static uint32_t ring[256], ring_before[256];
+
+static void run(void)
+{
+    const uint32_t on[1] = {0x20903C40};
+    check(sirmjold_stream_new(s, S, CFG, 64, 4, ring, 256) == 0, "a stream");
+    check(sirmjold_stream_send_ump(s, S, CFG, ring, 256, on, 1) == 0, "a word");
+    memcpy(s_before, s, sizeof s);
+    memcpy(ring_before, ring, sizeof ring);
+}
+
+static int as_before(void)
+{
+    return memcmp(s, s_before, sizeof s) == 0 && memcmp(ring, ring_before, sizeof ring) == 0;
+}
+
+/* A start that is refused stores nothing, and the stream that runs on the words goes on. */
+static void refused_starts(void)
+{
+    const uint32_t no_size[] = {100, 2, 5, 2, 1, 10, 3, 0}, no_interval[] = {0, 2, 5, 2, 1, 10, 3, 64},
+                   no_growth[] = {100, 0, 5, 2, 1, 10, 3, 64}, wide[] = {100, 2, 256, 2, 1, 10, 3, 64};
+    uint64_t p[P];
+    uint8_t buf[1400];
+    run();
+    check(sirmjold_stream_new(s, S, no_size, 8, 64, 4, ring, 256) == 9 && as_before(), "a start with SIZE 0");
+    check(sirmjold_stream_new(s, S, no_interval, 8, 64, 4, ring, 256) == 7 && as_before(), "a start with T1 0");
+    check(sirmjold_stream_new(s, S, no_growth, 8, 64, 4, ring, 256) == 8 && as_before(), "a start with G 0");
+    check(sirmjold_stream_new(s, S, wide, 8, 64, 4, ring, 256) == 13 && as_before(), "a start with K 256");
+    check(sirmjold_stream_new(s, S, cfg, 7, 64, 4, ring, 256) == 13 && as_before(), "a start with seven settings");
+    check(sirmjold_stream_new(s, S - 1, CFG, 64, 4, ring, 256) == 13 && as_before(), "a start on 34 words");
+    check(sirmjold_stream_new(s, S, CFG, 129, 4, ring, 256) == 12 && as_before(), "a start with a window of 129");
+    check(sirmjold_stream_new(s, S, CFG, 64, 17, ring, 256) == 12 && as_before(), "a start with 17 places");
+    check(sirmjold_stream_new(s, S, CFG, 64, 4, ring, 64) == 12 && as_before(), "a start with 64 words of history");
+    sirmjold_payload_new(p, P, 1400);
+    check(sirmjold_stream_write_data(s, S, CFG, 0, p, P, buf, 1400, ring, 256).commands == 1, "the word is still to write");
+}
+
+/* Each call that is given settings, with these and with `n` words: it answers `number`, and nothing is
+ * changed. */
+static void all_answer(int number, const uint32_t *c, size_t c_len, size_t n, const char *what)
+{
+    const uint32_t off[1] = {0x20803C00};
+    uint64_t p[P] = {0, 1400};
+    uint8_t buf[64] = {0};
+    check(sirmjold_stream_new(s, n, c, c_len, 64, 4, ring, 256) == number, what);
+    check(sirmjold_stream_send_ump(s, n, c, c_len, ring, 256, off, 1) == number, what);
+    check(sirmjold_stream_on_retransmit_request(s, n, c, c_len, ring, 256, 0, 1).refusal == number, what);
+    check(sirmjold_stream_on_ump_data(s, n, c, c_len, 0, 0).refusal == number, what);
+    check(sirmjold_stream_poll(s, n, c, c_len, 0).refusal == number, what);
+    check(sirmjold_stream_write_request(s, n, c, c_len, p, P, buf, 64).refusal == number, what);
+    check(sirmjold_stream_write_data(s, n, c, c_len, 0, p, P, buf, 64, ring, 256).refusal == number, what);
+    check(as_before() && p[0] == 0 && p[1] == 1400 && buf[0] == 0, what);
+}
+
+/* Settings are tested before states: 9, 7, 8, then 13. */
+static void orders(void)
+{
+    const uint32_t no_size[] = {100, 2, 5, 2, 1, 10, 3, 0}, no_size_k[] = {100, 2, 256, 2, 1, 10, 3, 0},
+                   no_size_x[] = {100, 2, 5, 2, 2, 10, 3, 0}, nothing[] = {0, 0, 5, 2, 1, 10, 3, 0},
+                   no_times[] = {0, 0, 5, 2, 1, 10, 3, 64}, wide_m[] = {100, 2, 5, 2, 1, 10, 256, 64};
+    uint64_t p[3] = {0, 1400, 0};
+    uint8_t buf[64];
+    run();
+    all_answer(9, no_size, 8, S, "SIZE 0");
+    all_answer(9, no_size, 8, S - 1, "SIZE 0, and 34 words");
+    all_answer(9, no_size_k, 8, S, "SIZE 0, and K 256");
+    all_answer(9, no_size_x, 8, S, "SIZE 0, and X 2");
+    all_answer(9, nothing, 8, S, "SIZE 0, T1 0 and G 0");
+    all_answer(7, no_times, 8, S, "T1 0 and G 0");
+    all_answer(13, wide_m, 8, S, "M 256");
+    all_answer(13, no_size, 7, S, "seven settings");
+    all_answer(13, cfg, 8, S - 1, "34 words");
+    check(sirmjold_stream_write_request(s, S, no_size, 8, p, 3, buf, 64).refusal == 9, "SIZE 0, and a payload of three words");
+    check(sirmjold_stream_write_request(s, S, CFG, p, 3, buf, 64).refusal == 13 && as_before(), "a payload of three words");
+    /* a flag of 2: of the request timer, and of the idle timer */
+    s[4] = s[23] = s_before[4] = s_before[23] = 2;
+    all_answer(9, no_size, 8, S, "SIZE 0, and a flag of 2");
+    check(sirmjold_stream_poll(s, S, CFG, 0).refusal == 13 && as_before(), "a flag of 2");
+}
+
+/* The two kinds of number 3 of a write: by a due request nothing is changed, by a command of the sender the
+ * payload is as it was. */
+static void too_large(void)
+{
+    uint64_t p[P];
+    uint8_t buf[64] = {0};
+    run();
+    sirmjold_stream_on_ump_data(s, S, CFG, 0, 1);
+    sirmjold_stream_poll(s, S, CFG, 10);
+    memcpy(s_before, s, sizeof s);
+    sirmjold_payload_new(p, P, 8);
+    check(sirmjold_stream_write_request(s, S, CFG, p, P, buf, 64).refusal == 3, "a request in 8 bytes");
+    check(sirmjold_stream_write_data(s, S, CFG, 0, p, P, buf, 64, ring, 256).refusal == 3, "a write in 8 bytes");
+    check(as_before() && p[0] == 0 && p[1] == 8 && buf[0] == 0, "nothing is changed");
+    run();
+    check(sirmjold_stream_write_data(s, S, CFG, 0, p, P, buf, 64, ring, 256).refusal == 3, "a word in 8 bytes");
+    check(p[0] == 0 && p[1] == 8 && buf[0] == 0, "the payload is as it was");
 }
 
 /* A fresh stream of the sizes below. */
@@ -265,6 +359,9 @@ int main(void)
     idles();
     too_much();
     resets();
+    refused_starts();
+    orders();
+    too_large();
     printf("%d cases hold, %d do not\n", passed, failed);
     return failed != 0;
 }

@@ -496,7 +496,7 @@ impl<'a> Stream<'a> {
 
     /// Writes into a payload: a due request, then the sender's commands. [`Refusal::TooLarge`] when the
     /// payload is empty and the due request, or else the first unwritten command, does not fit. In the first
-    /// case nothing is changed. The second is the one refusal that changes something: a due idle
+    /// case nothing is changed. In the second the payload and its bytes stay, but it is the one refusal that changes something: a due idle
     /// command is then queued, waiting requests that fit no payload are gone, and so is a due request where
     /// requests are disabled or nothing is missing.
     pub fn write_data(

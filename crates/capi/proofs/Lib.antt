@@ -1,8 +1,12 @@
 -- Laws that this crate's proofs cite.
 mod Within
+mod Guards
 mod Words
 mod Figures
-mod Calls
+mod Started
 mod RoundTrip
 mod StoredBack
+mod Ranges
+mod Ends
+mod Emptiness
 mod Refusals

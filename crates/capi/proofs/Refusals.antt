@@ -1,5 +1,5 @@
 -- A refused call hands back what it was given, and words that fit are stored back as they were.
-use mathlib.Core.Path.{_≡_, refl, sym}
+use mathlib.Core.Path.{_≡_, refl, sym, ap, _∙_}
 use mathlib.Core.Bool.{Bool, true, false, cond, not, _&&_, _||_}
 use mathlib.Core.List.{List, [], _∷_}
 use Prim.Native.Nat.{ℕ, _-_}
@@ -7,10 +7,11 @@ use native.Mathlib.Omega.{arith}
 use lib.ListN.{length}
 use lib.Dec.{eqb, leb, ltb}
 use borrow.Author.Tests.{eqb-true}
+use Rattle.config.proofs.Tests.{and-left, and-right}
 use Rattle.config.specs.Range.{outside}
 use Rattle.config.specs.Settings.{checkOf, tested}
 use Rattle.config.specs.declared.refusal.Refusal.{Refusal}
-use Rattle.config.specs.declared.refusal.Refusal.the-variants.{TooLarge}
+use Rattle.config.specs.declared.refusal.Refusal.the-variants.{TooLarge, InvalidState}
 use Rattle.config.specs.declared.settings.Check.{Check}
 use Rattle.config.specs.declared.settings.Check.the-variants.{Passed, Refused}
 use Rattle.config.specs.declared.settings.StreamConfig.{StreamConfig}
@@ -62,36 +63,38 @@ use Rattle.receiver.specs.declared.receiver.Request.the-variants.{Written as Ta
 use Rattle.receiver.specs.declared.receiver.Requested.{Requested as ReceiverTaken}
 use Rattle.sender.specs.State.{validOf as senderValid}
 use Rattle.sender.specs.Queueing.{needOf, unsent, wordsCheck, placedOf, queuedOf, sentOf}
-use Rattle.sender.specs.Requests.{writtenCount, notWritten, withQueue, outcomeOf as pushOutcome, requestedOf}
-use Rattle.sender.specs.Writing.{commandsAt, servedOf, idledOf, fitAll, newBy, newOf, writtenBy}
+use Rattle.sender.specs.Requests.{notWritten, withQueue, outcomeOf as pushOutcome, requestedOf}
 use Rattle.sender.specs.Answers as sender
 use Rattle.sender.specs.declared.sender.Sender.{Sender}
 use Rattle.sender.specs.declared.sender.Sent.{Sent}
 use Rattle.sender.specs.declared.sender.Requested.{Requested}
 use Rattle.sender.specs.declared.sender.Writing.{Writing}
-use Rattle.sender.specs.declared.sender.Writing.the-variants.{Written, Refused as NotWritten}
-use Rattle.sender.specs.declared.sender.Wrote.{Wrote as SenderWrote}
 use Rattle.stream.specs.State.{validOf as streamValid, withReceiver as withReceiverOf}
 use Rattle.stream.specs.Ends.{sendAnswer, requestAnswer, dataAnswer, errorAnswer, nakAnswer, pollAnswer, takeAnswer}
-use Rattle.stream.specs.Answers.{resetAnswer}
+use Rattle.stream.specs.Answers.{newAnswer, resetAnswer}
 use Rattle.stream.specs.Writing.{writeRefused, countedAlso, sentAfter, afterRequest, dataWritten as streamWritten, writeAnswer}
 use Rattle.stream.specs.declared.stream.DataStream.{DataStream}
+use Rattle.stream.specs.declared.stream.Start.{Start}
+use Rattle.stream.specs.declared.stream.Start.the-variants.{Done as Begun, Refused as NotStarted}
 use Rattle.stream.specs.declared.stream.WasReset.{WasReset}
 use Rattle.stream.specs.declared.stream.Wrote.{Wrote}
 use Rattle.capi.specs.Stream.{receiverFits, senderFits, fits, receiverIn, senderIn, loaded, stored, withReceiver, withSender}
-use Rattle.capi.specs.Settings.{settingsFit, settingsOf}
-use Rattle.capi.specs.Payload.{payloadIn, payloadWords}
-use Rattle.capi.specs.Answers.{resetNumber, sendNumber, deliveryOf, outcomeOf, eventOf, requestOf, writtenOf, writeNumber, acceptanceOf, changeNumber, extentOf}
-use Rattle.capi.specs.Exports.{resetExport, sendExport, requestExport, dataExport, errorExport, nakExport, pollExport, takeExport, writeExport, openedInto, openExport, commandExport}
+use Rattle.capi.specs.Guard.{guarded}
+use Rattle.capi.specs.Settings.{readyNumber, settingsOf}
+use Rattle.capi.specs.Payload.{payloadFits, payloadIn, payloadWords}
+use Rattle.c_answers.specs.Answers.{resetNumber, sendNumber, deliveryOf, outcomeOf, eventOf, requestOf, writtenOf, writeNumber, acceptanceOf, changeNumber, extentOf}
+use Rattle.capi.specs.Exports.{startedInto as streamInto, newExport, resetExport, sendExport, requestExport, dataExport, errorExport, nakExport, pollExport, takeExport, writeExport, openedInto, openExport, commandExport}
 use Rattle.capi.specs.Window.{windowFits, windowAt, windowWords, startedInto, startExport, acceptExport, changeExport, markExport}
 use Rattle.capi.specs.Theorems.{Wide}
-use Rattle.capi.specs.declared.answers.CDelivery.{CDelivery}
-use Rattle.capi.specs.declared.answers.COutcome.{COutcome}
-use Rattle.capi.specs.declared.answers.CEvent.{CEvent}
-use Rattle.capi.specs.declared.answers.CRequest.{CRequest}
-use Rattle.capi.specs.declared.answers.CWritten.{CWritten}
-use Rattle.capi.specs.declared.answers.CSpan.{CSpan}
-use Rattle.capi.proofs.Words.{window-known}
+use Rattle.c_answers.specs.declared.answers.CDelivery.{CDelivery}
+use Rattle.c_answers.specs.declared.answers.COutcome.{COutcome}
+use Rattle.c_answers.specs.declared.answers.CEvent.{CEvent}
+use Rattle.c_answers.specs.declared.answers.CRequest.{CRequest}
+use Rattle.c_answers.specs.declared.answers.CWritten.{CWritten}
+use Rattle.c_answers.specs.declared.answers.CSpan.{CSpan}
+use Rattle.capi.proofs.Guards.{either, by-number, guarded-made, fit-true, ready-settings, ready-fits, ready-of, both-true}
+use Rattle.capi.proofs.Emptiness.{Since, as-before, not-empty, some-after, Tried, wrote, large, tried-since, written-tried}
+use Rattle.capi.proofs.Words.{window-known, both-fit}
 use Rattle.capi.proofs.StoredBack.{run-all, receiver-same, sender-same, stream-same}
 
 -- what an answer leaves the same where its number is not 0
@@ -109,10 +112,6 @@ abbrev KeptTwo : {A : Type 0} → (A → ℕ) → List ℕ → List ℕ → A ×
 KeptTwo {A} number was also = Kept (λ (e : A × List ℕ × List ℕ). number (e .0)) (λ (e : A × List ℕ × List ℕ). (e .1 ≡ was) × (e .2 ≡ also))
 
 -- ---- each way out of a test
-either : {A : Type 0} (P : A → Type 0) (t : Bool) (x y : A) → (t ≡ true → P x) → P y → P (cond t x y)
-either P true x y f g = f refl
-either P false x y f g = g
-
 module _ {A : Type 0} {number : A → ℕ} {Same : A → Type 0} where
   as-was : {e : A} → Same e → Kept number Same e
   as-was s = record { kept = λ n. s }
@@ -123,9 +122,9 @@ module _ {A : Type 0} {number : A → ℕ} {Same : A → Type 0} where
   by-test : (t : Bool) (x y : A) → (t ≡ true → Kept number Same x) → Kept number Same y → Kept number Same (cond t x y)
   by-test t x y f g = either (Kept number Same) t x y f g
 
-  -- of the words and of the settings
-  by-tests : (t u : Bool) (x y : A) → (t ≡ true → Kept number Same x) → Kept number Same y → Kept number Same (cond t (cond u x y) y)
-  by-tests t u x y f g = by-test t (cond u x y) y (λ e. by-test u x y (λ _. f e) g) g
+  -- by the number that its tests give a call
+  by-guard : (n : ℕ) (deny : ℕ → A) (go : A) → (n ≡ 0 → Kept number Same go) → Kept number Same (deny n) → Kept number Same (guarded n deny go)
+  by-guard n deny go f g = by-number n deny go (Kept number Same) f g
 
   -- the refusals of a check and of a further test have one form
   by-check : (c : Check) (t : Bool) (deny : Refusal → A) (last : Refusal) (go : A) → ((why : Refusal) → Kept number Same (deny why)) → Kept number Same go
@@ -189,20 +188,21 @@ module _ (st : List ℕ) where
   pub hear-keeps : (cfg : List ℕ) (time seq : ℕ) → KeptOne (λ (a : CDelivery). a .refusal) st (dataExport st cfg time seq)
   unfolding dataExport dataAnswer loaded
   hear-keeps cfg time seq =
-      by-tests (receiverFits st) (settingsFit cfg) _ _ (λ f. record { kept = heard-kept (receiverIn st) (receiver-same st f) (settingsOf cfg) time seq .kept }) (as-was refl)
+      by-guard _ _ _ (λ e. record { kept = heard-kept (receiverIn st) (receiver-same st (ready-fits cfg (receiverFits st) e)) (settingsOf cfg) time seq .kept }) (as-was refl)
 
   pub poll-keeps : (cfg : List ℕ) (time : ℕ) → KeptOne (λ (a : CEvent). a .refusal) st (pollExport st cfg time)
   unfolding pollExport pollAnswer loaded
-  poll-keeps cfg time = by-tests (receiverFits st) (settingsFit cfg) _ _ (λ f. record { kept = polled-kept (receiverIn st) (receiver-same st f) (settingsOf cfg) time .kept }) (as-was refl)
+  poll-keeps cfg time =
+      by-guard _ _ _ (λ e. record { kept = polled-kept (receiverIn st) (receiver-same st (ready-fits cfg (receiverFits st) e)) (settingsOf cfg) time .kept }) (as-was refl)
 
   pub error-keeps : (reason seq : ℕ) → KeptOne (λ (a : CEvent). a .refusal) st (errorExport st reason seq)
   unfolding errorExport errorAnswer loaded
   error-keeps reason seq =
-      by-test (receiverFits st) _ _ (λ f. record { kept = errored-kept (receiverIn st) (receiver-same st f) record { reason = reason; seq = seq } .kept }) (as-was refl)
+      by-guard _ _ _ (λ e. record { kept = errored-kept (receiverIn st) (receiver-same st (fit-true _ e)) record { reason = reason; seq = seq } .kept }) (as-was refl)
 
   pub nak-keeps : KeptOne (λ (a : CEvent). a .refusal) st (nakExport st)
   unfolding nakExport nakAnswer loaded
-  nak-keeps = by-test (receiverFits st) _ _ (λ f. record { kept = naked-kept (receiverIn st) (receiver-same st f) .kept }) (as-was refl)
+  nak-keeps = by-guard _ _ _ (λ e. record { kept = naked-kept (receiverIn st) (receiver-same st (fit-true _ e)) .kept }) (as-was refl)
 
 -- ---- the sender's calls, and a reset
 module _ (st ring : List ℕ) where
@@ -245,14 +245,14 @@ module _ (st ring : List ℕ) where
     pub send-keeps : (cfg ws : List ℕ) → KeptTwo itself st ring (sendExport st cfg ring ws)
     unfolding sendExport sendAnswer loaded
     send-keeps cfg ws =
-        by-tests (senderFits st) (settingsFit cfg) _ _ (λ f. record { kept = sent-kept (senderIn st) (settingsOf cfg) (sender-same st wide f) ws .kept })
+        by-guard _ _ _ (λ e. record { kept = sent-kept (senderIn st) (settingsOf cfg) (sender-same st wide (ready-fits cfg (senderFits st) e)) ws .kept })
         (as-was (refl, refl))
 
     pub request-keeps : (cfg : List ℕ) (seq count : ℕ) → KeptOne (λ (a : COutcome). a .refusal) st (requestExport st cfg ring seq count)
     unfolding requestExport requestAnswer loaded
     request-keeps cfg seq count =
-        by-tests (senderFits st) (settingsFit cfg) _ _
-        (λ f. record { kept = requested-kept (senderIn st) (settingsOf cfg) (sender-same st wide f) record { seq = seq; count = count } .kept })
+        by-guard _ _ _
+        (λ e. record { kept = requested-kept (senderIn st) (settingsOf cfg) (sender-same st wide (ready-fits cfg (senderFits st) e)) record { seq = seq; count = count } .kept })
         (as-was refl)
 
     abbrev ResetKept : WasReset × List ℕ → Type 0
@@ -264,10 +264,22 @@ module _ (st ring : List ℕ) where
 
     pub reset-keeps : KeptTwo itself st ring (resetExport st ring)
     unfolding resetExport
-    reset-keeps = by-test (fits st) _ _ (λ f. record { kept = was-reset-kept (stream-same st wide f) .kept }) (as-was (refl, refl))
+    reset-keeps = by-guard _ _ _ (λ e. record { kept = was-reset-kept (stream-same st wide (fit-true _ e)) .kept }) (as-was (refl, refl))
+
+-- ---- a start
+module _ (st ring : List ℕ) where
+  started-kept : (a : Start) (stream : DataStream) (after : List ℕ) → KeptTwo itself st ring (streamInto a stream after st ring)
+  started-kept Begun stream after = done refl
+  started-kept (NotStarted why) stream after = as-was (refl, refl)
+
+  pub new-keeps : (cfg : List ℕ) (window places : ℕ) → KeptTwo itself st ring (newExport st cfg window places ring)
+  unfolding newExport
+  new-keeps cfg window places =
+      let e = newAnswer (settingsOf cfg) window (length ring) places ring in
+      by-guard _ _ _ (λ _. started-kept (e .0 .answer) (e .0 .stream) (e .1)) (as-was (refl, refl))
 
 -- ---- the write of a due request
-payload-same : (p : List ℕ) → eqb (length p) 2 ≡ true → payloadWords (payloadIn p) ≡ p
+payload-same : (p : List ℕ) → payloadFits p ≡ true → payloadWords (payloadIn p) ≡ p
 payload-same p e = run-all p 2 (sym (eqb-true (length p) 2 e))
 
 -- what it can come to after the tests: a refusal changes nothing
@@ -275,14 +287,14 @@ data Taking (r : Receiver) (p : PayloadWriter) (b : List ℕ) : ReceiverTaken ×
   refused : (why : Refusal) → Taking r p b (record { receiver = r; payload = p; answer = NotTaken why }, b)
   none : (next : Receiver) → Taking r p b (notDue next p, b)
   more : Taking r p b (record { receiver = r; payload = p; answer = More }, b)
-  taken : (next : Receiver) (after : PayloadWriter) (bytes : List ℕ) → Taking r p b (record { receiver = next; payload = after; answer = Taken }, bytes)
+  taken : (next : Receiver) (after : PayloadWriter) (bytes : List ℕ) → (after .len ≡ 0 → ⊥) → Taking r p b (record { receiver = next; payload = after; answer = Taken }, bytes)
 
 module _ (r : Receiver) (p : PayloadWriter) (b : List ℕ) where
   offered : (q : RetransmitRequest) (w : CommandWrote × List ℕ) → Outcome p b (requestPacket q) w
       → Taking r p b (takenBy r q (w .0 .payload) (w .0 .answer), w .1)
   offered q w (notPut why) =
       either (λ (a : Request). Taking r p b (record { receiver = r; payload = p; answer = a }, b)) (eqb (p .len) 0) _ _ (λ _. refused TooLarge) more
-  offered q w (put f l) = taken _ _ _
+  offered q w (put f l) = taken _ _ _ (some-after p (requestPacket q))
 
   taken-span : (s : Span) → Taking r p b (takenSpan r p b s)
   unfolding offeredOf
@@ -314,7 +326,7 @@ module _ (st p b : List ℕ) where
     taken-kept e (refused why) = as-was (same, whole, refl)
     taken-kept e (none next) = done refl
     taken-kept e more = done refl
-    taken-kept e (taken next after bytes) = done refl
+    taken-kept e (taken next after bytes some) = done refl
 
     take-kept : (cfg : StreamConfig) → TakenKept (receiver.takeAnswer r cfg x b)
     unfolding receiver.takeAnswer
@@ -325,76 +337,104 @@ module _ (st p b : List ℕ) where
   pub take-keeps : (cfg : List ℕ) → TakeKept (takeExport st cfg p b)
   unfolding takeExport takeAnswer loaded
   take-keeps cfg =
-      by-tests (receiverFits st) (settingsFit cfg) _ _
-      (λ f. by-test (eqb (length p) 2) _ _
-      (λ g. record { kept = take-kept (receiverIn st) (payloadIn p) (receiver-same st f) (payload-same p g) (settingsOf cfg) .kept })
-      (as-was (refl, refl, refl)))
+      by-guard _ _ _
+      (λ e. let f = ready-fits cfg (receiverFits st && payloadFits p) e in
+      record { kept = take-kept (receiverIn st) (payloadIn p) (receiver-same st (and-left (receiverFits st) (payloadFits p) f)) (payload-same p (and-right (receiverFits st) (payloadFits p) f)) (settingsOf cfg) .kept })
       (as-was (refl, refl, refl))
 
--- ---- a write: after the tests the sender's part is done, or its number is 3
-abbrev Three : Writing → Type 0
-Three a = (writtenOf a .refusal ≡ 0 → ⊥) → (writtenOf a .refusal ≡ 3 → ⊥) → ⊥
-
-new-three : (s : Sender) (cfg : StreamConfig) (now n : ℕ) (p : PayloadWriter) (b ring : List ℕ) (cs : List Packet) → Three (newBy s cfg now n p b ring cs .0 .answer)
-new-three s cfg now n p b ring [] = λ h g. h refl
-new-three s cfg now n p b ring (first ∷ others) =
-    either (λ (e : SenderWrote × List ℕ). Three (e .0 .answer)) (not (fitAll p b (first ∷ []))) _ _
-    (λ _. either (λ (e : SenderWrote). Three (e .answer)) (eqb (p .len) 0) _ _ (λ _ h g. g refl) (λ h g. h refl))
-    (λ h g. h refl)
-
-written-three : (s : Sender) (cfg : StreamConfig) (now : ℕ) (p : PayloadWriter) (b ring : List ℕ) → Three (writtenBy s cfg now p b ring .0 .answer)
-unfolding writtenBy newOf
-written-three s cfg now p b ring =
-    let served = servedOf s ring p b in
-    let idled = idledOf (served .sender) cfg now ring in
-    let unwritten = commandsAt (idled .0) (idled .1) (writtenCount (idled .0)) (idled .0 .unsent) in
-    either (λ (e : SenderWrote × List ℕ × List ℕ). Three (e .0 .answer)) (served .more) _ _ (λ _ h g. h refl)
-    (new-three (idled .0) cfg now (served .written) (served .payload) (served .bytes) (idled .1) unwritten)
-
-counted-three : (n : ℕ) (a : Writing) → Three a → Three (countedAlso n a)
-counted-three n (Written w) t = λ h g. h refl
-counted-three n (NotWritten why) t = t
-
+-- ---- a write
 module _ (st p b ring : List ℕ) where
+  -- all that was lent is as it was
+  abbrev WroteSame : Wrote × List ℕ × List ℕ → Type 0
+  WroteSame e = (stored (e .0 .stream) ≡ st) × (payloadWords (e .0 .payload) ≡ p) × (e .1 ≡ b) × (e .2 ≡ ring)
+
+  abbrev WriteSame : CWritten × List ℕ × List ℕ × List ℕ × List ℕ → Type 0
+  WriteSame e = (e .1 ≡ st) × (e .2 ≡ p) × (e .3 ≡ b) × (e .4 ≡ ring)
+
+  -- the payload and its bytes are, and where the number is not 3, all is
   abbrev WroteKept : Wrote × List ℕ × List ℕ → Type 0
   WroteKept =
       Kept (λ (e : Wrote × List ℕ × List ℕ). writtenOf (e .0 .answer) .refusal)
-      (λ (e : Wrote × List ℕ × List ℕ). (writtenOf (e .0 .answer) .refusal ≡ 3 → ⊥)
-      → (stored (e .0 .stream) ≡ st) × (payloadWords (e .0 .payload) ≡ p) × (e .1 ≡ b) × (e .2 ≡ ring))
+      (λ (e : Wrote × List ℕ × List ℕ). (payloadWords (e .0 .payload) ≡ p) × (e .1 ≡ b) × ((writtenOf (e .0 .answer) .refusal ≡ 3 → ⊥) → WroteSame e))
 
   abbrev WriteKept : CWritten × List ℕ × List ℕ × List ℕ × List ℕ → Type 0
   WriteKept =
       Kept (λ (e : CWritten × List ℕ × List ℕ × List ℕ × List ℕ). e .0 .refusal)
-      (λ (e : CWritten × List ℕ × List ℕ × List ℕ × List ℕ). (e .0 .refusal ≡ 3 → ⊥) → (e .1 ≡ st) × (e .2 ≡ p) × (e .3 ≡ b) × (e .4 ≡ ring))
+      (λ (e : CWritten × List ℕ × List ℕ × List ℕ × List ℕ). (e .2 ≡ p) × (e .3 ≡ b) × ((e .0 .refusal ≡ 3 → ⊥) → WriteSame e))
 
-  after-kept : (n : ℕ) (d : DataStream) (cfg : StreamConfig) (now : ℕ) (x : PayloadWriter) (bytes : List ℕ) → WroteKept (sentAfter n d cfg now x bytes ring)
-  unfolding sentAfter
-  after-kept n d cfg now x bytes =
-      let three = written-three (d .sender) cfg now x bytes ring in
-      record { kept = λ h g. absurd (counted-three n (writtenBy (d .sender) cfg now x bytes ring .0 .answer) three h g) }
+  module _ (x : PayloadWriter) (whole : payloadWords x ≡ p) where
+    sent-kept-by : (n : ℕ) (d : DataStream) (a : Writing) (after : PayloadWriter) (bytes ring′ : List ℕ) → Tried x b a after bytes
+        → WroteKept (record { stream = d; payload = after; answer = countedAlso n a }, bytes, ring′)
+    sent-kept-by n d a after bytes ring′ (wrote w) = done refl
+    sent-kept-by n d a after bytes ring′ (large z) = as-was (whole, refl, λ g. absurd (g refl))
 
-  module _ (d : DataStream) (cfg : StreamConfig) (now : ℕ) (x : PayloadWriter) (same : stored d ≡ st) (whole : payloadWords x ≡ p) where
-    request-kept : (e : ReceiverTaken × List ℕ) → Taking (d .receiver) x b e
-        → WroteKept (afterRequest (e .0 .answer) (withReceiverOf d (e .0 .receiver)) cfg now (e .0 .payload) (e .1) ring)
-    request-kept e (refused why) = as-was (λ g. (same, whole, refl, refl))
-    request-kept e (none next) = after-kept 0 (withReceiverOf d next) cfg now x b
-    request-kept e more = done refl
-    request-kept e (taken next after bytes) = after-kept 1 (withReceiverOf d next) cfg now after bytes
+    after-kept : (n : ℕ) (d : DataStream) (cfg : StreamConfig) (now : ℕ) (next : PayloadWriter) (bytes : List ℕ) → Since x b next bytes
+        → WroteKept (sentAfter n d cfg now next bytes ring)
+    unfolding sentAfter
+    after-kept n d cfg now next bytes since =
+        sent-kept-by n _ _ _ _ _ (tried-since since (written-tried (d .sender) cfg now next bytes ring))
 
-    wrote-kept : WroteKept (writeAnswer d cfg now x b ring)
-    unfolding writeAnswer streamWritten
-    wrote-kept =
-        by-check (checkOf cfg) (not (streamValid d ring && payloadValid x (length b))) (writeRefused d x b ring) _ _ (λ why. as-was (λ g. (same, whole, refl, refl)))
-        (request-kept _ (taking (d .receiver) x b cfg))
+    module _ (d : DataStream) (cfg : StreamConfig) (now : ℕ) (same : stored d ≡ st) where
+      request-kept : (e : ReceiverTaken × List ℕ) → Taking (d .receiver) x b e
+          → WroteKept (afterRequest (e .0 .answer) (withReceiverOf d (e .0 .receiver)) cfg now (e .0 .payload) (e .1) ring)
+      request-kept e (refused why) = as-was (whole, refl, λ g. (same, whole, refl, refl))
+      request-kept e (none next) = after-kept 0 (withReceiverOf d next) cfg now x b as-before
+      request-kept e more = done refl
+      request-kept e (taken next after bytes some) = after-kept 1 (withReceiverOf d next) cfg now after bytes (not-empty some)
 
-  pub write-keeps : (cfg : List ℕ) (time : ℕ) → Wide st → WriteKept (writeExport st cfg time p b ring)
-  unfolding writeExport
-  write-keeps cfg time wide =
-      by-tests (fits st) (settingsFit cfg) _ _
-      (λ f. by-test (eqb (length p) 2) _ _
-      (λ g. record { kept = wrote-kept (loaded st) (settingsOf cfg) time (payloadIn p) (stream-same st wide f) (payload-same p g) .kept })
-      (as-was (λ n. (refl, refl, refl, refl))))
-      (as-was (λ n. (refl, refl, refl, refl)))
+      -- where the request is what is refused
+      request-same : (e : ReceiverTaken × List ℕ) → Taking (d .receiver) x b e → (requestOf (e .0 .answer) .refusal ≡ 0 → ⊥)
+          → WroteSame (afterRequest (e .0 .answer) (withReceiverOf d (e .0 .receiver)) cfg now (e .0 .payload) (e .1) ring)
+      request-same e (refused why) n = (same, whole, refl, refl)
+      request-same e (none next) n = absurd (n refl)
+      request-same e more n = absurd (n refl)
+      request-same e (taken next after bytes some) n = absurd (n refl)
+
+      wrote-kept : WroteKept (writeAnswer d cfg now x b ring)
+      unfolding writeAnswer streamWritten
+      wrote-kept =
+          by-check (checkOf cfg) (not (streamValid d ring && payloadValid x (length b))) (writeRefused d x b ring) _ _
+          (λ why. as-was (whole, refl, λ g. (same, whole, refl, refl)))
+          (request-kept _ (taking (d .receiver) x b cfg))
+
+      -- the tests of the request's write are among those of the whole write
+      by-request : (c : Check) (r s payload : Bool) (e : ReceiverTaken × List ℕ) (f : Wrote × List ℕ × List ℕ)
+          → ((requestOf (e .0 .answer) .refusal ≡ 0 → ⊥) → WroteSame f)
+          → (requestOf (tested c (receiver.requestRefused (d .receiver) x b) (cond (not (r && payload)) (receiver.requestRefused (d .receiver) x b InvalidState) e) .0 .answer) .refusal ≡ 0 → ⊥)
+          → WroteSame (tested c (writeRefused d x b ring) (cond (not ((r && s) && payload)) (writeRefused d x b ring InvalidState) f))
+      by-request (Refused why) r s payload e f g n = (same, whole, refl, refl)
+      by-request Passed false s payload e f g n = (same, whole, refl, refl)
+      by-request Passed true false payload e f g n = (same, whole, refl, refl)
+      by-request Passed true true false e f g n = (same, whole, refl, refl)
+      by-request Passed true true true e f g n = g n
+
+      wrote-same : (requestOf (receiver.takeAnswer (d .receiver) cfg x b .0 .answer) .refusal ≡ 0 → ⊥) → WroteSame (writeAnswer d cfg now x b ring)
+      unfolding writeAnswer streamWritten streamValid receiver.takeAnswer
+      wrote-same n =
+          by-request (checkOf cfg) (receiverValid (d .receiver)) (senderValid (d .sender) ring) (payloadValid x (length b)) _ _
+          (request-same _ (taking (d .receiver) x b cfg)) n
+
+  module _ (cfg : List ℕ) (time : ℕ) (wide : Wide st) where
+    pub write-keeps : WriteKept (writeExport st cfg time p b ring)
+    unfolding writeExport
+    write-keeps =
+        by-guard _ _ _
+        (λ e. let f = ready-fits cfg (fits st && payloadFits p) e in
+        record { kept = wrote-kept (payloadIn p) (payload-same p (and-right (fits st) (payloadFits p) f)) (loaded st) (settingsOf cfg) time (stream-same st wide (and-left (fits st) (payloadFits p) f)) .kept })
+        (as-was (refl, refl, λ g. (refl, refl, refl, refl)))
+
+    pub write-request-keeps : (takeExport st cfg p b .0 .refusal ≡ 0 → ⊥) → WriteSame (writeExport st cfg time p b ring)
+    unfolding writeExport takeExport takeAnswer loaded
+    write-request-keeps n =
+        by-number (readyNumber cfg (fits st && payloadFits p)) _ _ WriteSame
+        (λ e.
+        let f = ready-fits cfg (fits st && payloadFits p) e in
+        let whole = and-left (fits st) (payloadFits p) f in
+        let two = and-right (fits st) (payloadFits p) f in
+        let z = ready-of cfg (receiverFits st && payloadFits p) (ready-settings cfg (fits st && payloadFits p) e) (both-true (receiverFits st) (payloadFits p) (both-fit st whole .0) two) in
+        wrote-same (payloadIn p) (payload-same p two) (loaded st) (settingsOf cfg) time (stream-same st wide whole)
+        (λ k. n (ap (λ (a : CRequest × List ℕ × List ℕ × List ℕ). a .0 .refusal) (guarded-made (readyNumber cfg (receiverFits st && payloadFits p)) _ _ z) ∙ k)))
+        (refl, refl, refl, refl)
 
 -- ---- a window
 module _ (w : List ℕ) where
@@ -426,29 +466,29 @@ module _ (w : List ℕ) where
   pub start-keeps : (size highest : ℕ) → KeptOne itself w (startExport w size highest)
   unfolding startExport startAnswer
   start-keeps size highest =
-      by-test (eqb (length w) 4) _ _
+      by-guard _ _ _
       (λ _. either (λ (e : WindowStarted). KeptOne itself w (startedInto e w)) (outside 1 maxWindow size) _ _ (λ _. as-was refl) (done refl))
       (as-was refl)
 
   pub accept-keeps : (seq : ℕ) → KeptOne (λ (a : CDelivery). a .refusal) w (acceptExport w seq)
   unfolding acceptExport
-  accept-keeps seq = by-test (windowFits w) _ _ (λ f. record { kept = accepted-kept (windowAt w) (window-same f) seq .kept }) (as-was refl)
+  accept-keeps seq = by-guard _ _ _ (λ e. record { kept = accepted-kept (windowAt w) (window-same (fit-true _ e)) seq .kept }) (as-was refl)
 
   pub change-keeps : (next : ReceiveWindow → ReceiveWindow) → KeptOne itself w (changeExport (λ x. changed x (next x)) w)
   unfolding changeExport
-  change-keeps next = by-test (windowFits w) _ _ (λ f. record { kept = changed-kept (windowAt w) (window-same f) (next (windowAt w)) .kept }) (as-was refl)
+  change-keeps next = by-guard _ _ _ (λ e. record { kept = changed-kept (windowAt w) (window-same (fit-true _ e)) (next (windowAt w)) .kept }) (as-was refl)
 
   pub mark-keeps : (next : ReceiveWindow → ReceiveWindow) (s : ReceiveWindow → Span) → KeptOne (λ (a : CSpan). a .refusal) w (markExport (λ x. extended x (next x) (s x)) w)
   unfolding markExport
   mark-keeps next s =
-      by-test (windowFits w) _ _ (λ f. record { kept = extended-kept (windowAt w) (window-same f) (next (windowAt w)) (s (windowAt w)) .kept }) (as-was refl)
+      by-guard _ _ _ (λ e. record { kept = extended-kept (windowAt w) (window-same (fit-true _ e)) (next (windowAt w)) (s (windowAt w)) .kept }) (as-was refl)
 
 -- ---- a payload
 module _ (p : List ℕ) where
   pub open-keeps : (max : ℕ) → KeptOne itself p (openExport p max)
   unfolding openExport openedOf
   open-keeps max =
-      by-test (eqb (length p) 2) _ _
+      by-guard _ _ _
       (λ _. either (λ (e : Opened). KeptOne itself p (openedInto e p)) (outside 8 1400 max) _ _ (λ _. as-was refl) (done refl))
       (as-was refl)
 
@@ -480,7 +520,7 @@ module _ (p b : List ℕ) where
 
   command-keeps : (write : PayloadWriter → CommandWrote × List ℕ) → (payloadWords (payloadIn p) ≡ p → PutKept (write (payloadIn p))) → KeptTwo itself p b (commandExport write p b)
   unfolding commandExport
-  command-keeps write f = by-test (eqb (length p) 2) _ _ (λ g. record { kept = f (payload-same p g) .kept }) (as-was (refl, refl))
+  command-keeps write f = by-guard _ _ _ (λ e. record { kept = f (payload-same p (fit-true _ e)) .kept }) (as-was (refl, refl))
 
   pub packet-keeps : (c : Packet) → KeptTwo itself p b (commandExport (λ w. packetWritten w b c) p b)
   packet-keeps c = command-keeps (λ w. packetWritten w b c) (λ same. packet-kept (payloadIn p) same c)

@@ -17,7 +17,7 @@ use Rattle.receiver.specs.declared.receiver.Timer.the-variants.{Stopped, Runnin
 use Rattle.receiver.specs.declared.receiver.Asked.{Asked}
 use Rattle.receiver.specs.declared.receiver.Asked.the-variants.{Nothing, Request}
 use Rattle.stream.specs.declared.stream.DataStream.{DataStream}
-use Rattle.capi.specs.Limits.{bit}
+use Rattle.c_answers.specs.Answers.{bit}
 use Rattle.capi.specs.Stream.{loaded, stored, senderIn, receiverIn, queueIn, itemsIn, firstIn, secondIn, halfWord, pairWord, pairs, senderWords, receiverWords, idleWords, timerWords, askedWords}
 use Rattle.capi.specs.Theorems.{Sixteen}
 

@@ -15,7 +15,7 @@ use Rattle.receiver.specs.declared.receiver.Timer.{Timer}
 use Rattle.receiver.specs.declared.receiver.Timer.the-variants.{Stopped, Running}
 use Rattle.receiver.specs.declared.receiver.Asked.{Asked}
 use Rattle.receiver.specs.declared.receiver.Asked.the-variants.{Nothing, Request}
-use Rattle.capi.specs.Limits.{bit}
+use Rattle.c_answers.specs.Answers.{bit}
 use Rattle.capi.specs.declared.state.IdleWords.{IdleWords}
 use Rattle.capi.specs.declared.state.TimerWords.{TimerWords}
 use Rattle.capi.specs.declared.state.AskedWords.{AskedWords}
@@ -73,7 +73,7 @@ length-run : (ws : List ℕ) (k n : ℕ) → length (run ws k n) ≡ n
 length-run ws k zero = refl
 length-run ws k (suc n) = ap suc (length-run ws (k + 1) n)
 
-run-drop : (ws : List ℕ) (k n : ℕ) → k + n ≤ length ws → run ws k n ++ drop (k + n) ws ≡ drop k ws
+pub run-drop : (ws : List ℕ) (k n : ℕ) → k + n ≤ length ws → run ws k n ++ drop (k + n) ws ≡ drop k ws
 run-drop ws k zero h = let e : k + 0 ≡ k = omega arith in rw e
 run-drop ws k (suc n) h =
     let g : k < length ws = omega arith in
@@ -99,7 +99,7 @@ module _ (ws : List ℕ) where
   abbrev at : ℕ → ℕ
   at k = getD ws k 0
 
-  receiver-run : receiverFits ws ≡ true → receiverWords (receiverIn ws) ≡ run ws 0 12
+  pub receiver-run : receiverFits ws ≡ true → receiverWords (receiverIn ws) ≡ run ws 0 12
   unfolding receiverFits receiverWords receiverIn
   receiver-run e =
       let s = small-at ws 35 (receiverLimits ws) e in
@@ -131,7 +131,7 @@ module _ (ws : List ℕ) where
           pair-same (at 34) (wide 34),
         )
 
-    sender-run : senderFits ws ≡ true → senderWords (senderIn ws) ≡ run ws 12 23
+    pub sender-run : senderFits ws ≡ true → senderWords (senderIn ws) ≡ run ws 12 23
     unfolding senderFits senderWords senderIn queueIn
     sender-run e =
         let s = small-at ws 35 (senderLimits ws) e in

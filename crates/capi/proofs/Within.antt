@@ -15,6 +15,10 @@ pub and-false : (a b : Bool) → false ≡ b → false ≡ a && b
 and-false true b e = e
 and-false false b e = refl
 
+pub and-true : (b : Bool) → b ≡ b && true
+and-true true = refl
+and-true false = refl
+
 -- ---- pair i of the limits
 abbrev pub place : List (ℕ × ℕ) → ℕ → ℕ
 place ps i = getD ps i (0, 0) .0

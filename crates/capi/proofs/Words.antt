@@ -24,16 +24,13 @@ use Rattle.sender.specs.declared.sender.IdleTimer.{IdleTimer}
 use Rattle.receiver.specs.declared.receiver.Timer.{Timer}
 use Rattle.receiver.specs.declared.receiver.Asked.{Asked}
 use Rattle.stream.specs.declared.stream.DataStream.{DataStream}
-use Rattle.capi.specs.Limits.{within, bit}
+use Rattle.c_answers.specs.Answers.{bit}
+use Rattle.capi.specs.Limits.{within}
 use Rattle.capi.specs.Stream.{ofFlag, receiverLimits, senderLimits, receiverFits, senderFits, fits, ReceiverFit, SenderFit, firstIn, secondIn, loaded, stored, senderIn, receiverIn, queueIn, itemsIn, pairs, pairWord, senderWords, receiverWords, historyIn, idleIn, windowIn, timerIn, askedIn, idleWords, timerWords, askedWords, withReceiver}
 use Rattle.capi.specs.Window.{windowLimits, windowFits, Narrow}
-use Rattle.capi.proofs.Within.{within-at, above-at, place, most, and-false, put-whole}
+use Rattle.capi.proofs.Within.{within-at, above-at, place, most, and-false, and-true, put-whole}
 
 -- ---- the tests
-and-true : (b : Bool) → b ≡ b && true
-and-true true = refl
-and-true false = refl
-
 module _ (ws : List ℕ) (n : ℕ) (ps : List (ℕ × ℕ)) where
   -- the length and the limits
   abbrev both : Bool

@@ -1,13 +1,17 @@
--- 01, "Numbers of each operation" and "State test": words that are no stream's, no settings or no payload are refused as 13, and nothing is changed. Else the words after a call
--- are those of the stream that the library's own definition gives; a call of one end looks at the words of that end alone, and changes no others.
+-- 01, "Numbers of each operation" and "State test": a call is refused by its settings' number first, then by 13 for words that are no stream's or no payload's; nothing is
+-- changed then. Else the words after a call are those of the stream that the library's own definition gives; a call of one end looks at the words of that end alone, and
+-- changes no others.
 use Prim.Native.Nat.{ℕ}
-use mathlib.Core.Bool.{Bool, cond, _&&_}
+use mathlib.Core.Bool.{_&&_}
 use mathlib.Core.List.{List}
 use lib.ListN.{length}
 use lib.Dec.{eqb}
 use Rattle.stream.specs.Ends.{sendAnswer, dataAnswer, requestAnswer, errorAnswer, nakAnswer, pollAnswer, takeAnswer}
 use Rattle.stream.specs.Answers.{newAnswer, resetAnswer, deadlineAnswer, wantsAnswer}
 use Rattle.stream.specs.Writing.{writeAnswer}
+use Rattle.stream.specs.declared.stream.DataStream.{DataStream}
+use Rattle.stream.specs.declared.stream.Start.{Start}
+use Rattle.stream.specs.declared.stream.Start.the-variants.{Done, Refused as NotStarted}
 use Rattle.stream.specs.declared.stream.Started.{Started}
 use Rattle.stream.specs.declared.stream.WasReset.{WasReset}
 use Rattle.stream.specs.declared.stream.Sent.{Sent}
@@ -17,16 +21,17 @@ use Rattle.stream.specs.declared.stream.Requested.{Requested}
 use Rattle.stream.specs.declared.stream.Told.{Told}
 use Rattle.stream.specs.declared.stream.Taken.{Taken}
 use Rattle.capi.specs.Stream.{fits, receiverFits, senderFits, loaded, stored, withReceiver, withSender}
-use Rattle.capi.specs.Settings.{settingsFit, settingsOf}
-use Rattle.capi.specs.Payload.{payloadIn, payloadWords}
-use Rattle.capi.specs.Answers.{startNumber, resetNumber, sendNumber, deliveryOf, deliveryRefused, writtenOf, writtenRefused, writeNumber, outcomeOf, outcomeRefused, eventOf, eventRefused, requestOf, requestRefused, deadlineOf, deadlineRefused, wantsOf, wantsRefused}
-use Rattle.capi.specs.declared.answers.CDelivery.{CDelivery}
-use Rattle.capi.specs.declared.answers.CWritten.{CWritten}
-use Rattle.capi.specs.declared.answers.COutcome.{COutcome}
-use Rattle.capi.specs.declared.answers.CEvent.{CEvent}
-use Rattle.capi.specs.declared.answers.CRequest.{CRequest}
-use Rattle.capi.specs.declared.answers.CDeadline.{CDeadline}
-use Rattle.capi.specs.declared.answers.CWants.{CWants}
+use Rattle.capi.specs.Guard.{guarded, fitNumber}
+use Rattle.capi.specs.Settings.{readyNumber, settingsOf}
+use Rattle.capi.specs.Payload.{payloadFits, payloadIn, payloadWords}
+use Rattle.c_answers.specs.Answers.{resetNumber, sendNumber, deliveryOf, deliveryRefused, writtenOf, writtenRefused, writeNumber, outcomeOf, outcomeRefused, eventOf, eventRefused, requestOf, requestRefused, deadlineOf, deadlineRefused, wantsOf, wantsRefused}
+use Rattle.c_answers.specs.declared.answers.CDelivery.{CDelivery}
+use Rattle.c_answers.specs.declared.answers.CWritten.{CWritten}
+use Rattle.c_answers.specs.declared.answers.COutcome.{COutcome}
+use Rattle.c_answers.specs.declared.answers.CEvent.{CEvent}
+use Rattle.c_answers.specs.declared.answers.CRequest.{CRequest}
+use Rattle.c_answers.specs.declared.answers.CDeadline.{CDeadline}
+use Rattle.c_answers.specs.declared.answers.CWants.{CWants}
 use Rattle.packet.specs.declared.writer.PayloadWriter.{PayloadWriter}
 use Rattle.packet.specs.declared.writer.Wrote.{Wrote as CommandWrote}
 use Rattle.packet.specs.declared.writer.Opened.{Opened}
@@ -34,93 +39,93 @@ use Rattle.packet.specs.declared.writer.Opened.the-variants.{Payload, Refused a
 use Rattle.packet.specs.Write.{openedOf}
 use Rattle.config.specs.Refusals.{numberOf}
 
--- the answer's number, the stream's words and the lent history
-abbrev startedInto : Started × List ℕ → ℕ × List ℕ × List ℕ
-startedInto e = (startNumber (e .0 .answer), stored (e .0 .stream), e .1)
-
-abbrev resetInto : WasReset × List ℕ → ℕ × List ℕ × List ℕ
-resetInto e = (resetNumber (e .0 .answer), stored (e .0 .stream), e .1)
-
-abbrev sentInto : List ℕ → Sent × List ℕ → ℕ × List ℕ × List ℕ
-sentInto st e = (sendNumber (e .0 .answer), withSender st (e .0 .stream .sender), e .1)
-
-abbrev heardInto : List ℕ → Heard → CDelivery × List ℕ
-heardInto st e = (deliveryOf (e .answer), withReceiver st (e .stream .receiver))
-
--- the answer, the stream's words, the payload's words, its bytes and the lent history
-abbrev wroteInto : Wrote × List ℕ × List ℕ → CWritten × List ℕ × List ℕ × List ℕ × List ℕ
-wroteInto e = (writtenOf (e .0 .answer), stored (e .0 .stream), payloadWords (e .0 .payload), e .1, e .2)
+-- ---- both ends: the answer's number, the stream's words and the lent history
+-- a start that is refused leaves the words and the history as they were
+abbrev pub startedInto : Start → DataStream → List ℕ → List ℕ → List ℕ → ℕ × List ℕ × List ℕ
+startedInto Done stream after st ring = (0, stored stream, after)
+startedInto (NotStarted why) stream after st ring = (numberOf why, st, ring)
 
 -- the lent history is the whole of its slice
 unfoldable pub newExport : List ℕ → List ℕ → ℕ → ℕ → List ℕ → ℕ × List ℕ × List ℕ
 newExport st cfg window places ring =
-    cond (eqb (length st) 35) (cond (settingsFit cfg) (startedInto (newAnswer (settingsOf cfg) window (length ring) places ring)) (13, st, ring)) (13, st, ring)
+    let e = newAnswer (settingsOf cfg) window (length ring) places ring in
+    guarded (readyNumber cfg (eqb (length st) 35)) (λ n. (n, st, ring)) (startedInto (e .0 .answer) (e .0 .stream) (e .1) st ring)
+
+abbrev resetInto : WasReset × List ℕ → ℕ × List ℕ × List ℕ
+resetInto e = (resetNumber (e .0 .answer), stored (e .0 .stream), e .1)
 
 unfoldable pub resetExport : List ℕ → List ℕ → ℕ × List ℕ × List ℕ
-resetExport st ring = cond (fits st) (resetInto (resetAnswer (loaded st) ring)) (13, st, ring)
+resetExport st ring = guarded (fitNumber (fits st)) (λ n. (n, st, ring)) (resetInto (resetAnswer (loaded st) ring))
+
+-- ---- the sender's calls
+abbrev sentInto : List ℕ → Sent × List ℕ → ℕ × List ℕ × List ℕ
+sentInto st e = (sendNumber (e .0 .answer), withSender st (e .0 .stream .sender), e .1)
 
 unfoldable pub sendExport : List ℕ → List ℕ → List ℕ → List ℕ → ℕ × List ℕ × List ℕ
 sendExport st cfg ring ws =
-    cond (senderFits st) (cond (settingsFit cfg) (sentInto st (sendAnswer (loaded st) (settingsOf cfg) ring ws)) (13, st, ring)) (13, st, ring)
-
-unfoldable pub dataExport : List ℕ → List ℕ → ℕ → ℕ → CDelivery × List ℕ
-dataExport st cfg time seq =
-    cond (receiverFits st) (cond (settingsFit cfg) (heardInto st (dataAnswer (loaded st) (settingsOf cfg) time seq)) (deliveryRefused 13, st)) (deliveryRefused 13, st)
-
-unfoldable pub writeExport : List ℕ → List ℕ → ℕ → List ℕ → List ℕ → List ℕ → CWritten × List ℕ × List ℕ × List ℕ × List ℕ
-writeExport st cfg time p b ring =
-    cond (fits st)
-    (cond (settingsFit cfg)
-    (cond (eqb (length p) 2) (wroteInto (writeAnswer (loaded st) (settingsOf cfg) time (payloadIn p) b ring)) (writtenRefused 13, st, p, b, ring))
-    (writtenRefused 13, st, p, b, ring))
-    (writtenRefused 13, st, p, b, ring)
+    guarded (readyNumber cfg (senderFits st)) (λ n. (n, st, ring)) (sentInto st (sendAnswer (loaded st) (settingsOf cfg) ring ws))
 
 abbrev requestedInto : List ℕ → Requested → COutcome × List ℕ
 requestedInto st e = (outcomeOf (e .outcome), withSender st (e .stream .sender))
 
+unfoldable pub requestExport : List ℕ → List ℕ → List ℕ → ℕ → ℕ → COutcome × List ℕ
+requestExport st cfg ring seq count =
+    guarded (readyNumber cfg (senderFits st)) (λ n. (outcomeRefused n, st))
+    (requestedInto st (requestAnswer (loaded st) (settingsOf cfg) ring record { seq = seq; count = count }))
+
+-- ---- the receiver's calls
+abbrev heardInto : List ℕ → Heard → CDelivery × List ℕ
+heardInto st e = (deliveryOf (e .answer), withReceiver st (e .stream .receiver))
+
+unfoldable pub dataExport : List ℕ → List ℕ → ℕ → ℕ → CDelivery × List ℕ
+dataExport st cfg time seq =
+    guarded (readyNumber cfg (receiverFits st)) (λ n. (deliveryRefused n, st)) (heardInto st (dataAnswer (loaded st) (settingsOf cfg) time seq))
+
 abbrev toldInto : List ℕ → Told → CEvent × List ℕ
 toldInto st e = (eventOf (e .event), withReceiver st (e .stream .receiver))
+
+unfoldable pub errorExport : List ℕ → ℕ → ℕ → CEvent × List ℕ
+errorExport st reason seq =
+    guarded (fitNumber (receiverFits st)) (λ n. (eventRefused n, st)) (toldInto st (errorAnswer (loaded st) record { reason = reason; seq = seq }))
+
+unfoldable pub nakExport : List ℕ → CEvent × List ℕ
+nakExport st = guarded (fitNumber (receiverFits st)) (λ n. (eventRefused n, st)) (toldInto st (nakAnswer (loaded st)))
+
+unfoldable pub pollExport : List ℕ → List ℕ → ℕ → CEvent × List ℕ
+pollExport st cfg time =
+    guarded (readyNumber cfg (receiverFits st)) (λ n. (eventRefused n, st)) (toldInto st (pollAnswer (loaded st) (settingsOf cfg) time))
 
 -- the answer, the stream's words, the payload's words and its bytes
 abbrev takenInto : List ℕ → Taken × List ℕ → CRequest × List ℕ × List ℕ × List ℕ
 takenInto st e = (requestOf (e .0 .answer), withReceiver st (e .0 .stream .receiver), payloadWords (e .0 .payload), e .1)
 
-unfoldable pub requestExport : List ℕ → List ℕ → List ℕ → ℕ → ℕ → COutcome × List ℕ
-requestExport st cfg ring seq count =
-    cond (senderFits st)
-    (cond (settingsFit cfg) (requestedInto st (requestAnswer (loaded st) (settingsOf cfg) ring record { seq = seq; count = count })) (outcomeRefused 13, st))
-    (outcomeRefused 13, st)
-
-unfoldable pub errorExport : List ℕ → ℕ → ℕ → CEvent × List ℕ
-errorExport st reason seq = cond (receiverFits st) (toldInto st (errorAnswer (loaded st) record { reason = reason; seq = seq })) (eventRefused 13, st)
-
-unfoldable pub nakExport : List ℕ → CEvent × List ℕ
-nakExport st = cond (receiverFits st) (toldInto st (nakAnswer (loaded st))) (eventRefused 13, st)
-
-unfoldable pub pollExport : List ℕ → List ℕ → ℕ → CEvent × List ℕ
-pollExport st cfg time =
-    cond (receiverFits st) (cond (settingsFit cfg) (toldInto st (pollAnswer (loaded st) (settingsOf cfg) time)) (eventRefused 13, st)) (eventRefused 13, st)
-
 unfoldable pub takeExport : List ℕ → List ℕ → List ℕ → List ℕ → CRequest × List ℕ × List ℕ × List ℕ
 takeExport st cfg p b =
-    cond (receiverFits st)
-    (cond (settingsFit cfg)
-    (cond (eqb (length p) 2) (takenInto st (takeAnswer (loaded st) (settingsOf cfg) (payloadIn p) b)) (requestRefused 13, st, p, b))
-    (requestRefused 13, st, p, b))
-    (requestRefused 13, st, p, b)
+    guarded (readyNumber cfg (receiverFits st && payloadFits p)) (λ n. (requestRefused n, st, p, b))
+    (takenInto st (takeAnswer (loaded st) (settingsOf cfg) (payloadIn p) b))
+
+-- ---- both ends again: a write, and questions
+-- the answer, the stream's words, the payload's words, its bytes and the lent history
+abbrev wroteInto : Wrote × List ℕ × List ℕ → CWritten × List ℕ × List ℕ × List ℕ × List ℕ
+wroteInto e = (writtenOf (e .0 .answer), stored (e .0 .stream), payloadWords (e .0 .payload), e .1, e .2)
+
+unfoldable pub writeExport : List ℕ → List ℕ → ℕ → List ℕ → List ℕ → List ℕ → CWritten × List ℕ × List ℕ × List ℕ × List ℕ
+writeExport st cfg time p b ring =
+    guarded (readyNumber cfg (fits st && payloadFits p)) (λ n. (writtenRefused n, st, p, b, ring))
+    (wroteInto (writeAnswer (loaded st) (settingsOf cfg) time (payloadIn p) b ring))
 
 unfoldable pub deadlineExport : List ℕ → List ℕ → CDeadline
-deadlineExport st ring = cond (fits st) (deadlineOf (deadlineAnswer (loaded st) ring)) (deadlineRefused 13)
+deadlineExport st ring = guarded (fitNumber (fits st)) deadlineRefused (deadlineOf (deadlineAnswer (loaded st) ring))
 
 unfoldable pub wantsExport : List ℕ → List ℕ → ℕ → CWants
-wantsExport st ring time = cond (fits st) (wantsOf (wantsAnswer (loaded st) ring time)) (wantsRefused 13)
+wantsExport st ring time = guarded (fitNumber (fits st)) wantsRefused (wantsOf (wantsAnswer (loaded st) ring time))
 
 -- ---- a write of one command into a payload: the answer's number, the payload's words and its bytes
 abbrev commandInto : CommandWrote × List ℕ → ℕ × List ℕ × List ℕ
 commandInto e = (writeNumber (e .0 .answer), payloadWords (e .0 .payload), e .1)
 
 unfoldable pub commandExport : (PayloadWriter → CommandWrote × List ℕ) → List ℕ → List ℕ → ℕ × List ℕ × List ℕ
-commandExport write p b = cond (eqb (length p) 2) (commandInto (write (payloadIn p))) (13, p, b)
+commandExport write p b = guarded (fitNumber (payloadFits p)) (λ n. (n, p, b)) (commandInto (write (payloadIn p)))
 
 -- a payload that is not opened leaves the words as they were
 abbrev pub openedInto : Opened → List ℕ → ℕ × List ℕ
@@ -128,4 +133,4 @@ openedInto (Payload w) p = (0, payloadWords w)
 openedInto (NotOpened why) p = (numberOf why, p)
 
 unfoldable pub openExport : List ℕ → ℕ → ℕ × List ℕ
-openExport p max = cond (eqb (length p) 2) (openedInto (openedOf max) p) (13, p)
+openExport p max = guarded (fitNumber (payloadFits p)) (λ n. (n, p)) (openedInto (openedOf max) p)

@@ -1,14 +1,9 @@
 -- 01, "State test", before number 13 of a state itself: which of the words that a caller lends are taken for a state. A word takes any value, but where its field has fewer bits.
 use Prim.Native.Nat.{ℕ}
-use mathlib.Core.Bool.{Bool, true, false, _&&_}
+use mathlib.Core.Bool.{Bool, true, _&&_}
 use mathlib.Core.List.{List, [], _∷_}
 use lib.ListN.{getD}
 use lib.Dec.{leb}
-
--- a bool as a word
-abbrev pub bit : Bool → ℕ
-bit false = 0
-bit true = 1
 
 -- of each pair, the word at its first is at most its second
 unfoldable pub within : List (ℕ × ℕ) → List ℕ → Bool

@@ -3,7 +3,7 @@ use mathlib.Core.Path.{_≡_}
 use Prim.Native.Nat.{ℕ, zero, suc, _+_, _*_, _/_, _%_, _≤_}
 use mathlib.Core.Bool.{Bool, cond, _&&_}
 use mathlib.Core.List.{List, [], _∷_, _++_}
-use lib.ListN.{length, getD}
+use lib.ListN.{length, getD, take, drop}
 use lib.Dec.{eqb}
 use Rattle.command.specs.declared.retransmit.RetransmitRequest.{RetransmitRequest}
 use Rattle.history.specs.Queue.{blank}
@@ -20,7 +20,8 @@ use Rattle.receiver.specs.declared.receiver.Asked.{Asked}
 use Rattle.receiver.specs.declared.receiver.Asked.the-variants.{Nothing, Request}
 use Rattle.stream.specs.declared.stream.DataStream.{DataStream}
 use Rattle.packet.specs.Bytes.{spliced}
-use Rattle.capi.specs.Limits.{within, bit}
+use Rattle.c_answers.specs.Answers.{bit}
+use Rattle.capi.specs.Limits.{within}
 use Rattle.capi.specs.declared.state.IdleWords.{IdleWords}
 use Rattle.capi.specs.declared.state.TimerWords.{TimerWords}
 use Rattle.capi.specs.declared.state.AskedWords.{AskedWords}
@@ -157,6 +158,13 @@ senderWords s =
 
 unfoldable pub stored : DataStream → List ℕ
 stored d = receiverWords (d .receiver) ++ senderWords (d .sender)
+
+-- the words of each end
+abbrev pub receiverPart : List ℕ → List ℕ
+receiverPart ws = take 12 ws
+
+abbrev pub senderPart : List ℕ → List ℕ
+senderPart ws = drop 12 ws
 
 -- the words after a call of one end: those of the other end stay
 abbrev pub withReceiver : List ℕ → Receiver → List ℕ

@@ -1,7 +1,7 @@
 -- 01, "Position, window, loss": a window's size, highest, bits low and high, as four words; 13 for words that are no window's.
 use mathlib.Core.Path.{_≡_}
 use Prim.Native.Nat.{ℕ, _≤_}
-use mathlib.Core.Bool.{Bool, cond, _&&_}
+use mathlib.Core.Bool.{Bool, _&&_}
 use mathlib.Core.List.{List, [], _∷_}
 use lib.ListN.{length, getD}
 use Rattle.window.specs.Answers.{acceptAnswer, classAnswer, processedAnswer, startAnswer}
@@ -13,11 +13,12 @@ use Rattle.window.specs.declared.window.Changed.{Changed}
 use Rattle.config.specs.Refusals.{numberOf}
 use lib.Dec.{eqb}
 use Rattle.window.specs.declared.window.Extended.{Extended}
+use Rattle.capi.specs.Guard.{guarded, fitNumber}
 use Rattle.capi.specs.Limits.{within}
-use Rattle.capi.specs.Answers.{acceptanceOf, deliveryRefused, changeNumber, extentOf, spanRefused, classificationOf, knowledgeOf, knownRefused}
-use Rattle.capi.specs.declared.answers.CDelivery.{CDelivery}
-use Rattle.capi.specs.declared.answers.CSpan.{CSpan}
-use Rattle.capi.specs.declared.answers.CKnown.{CKnown}
+use Rattle.c_answers.specs.Answers.{acceptanceOf, deliveryRefused, changeNumber, extentOf, spanRefused, classificationOf, knowledgeOf, knownRefused}
+use Rattle.c_answers.specs.declared.answers.CDelivery.{CDelivery}
+use Rattle.c_answers.specs.declared.answers.CSpan.{CSpan}
+use Rattle.c_answers.specs.declared.answers.CKnown.{CKnown}
 
 abbrev at : List ℕ → ℕ → ℕ
 at ws k = getD ws k 0
@@ -45,29 +46,29 @@ abbrev acceptedInto : Accepted → CDelivery × List ℕ
 acceptedInto e = (acceptanceOf (e .answer), windowWords (e .window))
 
 unfoldable pub acceptExport : List ℕ → ℕ → CDelivery × List ℕ
-acceptExport ws seq = cond (windowFits ws) (acceptedInto (acceptAnswer (windowAt ws) seq)) (deliveryRefused 13, ws)
+acceptExport ws seq = guarded (fitNumber (windowFits ws)) (λ n. (deliveryRefused n, ws)) (acceptedInto (acceptAnswer (windowAt ws) seq))
 
 -- ---- the other calls: a change, a mark, and questions, by the definition of each
 abbrev changedInto : Changed → ℕ × List ℕ
 changedInto e = (changeNumber (e .answer), windowWords (e .window))
 
 unfoldable pub changeExport : (ReceiveWindow → Changed) → List ℕ → ℕ × List ℕ
-changeExport change ws = cond (windowFits ws) (changedInto (change (windowAt ws))) (13, ws)
+changeExport change ws = guarded (fitNumber (windowFits ws)) (λ n. (n, ws)) (changedInto (change (windowAt ws)))
 
 abbrev markedInto : Extended → CSpan × List ℕ
 markedInto e = (extentOf (e .answer), windowWords (e .window))
 
 unfoldable pub markExport : (ReceiveWindow → Extended) → List ℕ → CSpan × List ℕ
-markExport mark ws = cond (windowFits ws) (markedInto (mark (windowAt ws))) (spanRefused 13, ws)
+markExport mark ws = guarded (fitNumber (windowFits ws)) (λ n. (spanRefused n, ws)) (markedInto (mark (windowAt ws)))
 
 unfoldable pub spanExport : (ReceiveWindow → Extended) → List ℕ → CSpan
-spanExport ask ws = cond (windowFits ws) (extentOf (ask (windowAt ws) .answer)) (spanRefused 13)
+spanExport ask ws = guarded (fitNumber (windowFits ws)) spanRefused (extentOf (ask (windowAt ws) .answer))
 
 unfoldable pub classExport : List ℕ → ℕ → CDelivery
-classExport ws seq = cond (windowFits ws) (classificationOf (classAnswer (windowAt ws) seq .answer)) (deliveryRefused 13)
+classExport ws seq = guarded (fitNumber (windowFits ws)) deliveryRefused (classificationOf (classAnswer (windowAt ws) seq .answer))
 
 unfoldable pub knownExport : List ℕ → ℕ → CKnown
-knownExport ws seq = cond (windowFits ws) (knowledgeOf (processedAnswer (windowAt ws) seq .answer)) (knownRefused 13)
+knownExport ws seq = guarded (fitNumber (windowFits ws)) knownRefused (knowledgeOf (processedAnswer (windowAt ws) seq .answer))
 
 -- ---- a start: a window that is not started leaves the words as they were
 abbrev pub startedInto : Started → List ℕ → ℕ × List ℕ
@@ -75,4 +76,4 @@ startedInto (Window w) ws = (0, windowWords w)
 startedInto (Refused why) ws = (numberOf why, ws)
 
 unfoldable pub startExport : List ℕ → ℕ → ℕ → ℕ × List ℕ
-startExport ws size highest = cond (eqb (length ws) 4) (startedInto (startAnswer size highest) ws) (13, ws)
+startExport ws size highest = guarded (fitNumber (eqb (length ws) 4)) (λ n. (n, ws)) (startedInto (startAnswer size highest) ws)

@@ -8,72 +8,30 @@ ghost use Rattle.packet.specs.Read.{openOf, nextOf, wordAt};
 ghost use Rattle.command.specs.Parse.{parsedOf};
 ghost use Rattle.command.specs.Messages.{messageAt};
 ghost use Rattle.reading.specs.Next.{readAt};
-ghost use Rattle.capi.specs.Reading.{placeOf, itemOf, commandOf, messageOf, lookupOf};
+ghost use Rattle.c_answers.specs.Codec.{placeOf, itemOf, commandOf, messageOf, lookupOf};
 ghost use Rattle.command.specs.Write.{dataWritten, requestPacket, errorWritten};
 ghost use Rattle.capi.specs.Exports.{openExport, commandExport};
-use super::answers;
+use super::guard;
 use super::payload;
+use c_answers::answers;
+use c_answers::codec;
+use c_answers::codec::CCommand;
+use c_answers::codec::CItem;
+use c_answers::codec::CMessage;
+use c_answers::codec::CPlace;
+use c_answers::codec::CWord;
 use command::data::UmpData;
-use command::message::MessageItem;
 use command::message::UmpMessages;
 use command::parse;
-use command::parse::Command;
 use command::retransmit::RetransmitError;
 use command::retransmit::RetransmitRequest;
 use packet::reader;
 use packet::reader::Cursor;
 use packet::reader::Header;
-use packet::reader::Lookup;
-use packet::reader::PacketItem;
-use packet::reader::Packets;
 use packet::writer::Opened;
 use packet::writer::PayloadWriter;
 use reading::next;
 use reading::next::Read;
-
-// A place in a payload.
-#[repr(C)]
-pub struct CPlace {
-    pub at: u64,
-    pub refusal: u8,
-}
-
-// What stands at a place: 0 the end, 1 a command that is cut, 2 a whole command and the next place. The
-// four bytes of its header lie as they do in the payload.
-#[repr(C)]
-pub struct CItem {
-    pub next: u64,
-    pub code: u8,
-    pub len: u8,
-    pub csd1: u8,
-    pub csd2: u8,
-    pub kind: u8,
-}
-
-// A command: 0 any other code, 1 data, 2 a request, 3 an error.
-#[repr(C)]
-pub struct CCommand {
-    pub refusal: u8,
-    pub kind: u8,
-    pub reason: u8,
-    pub seq: u16,
-    pub count: u16,
-}
-
-// What stands next in the words of a data command: 0 the end, 1 a message that is cut, 2 a message.
-#[repr(C)]
-pub struct CMessage {
-    pub next: u64,
-    pub kind: u8,
-    pub len: u8,
-}
-
-// A word, where `found` is 1.
-#[repr(C)]
-pub struct CWord {
-    pub word: u32,
-    pub found: u8,
-}
 
 // An empty payload; 4 when the limit is not 8 to 1,400 bytes.
 #[no_mangle]
@@ -91,7 +49,7 @@ pub extern "C" fn sirmjold_payload_new(p: &mut [u64], max: usize) -> u8
             }
         }
     }
-    13
+    guard::INVALID_STATE
 }
 
 // Writes one raw command after what the payload holds.
@@ -114,7 +72,7 @@ pub extern "C" fn sirmjold_payload_command(
         payload::store(after, p);
         return answers::of_write(answer);
     }
-    13
+    guard::INVALID_STATE
 }
 
 // Writes UMP Data.
@@ -134,7 +92,7 @@ pub extern "C" fn sirmjold_ump_data_write(
         payload::store(after, p);
         return answers::of_write(answer);
     }
-    13
+    guard::INVALID_STATE
 }
 
 // Writes a Retransmit Request.
@@ -155,7 +113,7 @@ pub extern "C" fn sirmjold_retransmit_request_write(
         payload::store(after, p);
         return answers::of_write(answer);
     }
-    13
+    guard::INVALID_STATE
 }
 
 // Writes a Retransmit Error.
@@ -176,7 +134,7 @@ pub extern "C" fn sirmjold_retransmit_error_write(
         payload::store(after, p);
         return answers::of_write(answer);
     }
-    13
+    guard::INVALID_STATE
 }
 
 // The place of the first command; 1 when the first four bytes are not the signature.
@@ -184,16 +142,7 @@ pub extern "C" fn sirmjold_retransmit_error_write(
 pub extern "C" fn sirmjold_packet_open(payload: &[u8]) -> CPlace
     ensures { λ r. ⌜ r ≡ placeOf (openOf (now (payload .entry))) ⌝ }
 {
-    match reader::command_packets(payload) {
-        Packets::At(cursor) => CPlace {
-            at: cursor.at as u64,
-            refusal: 0,
-        },
-        Packets::Refused(why) => CPlace {
-            at: 0,
-            refusal: why.number(),
-        },
-    }
+    codec::of_packets(reader::command_packets(payload))
 }
 
 // What stands at a place.
@@ -202,32 +151,7 @@ pub extern "C" fn sirmjold_packet_next(payload: &[u8], at: usize) -> CItem
     ensures { λ r. ⌜ r ≡ itemOf (nextOf (now (payload .entry)) at) ⌝ }
 {
     let cursor = Cursor { at };
-    match cursor.next(payload) {
-        PacketItem::End => CItem {
-            next: 0,
-            kind: 0,
-            code: 0,
-            len: 0,
-            csd1: 0,
-            csd2: 0,
-        },
-        PacketItem::Truncated(header) => CItem {
-            next: 0,
-            kind: 1,
-            code: header.code,
-            len: header.len,
-            csd1: header.csd1,
-            csd2: header.csd2,
-        },
-        PacketItem::Command { header, at, next } => CItem {
-            next: next.at as u64,
-            kind: 2,
-            code: header.code,
-            len: header.len,
-            csd1: header.csd1,
-            csd2: header.csd2,
-        },
-    }
+    codec::of_item(cursor.next(payload))
 }
 
 // The command at a place, with its words and the lengths of its messages: one call for each command.
@@ -261,43 +185,7 @@ pub extern "C" fn sirmjold_command_parse(
         csd1,
         csd2,
     };
-    match parse::parse(header, body) {
-        Command::UmpData(d) => CCommand {
-            refusal: 0,
-            kind: 1,
-            reason: 0,
-            seq: d.seq,
-            count: 0,
-        },
-        Command::RetransmitRequest(r) => CCommand {
-            refusal: 0,
-            kind: 2,
-            reason: 0,
-            seq: r.seq,
-            count: r.count,
-        },
-        Command::RetransmitError(e) => CCommand {
-            refusal: 0,
-            kind: 3,
-            reason: e.reason,
-            seq: e.seq,
-            count: 0,
-        },
-        Command::Raw(h) => CCommand {
-            refusal: 0,
-            kind: 0,
-            reason: 0,
-            seq: 0,
-            count: 0,
-        },
-        Command::Refused(why) => CCommand {
-            refusal: why.number(),
-            kind: 0,
-            reason: 0,
-            seq: 0,
-            count: 0,
-        },
-    }
+    codec::of_command(parse::parse(header, body))
 }
 
 // What stands next in the bytes of a data command's words, from the word `at` on.
@@ -306,23 +194,7 @@ pub extern "C" fn sirmjold_messages_next(body: &[u8], at: usize) -> CMessage
     ensures { λ r. ⌜ r ≡ messageOf (messageAt (wordsOf (now (body .entry))) at) ⌝ }
 {
     let walk = UmpMessages { at };
-    match walk.next(body) {
-        MessageItem::End => CMessage {
-            next: 0,
-            kind: 0,
-            len: 0,
-        },
-        MessageItem::Truncated => CMessage {
-            next: 0,
-            kind: 1,
-            len: 0,
-        },
-        MessageItem::Message { at, len, next } => CMessage {
-            next: next.at as u64,
-            kind: 2,
-            len: (len % 0x100) as u8,
-        },
-    }
+    codec::of_message(walk.next(body))
 }
 
 // The word at `index` of a command's bytes.
@@ -330,8 +202,5 @@ pub extern "C" fn sirmjold_messages_next(body: &[u8], at: usize) -> CMessage
 pub extern "C" fn sirmjold_word(body: &[u8], index: usize) -> CWord
     ensures { λ r. ⌜ r ≡ lookupOf (wordAt (now (body .entry)) index) ⌝ }
 {
-    match reader::word(body, index) {
-        Lookup::Word(w) => CWord { word: w, found: 1 },
-        Lookup::Absent => CWord { word: 0, found: 0 },
-    }
+    codec::of_lookup(reader::word(body, index))
 }

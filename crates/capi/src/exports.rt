@@ -1,26 +1,28 @@
-// The calls of a stream whose words the caller lends in `s`. Each tests its words first: 13 for words
-// that are no stream's, for settings that do not fit, and for a payload that is not two words. A call
-// of one end looks at the words of that end alone.
+// The calls of a stream whose words the caller lends in `s`. Each tests before it does anything: its
+// settings by their own numbers, then 13 for words that are no stream's and for a payload that is not
+// two words. A call of one end looks at the words of that end alone.
 ghost use mathlib.Core.Path.{_≡_};
 ghost use Rattle.capi.specs.Exports.{newExport, resetExport, sendExport, dataExport, writeExport, requestExport, errorExport, nakExport, pollExport, takeExport, deadlineExport, wantsExport};
-use super::answers;
-use super::answers::CDeadline;
-use super::answers::CDelivery;
-use super::answers::CEvent;
-use super::answers::COutcome;
-use super::answers::CRequest;
-use super::answers::CWants;
-use super::answers::CWritten;
+use super::guard;
 use super::payload;
 use super::settings;
 use super::state;
+use c_answers::answers;
+use c_answers::answers::CDeadline;
+use c_answers::answers::CDelivery;
+use c_answers::answers::CEvent;
+use c_answers::answers::COutcome;
+use c_answers::answers::CRequest;
+use c_answers::answers::CWants;
+use c_answers::answers::CWritten;
 use command::data::UmpData;
 use command::retransmit::RetransmitError;
 use command::retransmit::RetransmitRequest;
 use stream::stream::DataStream;
+use stream::stream::Start;
 
 // A fresh stream: a receive window of `window` numbers, the lent history, which is zeroed, and a
-// request ring of `places` places.
+// request ring of `places` places. A start that is refused stores nothing.
 #[no_mangle]
 pub extern "C" fn sirmjold_stream_new(
     s: &mut [u64],
@@ -31,17 +33,22 @@ pub extern "C" fn sirmjold_stream_new(
 ) -> u8
     ensures { λ r. ⌜ (r, now (s .exit), now (ring .exit)) ≡ newExport (now (s .entry)) (now (cfg .entry)) window places (now (ring .entry)) ⌝ }
 {
-    if s.len() == state::WORDS {
-        if settings::fits(cfg) {
-            let started = DataStream::new(settings::load(cfg), window, ring.len(), places, ring);
-            let stream = started.stream;
-            let answer = started.answer;
-            state::store(stream, s);
-            return answers::of_start(answer);
+    let number = guard::ready(cfg, s.len() == state::WORDS);
+    if number == 0 {
+        let started = DataStream::new(settings::load(cfg), window, ring.len(), places, ring);
+        let stream = started.stream;
+        let answer = started.answer;
+        match answer {
+            Start::Done => {
+                state::store(stream, s);
+                return 0;
+            }
+            Start::Refused(why) => {
+                return why.number();
+            }
         }
-        return 13;
     }
-    13
+    number
 }
 
 // Back to the fresh stream of the same sizes.
@@ -57,7 +64,7 @@ pub extern "C" fn sirmjold_stream_reset(s: &mut [u64], ring: &mut [u32]) -> u8
         state::store(stream, s);
         return answers::of_reset(answer);
     }
-    13
+    guard::INVALID_STATE
 }
 
 // Queues whole messages to send.
@@ -70,18 +77,16 @@ pub extern "C" fn sirmjold_stream_send_ump(
 ) -> u8
     ensures { λ r. ⌜ (r, now (s .exit), now (ring .exit)) ≡ sendExport (now (s .entry)) (now (cfg .entry)) (now (ring .entry)) (now (words .entry)) ⌝ }
 {
-    if state::sender_fits(&s[..]) {
-        if settings::fits(cfg) {
-            let before = state::sender_in(&s[..]);
-            let done = before.send_ump(settings::load(cfg), ring, words);
-            let sender = done.sender;
-            let answer = done.answer;
-            state::store_sender(sender, s);
-            return answers::of_send(answer);
-        }
-        return 13;
+    let number = guard::ready(cfg, state::sender_fits(&s[..]));
+    if number == 0 {
+        let before = state::sender_in(&s[..]);
+        let done = before.send_ump(settings::load(cfg), ring, words);
+        let sender = done.sender;
+        let answer = done.answer;
+        state::store_sender(sender, s);
+        return answers::of_send(answer);
     }
-    13
+    number
 }
 
 // A Retransmit Request arrives.
@@ -95,19 +100,17 @@ pub extern "C" fn sirmjold_stream_on_retransmit_request(
 ) -> COutcome
     ensures { λ r. ⌜ (r, now (s .exit)) ≡ requestExport (now (s .entry)) (now (cfg .entry)) (now (ring .entry)) seq count ⌝ }
 {
-    if state::sender_fits(&s[..]) {
-        if settings::fits(cfg) {
-            let before = state::sender_in(&s[..]);
-            let req = RetransmitRequest { seq, count };
-            let done = before.on_retransmit_request(settings::load(cfg), ring, req);
-            let sender = done.sender;
-            let outcome = done.outcome;
-            state::store_sender(sender, s);
-            return answers::of_outcome(outcome);
-        }
-        return answers::refused_outcome(13);
+    let number = guard::ready(cfg, state::sender_fits(&s[..]));
+    if number == 0 {
+        let before = state::sender_in(&s[..]);
+        let req = RetransmitRequest { seq, count };
+        let done = before.on_retransmit_request(settings::load(cfg), ring, req);
+        let sender = done.sender;
+        let outcome = done.outcome;
+        state::store_sender(sender, s);
+        return answers::of_outcome(outcome);
     }
-    answers::refused_outcome(13)
+    answers::refused_outcome(number)
 }
 
 // A data command arrives.
@@ -120,18 +123,16 @@ pub extern "C" fn sirmjold_stream_on_ump_data(
 ) -> CDelivery
     ensures { λ r. ⌜ (r, now (s .exit)) ≡ dataExport (now (s .entry)) (now (cfg .entry)) time seq ⌝ }
 {
-    if state::receiver_fits(&s[..]) {
-        if settings::fits(cfg) {
-            let before = state::receiver_in(&s[..]);
-            let done = before.on_ump_data(settings::load(cfg), time, UmpData { seq });
-            let receiver = done.receiver;
-            let answer = done.answer;
-            state::store_receiver(receiver, s);
-            return answers::of_hearing(answer);
-        }
-        return answers::refused_delivery(13);
+    let number = guard::ready(cfg, state::receiver_fits(&s[..]));
+    if number == 0 {
+        let before = state::receiver_in(&s[..]);
+        let done = before.on_ump_data(settings::load(cfg), time, UmpData { seq });
+        let receiver = done.receiver;
+        let answer = done.answer;
+        state::store_receiver(receiver, s);
+        return answers::of_hearing(answer);
     }
-    answers::refused_delivery(13)
+    answers::refused_delivery(number)
 }
 
 // A Retransmit Error arrives.
@@ -147,7 +148,7 @@ pub extern "C" fn sirmjold_stream_on_retransmit_error(s: &mut [u64], reason: u8,
         state::store_receiver(receiver, s);
         return answers::of_event(event);
     }
-    answers::refused_event(13)
+    answers::refused_event(guard::INVALID_STATE)
 }
 
 // A NAK to a Retransmit Request arrives.
@@ -163,7 +164,7 @@ pub extern "C" fn sirmjold_stream_on_retransmit_nak(s: &mut [u64]) -> CEvent
         state::store_receiver(receiver, s);
         return answers::of_event(event);
     }
-    answers::refused_event(13)
+    answers::refused_event(guard::INVALID_STATE)
 }
 
 // Runs the receiver's timer.
@@ -171,18 +172,16 @@ pub extern "C" fn sirmjold_stream_on_retransmit_nak(s: &mut [u64]) -> CEvent
 pub extern "C" fn sirmjold_stream_poll(s: &mut [u64], cfg: &[u32], time: u64) -> CEvent
     ensures { λ r. ⌜ (r, now (s .exit)) ≡ pollExport (now (s .entry)) (now (cfg .entry)) time ⌝ }
 {
-    if state::receiver_fits(&s[..]) {
-        if settings::fits(cfg) {
-            let before = state::receiver_in(&s[..]);
-            let done = before.poll(settings::load(cfg), time);
-            let receiver = done.receiver;
-            let event = done.event;
-            state::store_receiver(receiver, s);
-            return answers::of_event(event);
-        }
-        return answers::refused_event(13);
+    let number = guard::ready(cfg, state::receiver_fits(&s[..]));
+    if number == 0 {
+        let before = state::receiver_in(&s[..]);
+        let done = before.poll(settings::load(cfg), time);
+        let receiver = done.receiver;
+        let event = done.event;
+        state::store_receiver(receiver, s);
+        return answers::of_event(event);
     }
-    answers::refused_event(13)
+    answers::refused_event(number)
 }
 
 // Takes a due request into a payload, and writes nothing else.
@@ -195,23 +194,21 @@ pub extern "C" fn sirmjold_stream_write_request(
 ) -> CRequest
     ensures { λ r. ⌜ (r, now (s .exit), now (p .exit), now (buf .exit)) ≡ takeExport (now (s .entry)) (now (cfg .entry)) (now (p .entry)) (now (buf .entry)) ⌝ }
 {
-    if state::receiver_fits(&s[..]) {
-        if settings::fits(cfg) {
-            if p.len() == 2 {
-                let before = state::receiver_in(&s[..]);
-                let done = before.write_request(settings::load(cfg), payload::load(&p[..]), buf);
-                let receiver = done.receiver;
-                let written = done.payload;
-                let answer = done.answer;
-                state::store_receiver(receiver, s);
-                payload::store(written, p);
-                return answers::of_request(answer);
-            }
-            return answers::refused_request(13);
-        }
-        return answers::refused_request(13);
+    let number = guard::ready(
+        cfg,
+        guard::both(state::receiver_fits(&s[..]), payload::fits(&p[..])),
+    );
+    if number == 0 {
+        let before = state::receiver_in(&s[..]);
+        let done = before.write_request(settings::load(cfg), payload::load(&p[..]), buf);
+        let receiver = done.receiver;
+        let written = done.payload;
+        let answer = done.answer;
+        state::store_receiver(receiver, s);
+        payload::store(written, p);
+        return answers::of_request(answer);
     }
-    answers::refused_request(13)
+    answers::refused_request(number)
 }
 
 // The earliest time at which `poll` or `write_data` has timed work.
@@ -223,7 +220,7 @@ pub extern "C" fn sirmjold_stream_next_deadline(s: &[u64], ring: &[u32]) -> CDea
         let stream = state::load(s);
         return answers::of_deadline(stream.next_deadline(ring));
     }
-    answers::refused_deadline(13)
+    answers::refused_deadline(guard::INVALID_STATE)
 }
 
 // Whether `write_data` at this time has something to write.
@@ -235,7 +232,7 @@ pub extern "C" fn sirmjold_stream_wants_write(s: &[u64], ring: &[u32], time: u64
         let stream = state::load(s);
         return answers::of_wants(stream.wants_write(ring, time));
     }
-    answers::refused_wants(13)
+    answers::refused_wants(guard::INVALID_STATE)
 }
 
 // Writes into a payload: a due request, then the sender's commands.
@@ -250,27 +247,16 @@ pub extern "C" fn sirmjold_stream_write_data(
 ) -> CWritten
     ensures { λ r. ⌜ (r, now (s .exit), now (p .exit), now (buf .exit), now (ring .exit)) ≡ writeExport (now (s .entry)) (now (cfg .entry)) time (now (p .entry)) (now (buf .entry)) (now (ring .entry)) ⌝ }
 {
-    if state::fits(&s[..]) {
-        if settings::fits(cfg) {
-            if p.len() == 2 {
-                let before = state::load(&s[..]);
-                let done = before.write_data(
-                    settings::load(cfg),
-                    time,
-                    payload::load(&p[..]),
-                    buf,
-                    ring,
-                );
-                let stream = done.stream;
-                let written = done.payload;
-                let answer = done.answer;
-                state::store(stream, s);
-                payload::store(written, p);
-                return answers::of_writing(answer);
-            }
-            return answers::refused_written(13);
-        }
-        return answers::refused_written(13);
+    let number = guard::ready(cfg, guard::both(state::fits(&s[..]), payload::fits(&p[..])));
+    if number == 0 {
+        let before = state::load(&s[..]);
+        let done = before.write_data(settings::load(cfg), time, payload::load(&p[..]), buf, ring);
+        let stream = done.stream;
+        let written = done.payload;
+        let answer = done.answer;
+        state::store(stream, s);
+        payload::store(written, p);
+        return answers::of_writing(answer);
     }
-    answers::refused_written(13)
+    answers::refused_written(number)
 }

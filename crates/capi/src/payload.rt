@@ -1,9 +1,16 @@
 // A payload as two words that the caller lends: its length and its limit, in bytes.
 ghost use mathlib.Core.Path.{_≡_};
 ghost use lib.ListN.{length};
-ghost use Rattle.capi.specs.Payload.{payloadIn, payloadWords};
+ghost use Rattle.capi.specs.Payload.{payloadFits, payloadIn, payloadWords};
 use super::lent::put;
 use packet::writer::PayloadWriter;
+
+// Whether there are two words.
+pub fn fits(words: &[u64]) -> bool
+    ensures { λ r. ⌜ r ≡ payloadFits (now (words .entry)) ⌝ }
+{
+    words.len() == 2
+}
 
 // The payload.
 pub fn load(words: &[u64]) -> PayloadWriter

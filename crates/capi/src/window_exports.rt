@@ -5,11 +5,12 @@ ghost use mathlib.Core.Bool.{true};
 ghost use lib.ListN.{length};
 ghost use Rattle.capi.specs.Window.{windowFits, Narrow, windowAt, windowWords, startedInto, startExport, acceptExport, changeExport, markExport, spanExport, classExport, knownExport};
 ghost use Rattle.window.specs.Answers.{resetAnswer, missingAnswer, requestAnswer, markAllAnswer, markAnswer};
-use super::answers;
-use super::answers::CDelivery;
-use super::answers::CKnown;
-use super::answers::CSpan;
+use super::guard;
 use super::lent::put;
+use c_answers::answers;
+use c_answers::answers::CDelivery;
+use c_answers::answers::CKnown;
+use c_answers::answers::CSpan;
 use window::set::Bits;
 use window::window::ReceiveWindow;
 use window::window::SeqRange;
@@ -89,7 +90,7 @@ pub extern "C" fn sirmjold_window_starting_at(w: &mut [u64], size: u32, highest:
     if w.len() == 4 {
         return start(w, ReceiveWindow::starting_at(size, highest));
     }
-    13
+    guard::INVALID_STATE
 }
 
 // Back to the fresh window of the same size.
@@ -105,7 +106,7 @@ pub extern "C" fn sirmjold_window_reset(w: &mut [u64]) -> u8
         store(window, w);
         return answers::of_change(answer);
     }
-    13
+    guard::INVALID_STATE
 }
 
 // What a number is to the window, which stays as it is.
@@ -119,7 +120,7 @@ pub extern "C" fn sirmjold_window_classify(w: &[u64], seq: u16) -> CDelivery
         let answer = done.answer;
         return answers::of_classification(answer);
     }
-    answers::refused_delivery(13)
+    answers::refused_delivery(guard::INVALID_STATE)
 }
 
 // A number arrives: it is processed now, unless it is a duplicate.
@@ -135,7 +136,7 @@ pub extern "C" fn sirmjold_window_accept(w: &mut [u64], seq: u16) -> CDelivery
         store(window, w);
         return answers::of_acceptance(answer);
     }
-    answers::refused_delivery(13)
+    answers::refused_delivery(guard::INVALID_STATE)
 }
 
 // Whether the number is the highest, or one of the window's numbers that was processed.
@@ -149,7 +150,7 @@ pub extern "C" fn sirmjold_window_is_processed(w: &[u64], seq: u16) -> CKnown
         let answer = done.answer;
         return answers::of_knowledge(answer);
     }
-    answers::refused_known(13)
+    answers::refused_known(guard::INVALID_STATE)
 }
 
 // From the oldest to the newest missing number.
@@ -163,7 +164,7 @@ pub extern "C" fn sirmjold_window_missing(w: &[u64]) -> CSpan
         let answer = done.answer;
         return answers::of_extent(answer);
     }
-    answers::refused_span(13)
+    answers::refused_span(guard::INVALID_STATE)
 }
 
 // What a Retransmit Request asks for: from the oldest missing number to just before the highest.
@@ -177,7 +178,7 @@ pub extern "C" fn sirmjold_window_request(w: &[u64]) -> CSpan
         let answer = done.answer;
         return answers::of_extent(answer);
     }
-    answers::refused_span(13)
+    answers::refused_span(guard::INVALID_STATE)
 }
 
 // All numbers of the window are processed now.
@@ -193,7 +194,7 @@ pub extern "C" fn sirmjold_window_mark_all(w: &mut [u64]) -> u8
         store(window, w);
         return answers::of_change(answer);
     }
-    13
+    guard::INVALID_STATE
 }
 
 // The missing numbers that are in the range are processed now; the answer spans them.
@@ -209,5 +210,5 @@ pub extern "C" fn sirmjold_window_mark_range(w: &mut [u64], first: u16, count: u
         store(window, w);
         return answers::of_extent(answer);
     }
-    answers::refused_span(13)
+    answers::refused_span(guard::INVALID_STATE)
 }

@@ -1,59 +1,18 @@
--- By cases of what is read.
-use Rattle.capi.specs.Reading.{commandOf, commandRefused}
+-- What is read, as numbers.
+use mathlib.Core.Path.{ap, _∙_}
+use Rattle.c_answers.specs.Codec.{commandOf}
 use borrow.Author.Needs.{needs}
-use mathlib.Core.Path.{sym, ap, _∙_}
 use Rattle.capi.proofs.codec_exports.sirmjold_command_parse.Statement.{statement}
 use Rattle.capi.proofs.codec_exports.sirmjold_command_parse.Tie as tie
 
 parse-requires : tie.Need-parse-requires
 parse-requires c κs = search needs
 
-enum-known-d : tie.Need-enum-known-d
-enum-known-d c = search needs
-
-enum-known-r : tie.Need-enum-known-r
-enum-known-r c = search needs
-
-enum-known-e : tie.Need-enum-known-e
-enum-known-e c = search needs
-
-enum-known-h : tie.Need-enum-known-h
-enum-known-h c = search needs
-
-enum-known-why : tie.Need-enum-known-why
-enum-known-why c = search needs
-
-number-requires : tie.Need-number-requires
-number-requires c κs = search needs
+of-command-requires : tie.Need-of-command-requires
+of-command-requires c κs = search needs
 
 returns : tie.Need-returns
-returns c = sym (ap commandOf (sym (c .before .before .before .parse .ensures) ∙ c .before .d .given .1))
-
-returns-2 : tie.Need-returns-2
-returns-2 c = sym (ap commandOf (sym (c .before .before .before .parse .ensures) ∙ c .before .r .given .1))
-
-returns-3 : tie.Need-returns-3
-returns-3 c = sym (ap commandOf (sym (c .before .before .before .parse .ensures) ∙ c .before .e .given .1))
-
-returns-4 : tie.Need-returns-4
-returns-4 c = sym (ap commandOf (sym (c .before .before .before .parse .ensures) ∙ c .before .h .given .1))
-
-returns-5 : tie.Need-returns-5
-returns-5 c = ap commandRefused (c .number .ensures) ∙ sym (ap commandOf (sym (c .before .before .before .before .parse .ensures) ∙ c .before .before .why .given .1))
+returns c = c .of-command .ensures ∙ ap commandOf (c .before .parse .ensures)
 
 pub sirmjold-command-parse-spec : {M : Type 1} → statement M
-sirmjold-command-parse-spec =
-    tie.close
-    (tie.spec
-    parse-requires
-    enum-known-d
-    enum-known-r
-    enum-known-e
-    enum-known-h
-    enum-known-why
-    number-requires
-    returns
-    returns-2
-    returns-3
-    returns-4
-    returns-5)
+sirmjold-command-parse-spec = tie.close (tie.spec parse-requires of-command-requires returns)

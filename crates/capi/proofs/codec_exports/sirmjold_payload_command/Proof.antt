@@ -1,6 +1,9 @@
 -- The words are loaded, the command is written, and the words are stored.
-use Rattle.capi.proofs.Calls.{command-done, command-payload}
+use Rattle.capi.specs.Exports.{commandExport}
+use Rattle.capi.proofs.Guards.{made-fit, refused-fit}
 use borrow.Author.Needs.{needs}
+use mathlib.Core.Path.{refl}
+use borrow.Author.Tests.{eq-eqb, ne-eqb}
 use Rattle.capi.proofs.codec_exports.sirmjold_payload_command.Statement.{statement}
 use Rattle.capi.proofs.codec_exports.sirmjold_payload_command.Tie as tie
 
@@ -23,11 +26,14 @@ same-length-2 : tie.Need-same-length-2
 same-length-2 c = search needs
 
 returns : tie.Need-returns
+unfolding commandExport
 returns c =
-    command-done _ _ _ (c .before .before .before .before .before .before .before .before .before .before .before .before .if1 .taken) _ (c .before .before .before .before .before .before .before .before .before .before .load .ensures) _ _ (c .before .before .before .before .before .before .before .before .command .ensures) _ (c .before .before .before .store .ensures) _ (c .of-write .ensures)
+    let q = rw (c .before .before .before .before .before .before .before .before .before .before .load .ensures) at (c .before .before .before .before .before .before .before .before .command .ensures) in
+    made-fit _ _ _ _ (eq-eqb _ 2 (c .before .before .before .before .before .before .before .before .before .before .before .before .if1 .taken)) (rw (c .of-write .ensures, c .before .before .before .store .ensures, ← q))
 
 returns-2 : tie.Need-returns-2
-returns-2 c = command-payload _ _ _ (c .if1 .left)
+unfolding commandExport
+returns-2 c = refused-fit _ _ _ _ (ne-eqb _ 2 (c .if1 .left)) refl
 
 pub sirmjold-payload-command-spec : {M : Type 1} → statement M
 sirmjold-payload-command-spec =

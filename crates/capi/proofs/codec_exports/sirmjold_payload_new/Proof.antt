@@ -1,7 +1,9 @@
 -- The new payload is stored.
-use Rattle.capi.proofs.Calls.{open-done, open-refused, open-payload}
+use Rattle.capi.specs.Exports.{openExport}
+use Rattle.capi.proofs.Guards.{made-fit, refused-fit}
 use borrow.Author.Needs.{needs}
-use mathlib.Core.Path.{sym, _∙_}
+use borrow.Author.Tests.{eq-eqb, ne-eqb}
+use mathlib.Core.Path.{refl, sym, _∙_}
 use Rattle.capi.proofs.codec_exports.sirmjold_payload_new.Statement.{statement}
 use Rattle.capi.proofs.codec_exports.sirmjold_payload_new.Tie as tie
 
@@ -18,7 +20,10 @@ same-length : tie.Need-same-length
 same-length c = search needs
 
 returns : tie.Need-returns
-returns c = open-done _ _ (c .before .before .before .before .before .before .before .before .if1 .taken) _ (sym (c .before .before .before .before .before .before .before .new .ensures) ∙ c .before .before .before .before .before .payload .given .1) _ (c .before .before .store .ensures)
+unfolding openExport
+returns c =
+    let o = sym (c .before .before .before .before .before .before .before .new .ensures) ∙ c .before .before .before .before .before .payload .given .1 in
+    made-fit _ _ _ _ (eq-eqb _ 2 (c .before .before .before .before .before .before .before .before .if1 .taken)) (rw (c .before .before .store .ensures, o))
 
 enum-known-why : tie.Need-enum-known-why
 enum-known-why c = search needs
@@ -27,10 +32,14 @@ number-requires : tie.Need-number-requires
 number-requires c κs = search needs
 
 returns-2 : tie.Need-returns-2
-returns-2 c = open-refused _ _ (c .before .before .before .before .before .if1 .taken) _ (sym (c .before .before .before .before .new .ensures) ∙ c .before .before .why .given .1) _ (c .number .ensures)
+unfolding openExport
+returns-2 c =
+    let o = sym (c .before .before .before .before .new .ensures) ∙ c .before .before .why .given .1 in
+    made-fit _ _ _ _ (eq-eqb _ 2 (c .before .before .before .before .before .if1 .taken)) (rw (c .number .ensures, o))
 
 returns-3 : tie.Need-returns-3
-returns-3 c = open-payload _ _ (c .if1 .left)
+unfolding openExport
+returns-3 c = refused-fit _ _ _ _ (ne-eqb _ 2 (c .if1 .left)) refl
 
 pub sirmjold-payload-new-spec : {M : Type 1} → statement M
 sirmjold-payload-new-spec =

@@ -1,24 +1,28 @@
--- The call is made, and the words are stored.
-use Rattle.capi.proofs.Calls.{new-done, new-settings, new-state}
+-- The call is made, and its words are stored where it is not refused.
+use Rattle.capi.specs.Exports.{newExport}
+use Rattle.capi.proofs.Guards.{made, refused, ready-settings, ready-fits}
+use Rattle.capi.proofs.Figures.{figures-small}
+use Rattle.capi.proofs.Started.{new-kept, new-started, new-refused}
 use borrow.Author.Needs.{needs}
-use mathlib.Core.Path.{sym, _∙_}
+use borrow.Author.Tests.{eqb-true}
+use mathlib.Core.Path.{refl, sym, _∙_}
 use Rattle.capi.proofs.exports.sirmjold_stream_new.Statement.{statement}
 use Rattle.capi.proofs.exports.sirmjold_stream_new.Tie as tie
 
-fits-requires : tie.Need-fits-requires
-fits-requires c κs = search needs
+ready-requires : tie.Need-ready-requires
+ready-requires c κs = search needs
 
 load-requires : tie.Need-load-requires
-load-requires c κs = (sym (c .before .fits2 .ensures) ∙ c .if2 .taken)
+load-requires c κs = figures-small _ (ready-settings _ _ (sym (c .before .ready .ensures) ∙ c .if1 .taken))
 
 new-requires : tie.Need-new-requires
 new-requires c κs = search needs
 
-store-requires : tie.Need-store-requires
-store-requires c κs = c .before .before .before .before .before .before .before .before .before .if1 .taken
+enum-told : tie.Need-enum-told
+enum-told c = search needs
 
-of-start-requires : tie.Need-of-start-requires
-of-start-requires c κs = search needs
+store-requires : tie.Need-store-requires
+store-requires c κs = eqb-true _ _ (ready-fits _ _ (sym (c .before .before .before .before .before .before .before .before .before .before .ready .ensures) ∙ c .before .before .before .before .before .before .before .before .before .if1 .taken))
 
 same-length : tie.Need-same-length
 same-length c = search needs
@@ -27,26 +31,47 @@ same-length-2 : tie.Need-same-length-2
 same-length-2 c = search needs
 
 returns : tie.Need-returns
+unfolding newExport
 returns c =
-    new-done _ _ _ _ _ (c .before .before .before .before .before .before .before .before .before .before .before .before .before .if1 .taken) (sym (c .before .before .before .before .before .before .before .before .before .before .before .before .fits2 .ensures) ∙ c .before .before .before .before .before .before .before .before .before .before .before .if2 .taken) _ (c .before .before .before .before .before .before .before .before .before .before .load .ensures) _ _ (c .before .before .before .before .before .before .before .before .new .ensures) _ (c .before .before .before .store .ensures) _ (c .of-start .ensures)
+    let q = rw (c .before .before .before .before .before .before .before .before .before .before .before .load .ensures) at (c .before .before .before .before .before .before .before .before .before .new .ensures) in
+    let a = c .before .before .before .before .before .before .before .before .before .before .before .before .before .before .before .before .before .args in
+    made _ _ _ _ _ (c .before .before .before .before .before .before .before .before .before .before .before .before .before .ready .ensures) (c .before .before .before .before .before .before .before .before .before .before .before .before .if1 .taken) (new-started (a .s .now) (a .ring .now) _ _ _ q (c .before .before .before .before .enum-told .given .1) _ (c .before .before .store .ensures))
+
+enum-known-answer : tie.Need-enum-known-answer
+enum-known-answer c = search needs
+
+number-requires : tie.Need-number-requires
+number-requires c κs = search needs
+
+same-length-3 : tie.Need-same-length-3
+same-length-3 c = search needs
 
 returns-2 : tie.Need-returns-2
-returns-2 c = new-settings _ _ _ _ _ (c .before .before .if1 .taken) (sym (c .before .fits2 .ensures) ∙ c .if2 .left)
+unfolding newExport
+returns-2 c =
+    let q = rw (c .before .before .before .before .before .before .before .before .before .load .ensures) at (c .before .before .before .before .before .before .before .new .ensures) in
+    let a = c .before .before .before .before .before .before .before .before .before .before .before .before .before .before .before .args in
+    let d = c .before .before .answer .given .1 in
+    made _ _ _ _ _ (c .before .before .before .before .before .before .before .before .before .before .before .ready .ensures) (c .before .before .before .before .before .before .before .before .before .before .if1 .taken) (new-refused (a .s .now) (a .ring .now) _ _ _ q _ d (new-kept (a .ring .now) _ _ _ _ _ _ q d) _ (c .number .ensures))
 
 returns-3 : tie.Need-returns-3
-returns-3 c = new-state _ _ _ _ _ (c .if1 .left)
+unfolding newExport
+returns-3 c = refused _ _ _ _ _ (c .before .ready .ensures) (c .if1 .left) refl
 
 pub sirmjold-stream-new-spec : {M : Type 1} → statement M
 sirmjold-stream-new-spec =
     tie.close
     (tie.spec
-    fits-requires
+    ready-requires
     load-requires
     new-requires
+    enum-told
     store-requires
-    of-start-requires
     same-length
     same-length-2
     returns
+    enum-known-answer
+    number-requires
+    same-length-3
     returns-2
     returns-3)

@@ -1,5 +1,6 @@
 -- The words are loaded, and the call is made.
-use Rattle.capi.proofs.Calls.{deadline-told, deadline-state}
+use Rattle.capi.specs.Exports.{deadlineExport}
+use Rattle.capi.proofs.Guards.{made-fit, refused-fit}
 use borrow.Author.Needs.{needs}
 use mathlib.Core.Path.{sym, _∙_}
 use Rattle.capi.proofs.exports.sirmjold_stream_next_deadline.Statement.{statement}
@@ -18,13 +19,15 @@ of-deadline-requires : tie.Need-of-deadline-requires
 of-deadline-requires c κs = search needs
 
 returns : tie.Need-returns
-returns c = deadline-told _ _ (sym (c .before .before .before .before .fits2 .ensures) ∙ c .before .before .before .if1 .taken) _ (c .before .before .load .ensures) _ (c .before .next-deadline .ensures) _ (c .of-deadline .ensures)
+unfolding deadlineExport
+returns c = made-fit _ _ _ _ (sym (c .before .before .before .before .fits2 .ensures) ∙ c .before .before .before .if1 .taken) (rw (c .of-deadline .ensures, c .before .next-deadline .ensures, c .before .before .load .ensures))
 
 refused-deadline-requires : tie.Need-refused-deadline-requires
 refused-deadline-requires c κs = search needs
 
 returns-2 : tie.Need-returns-2
-returns-2 c = deadline-state _ _ (sym (c .before .before .fits2 .ensures) ∙ c .before .if1 .left) _ (c .refused-deadline .ensures)
+unfolding deadlineExport
+returns-2 c = refused-fit _ _ _ _ (sym (c .before .before .fits2 .ensures) ∙ c .before .if1 .left) (rw (c .refused-deadline .ensures))
 
 pub sirmjold-stream-next-deadline-spec : {M : Type 1} → statement M
 sirmjold-stream-next-deadline-spec =

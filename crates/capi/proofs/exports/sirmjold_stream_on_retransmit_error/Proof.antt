@@ -1,6 +1,9 @@
 -- The words are loaded, the call is made, and the words of its end are stored.
 use mathlib.Core.Path.{sym, _∙_}
-use Rattle.capi.proofs.Calls.{error-done, error-state}
+use Rattle.capi.specs.Exports.{errorExport}
+use Rattle.capi.specs.Stream.{loaded}
+use Rattle.stream.specs.Ends.{errorAnswer}
+use Rattle.capi.proofs.Guards.{made-fit, refused-fit}
 use Rattle.capi.proofs.Words.{receiver-known}
 use borrow.Author.Needs.{needs}
 use Rattle.capi.proofs.exports.sirmjold_stream_on_retransmit_error.Statement.{statement}
@@ -25,8 +28,8 @@ same-length : tie.Need-same-length
 same-length c = search needs
 
 returns : tie.Need-returns
-returns c =
-    error-done _ _ _ (sym (c .before .before .before .before .before .before .before .before .before .before .receiver-fits .ensures) ∙ c .before .before .before .before .before .before .before .before .before .if1 .taken) _ (c .before .before .before .before .before .before .before .receiver-in .ensures) _ (c .before .before .before .before .before .before .on-retransmit-error .ensures) _ (c .before .before .before .store-receiver .ensures) _ (c .of-event .ensures)
+unfolding errorExport errorAnswer loaded
+returns c = made-fit _ _ _ _ (sym (c .before .before .before .before .before .before .before .before .before .before .receiver-fits .ensures) ∙ c .before .before .before .before .before .before .before .before .before .if1 .taken) (rw (c .of-event .ensures, c .before .before .before .store-receiver .ensures, c .before .before .before .before .before .before .on-retransmit-error .ensures, c .before .before .before .before .before .before .before .receiver-in .ensures))
 
 refused-event-requires : tie.Need-refused-event-requires
 refused-event-requires c κs = search needs
@@ -35,8 +38,8 @@ same-length-2 : tie.Need-same-length-2
 same-length-2 c = search needs
 
 returns-2 : tie.Need-returns-2
-returns-2 c =
-    error-state _ _ _ (sym (c .before .before .receiver-fits .ensures) ∙ c .before .if1 .left) _ (c .refused-event .ensures)
+unfolding errorExport errorAnswer loaded
+returns-2 c = refused-fit _ _ _ _ (sym (c .before .before .receiver-fits .ensures) ∙ c .before .if1 .left) (rw (c .refused-event .ensures))
 
 pub sirmjold-stream-on-retransmit-error-spec : {M : Type 1} → statement M
 sirmjold-stream-on-retransmit-error-spec =

@@ -1,8 +1,9 @@
 -- The words are loaded, the call is made, and the words are stored.
-use Rattle.capi.proofs.Calls.{reset-done, reset-state}
+use Rattle.capi.specs.Exports.{resetExport}
+use Rattle.capi.proofs.Guards.{made-fit, refused-fit}
 use Rattle.capi.proofs.Words.{both-fit, sender-known}
 use borrow.Author.Needs.{needs}
-use mathlib.Core.Path.{sym, _∙_}
+use mathlib.Core.Path.{refl, sym, _∙_}
 use Rattle.capi.proofs.exports.sirmjold_stream_reset.Statement.{statement}
 use Rattle.capi.proofs.exports.sirmjold_stream_reset.Tie as tie
 
@@ -28,14 +29,17 @@ same-length-2 : tie.Need-same-length-2
 same-length-2 c = search needs
 
 returns : tie.Need-returns
+unfolding resetExport
 returns c =
-    reset-done _ _ (sym (c .before .before .before .before .before .before .before .before .before .before .before .before .before .fits2 .ensures) ∙ c .before .before .before .before .before .before .before .before .before .before .before .before .if1 .taken) _ (c .before .before .before .before .before .before .before .before .before .before .load .ensures) _ _ (c .before .before .before .before .before .before .before .before .reset .ensures) _ (c .before .before .before .store .ensures) _ (c .of-reset .ensures)
+    let q = rw (c .before .before .before .before .before .before .before .before .before .before .load .ensures) at (c .before .before .before .before .before .before .before .before .reset .ensures) in
+    made-fit _ _ _ _ (sym (c .before .before .before .before .before .before .before .before .before .before .before .before .before .fits2 .ensures) ∙ c .before .before .before .before .before .before .before .before .before .before .before .before .if1 .taken) (rw (c .of-reset .ensures, c .before .before .before .store .ensures, ← q))
 
 same-length-3 : tie.Need-same-length-3
 same-length-3 c = search needs
 
 returns-2 : tie.Need-returns-2
-returns-2 c = reset-state _ _ (sym (c .before .fits2 .ensures) ∙ c .if1 .left)
+unfolding resetExport
+returns-2 c = refused-fit _ _ _ _ (sym (c .before .fits2 .ensures) ∙ c .if1 .left) refl
 
 pub sirmjold-stream-reset-spec : {M : Type 1} → statement M
 sirmjold-stream-reset-spec =

@@ -1,7 +1,11 @@
 -- The words are loaded, the call is made, and the words of its end are stored.
-use mathlib.Core.Path.{sym, _∙_}
-use Rattle.capi.proofs.Calls.{send-done, send-settings, send-state}
+use Rattle.capi.specs.Exports.{sendExport}
+use Rattle.capi.specs.Stream.{loaded}
+use Rattle.stream.specs.Ends.{sendAnswer}
+use Rattle.capi.proofs.Guards.{made, refused, number-is, then-settings, then-fits}
+use Rattle.capi.proofs.Figures.{figures-small}
 use Rattle.capi.proofs.Words.{sender-known}
+use mathlib.Core.Path.{refl}
 use borrow.Author.Needs.{needs}
 use Rattle.capi.proofs.exports.sirmjold_stream_send_ump.Statement.{statement}
 use Rattle.capi.proofs.exports.sirmjold_stream_send_ump.Tie as tie
@@ -9,20 +13,20 @@ use Rattle.capi.proofs.exports.sirmjold_stream_send_ump.Tie as tie
 sender-fits-requires : tie.Need-sender-fits-requires
 sender-fits-requires c κs = search needs
 
-fits-requires : tie.Need-fits-requires
-fits-requires c κs = search needs
+ready-requires : tie.Need-ready-requires
+ready-requires c κs = search needs
 
 sender-in-requires : tie.Need-sender-in-requires
-sender-in-requires c κs = sender-known _ (sym (c .before .before .before .before .sender-fits .ensures) ∙ c .before .before .before .if1 .taken)
+sender-in-requires c κs = sender-known _ (then-fits _ _ _ _ (c .before .before .before .sender-fits .ensures) (c .before .before .ready .ensures) (c .before .if1 .taken))
 
 load-requires : tie.Need-load-requires
-load-requires c κs = (sym (c .before .before .before .fits2 .ensures) ∙ c .before .before .if2 .taken)
+load-requires c κs = figures-small _ (then-settings _ _ _ _ (c .before .before .before .before .sender-fits .ensures) (c .before .before .before .ready .ensures) (c .before .before .if1 .taken))
 
 send-ump-requires : tie.Need-send-ump-requires
 send-ump-requires c κs = search needs
 
 store-sender-requires : tie.Need-store-sender-requires
-store-sender-requires c κs = (sender-known _ (sym (c .before .before .before .before .before .before .before .before .before .before .before .before .sender-fits .ensures) ∙ c .before .before .before .before .before .before .before .before .before .before .before .if1 .taken)) .whole
+store-sender-requires c κs = sender-known _ (then-fits _ _ _ _ (c .before .before .before .before .before .before .before .before .before .before .before .sender-fits .ensures) (c .before .before .before .before .before .before .before .before .before .before .ready .ensures) (c .before .before .before .before .before .before .before .before .before .if1 .taken)) .whole
 
 of-send-requires : tie.Need-of-send-requires
 of-send-requires c κs = search needs
@@ -34,29 +38,24 @@ same-length-2 : tie.Need-same-length-2
 same-length-2 c = search needs
 
 returns : tie.Need-returns
+unfolding sendExport sendAnswer loaded
 returns c =
-    send-done _ _ _ _ (sym (c .before .before .before .before .before .before .before .before .before .before .before .before .before .before .before .before .sender-fits .ensures) ∙ c .before .before .before .before .before .before .before .before .before .before .before .before .before .before .before .if1 .taken) (sym (c .before .before .before .before .before .before .before .before .before .before .before .before .before .before .fits2 .ensures) ∙ c .before .before .before .before .before .before .before .before .before .before .before .before .before .if2 .taken) _ _ (c .before .before .before .before .before .before .before .before .before .before .before .sender-in .ensures) (c .before .before .before .before .before .before .before .before .before .before .load .ensures) _ _ (c .before .before .before .before .before .before .before .before .send-ump .ensures) _ (c .before .before .before .store-sender .ensures) _ (c .of-send .ensures)
+    let q = rw (c .before .before .before .before .before .before .before .before .before .before .before .sender-in .ensures, c .before .before .before .before .before .before .before .before .before .before .load .ensures) at (c .before .before .before .before .before .before .before .before .send-ump .ensures) in
+    made _ _ _ _ _ (number-is _ _ _ _ (c .before .before .before .before .before .before .before .before .before .before .before .before .before .before .before .sender-fits .ensures) (c .before .before .before .before .before .before .before .before .before .before .before .before .before .before .ready .ensures)) (c .before .before .before .before .before .before .before .before .before .before .before .before .before .if1 .taken) (rw (c .of-send .ensures, c .before .before .before .store-sender .ensures, ← q))
 
 same-length-3 : tie.Need-same-length-3
 same-length-3 c = search needs
 
 returns-2 : tie.Need-returns-2
-returns-2 c =
-    send-settings _ _ _ _ (sym (c .before .before .before .sender-fits .ensures) ∙ c .before .before .if1 .taken) (sym (c .before .fits2 .ensures) ∙ c .if2 .left)
-
-same-length-4 : tie.Need-same-length-4
-same-length-4 c = search needs
-
-returns-3 : tie.Need-returns-3
-returns-3 c =
-    send-state _ _ _ _ (sym (c .before .sender-fits .ensures) ∙ c .if1 .left)
+unfolding sendExport sendAnswer loaded
+returns-2 c = refused _ _ _ _ _ (number-is _ _ _ _ (c .before .before .sender-fits .ensures) (c .before .ready .ensures)) (c .if1 .left) (refl)
 
 pub sirmjold-stream-send-ump-spec : {M : Type 1} → statement M
 sirmjold-stream-send-ump-spec =
     tie.close
     (tie.spec
     sender-fits-requires
-    fits-requires
+    ready-requires
     sender-in-requires
     load-requires
     send-ump-requires
@@ -66,6 +65,4 @@ sirmjold-stream-send-ump-spec =
     same-length-2
     returns
     same-length-3
-    returns-2
-    same-length-4
-    returns-3)
+    returns-2)

@@ -1,5 +1,6 @@
 -- The words are loaded, and the call is made.
-use Rattle.capi.proofs.Calls.{wants-told, wants-state}
+use Rattle.capi.specs.Exports.{wantsExport}
+use Rattle.capi.proofs.Guards.{made-fit, refused-fit}
 use borrow.Author.Needs.{needs}
 use mathlib.Core.Path.{sym, _∙_}
 use Rattle.capi.proofs.exports.sirmjold_stream_wants_write.Statement.{statement}
@@ -18,13 +19,15 @@ of-wants-requires : tie.Need-of-wants-requires
 of-wants-requires c κs = search needs
 
 returns : tie.Need-returns
-returns c = wants-told _ _ _ (sym (c .before .before .before .before .fits2 .ensures) ∙ c .before .before .before .if1 .taken) _ (c .before .before .load .ensures) _ (c .before .wants-write .ensures) _ (c .of-wants .ensures)
+unfolding wantsExport
+returns c = made-fit _ _ _ _ (sym (c .before .before .before .before .fits2 .ensures) ∙ c .before .before .before .if1 .taken) (rw (c .of-wants .ensures, c .before .wants-write .ensures, c .before .before .load .ensures))
 
 refused-wants-requires : tie.Need-refused-wants-requires
 refused-wants-requires c κs = search needs
 
 returns-2 : tie.Need-returns-2
-returns-2 c = wants-state _ _ _ (sym (c .before .before .fits2 .ensures) ∙ c .before .if1 .left) _ (c .refused-wants .ensures)
+unfolding wantsExport
+returns-2 c = refused-fit _ _ _ _ (sym (c .before .before .fits2 .ensures) ∙ c .before .if1 .left) (rw (c .refused-wants .ensures))
 
 pub sirmjold-stream-wants-write-spec : {M : Type 1} → statement M
 sirmjold-stream-wants-write-spec =

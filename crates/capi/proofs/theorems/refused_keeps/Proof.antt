@@ -3,13 +3,14 @@ use Rattle.packet.specs.Layout.{packet}
 use Rattle.command.specs.Write.{requestPacket}
 use Rattle.window.specs.Window.{freshOf, fresh}
 use Rattle.window.specs.Marking.{markOf}
-use Rattle.capi.proofs.Refusals.{reset-keeps, send-keeps, request-keeps, hear-keeps, error-keeps, nak-keeps, poll-keeps, take-keeps, write-keeps, start-keeps, accept-keeps, change-keeps, mark-keeps, open-keeps, packet-keeps, data-keeps, error-write-keeps, read-keeps}
+use Rattle.capi.proofs.Refusals.{new-keeps, reset-keeps, send-keeps, request-keeps, hear-keeps, error-keeps, nak-keeps, poll-keeps, take-keeps, write-keeps, write-request-keeps, start-keeps, accept-keeps, change-keeps, mark-keeps, open-keeps, packet-keeps, data-keeps, error-write-keeps, read-keeps}
 use Rattle.capi.proofs.theorems.refused_keeps.Statement.{statement}
 use Rattle.capi.proofs.theorems.refused_keeps.Tie as tie
 
 returns : tie.Need-returns
 returns c =
     record {
+      start = λ st cfg window places ring. new-keeps st ring cfg window places .kept;
       reset = λ st ring wide. reset-keeps st ring wide .kept;
       send = λ st cfg ring ws wide. send-keeps st ring wide cfg ws .kept;
       request = λ st cfg ring seq count wide. request-keeps st ring wide cfg seq count .kept;
@@ -18,7 +19,9 @@ returns c =
       nak = λ st. nak-keeps st .kept;
       poll = λ st cfg time. poll-keeps st cfg time .kept;
       take = λ st cfg p b. take-keeps st p b cfg .kept;
-      write = λ st cfg time p b ring wide. write-keeps st p b ring cfg time wide .kept;
+      write = λ st cfg time p b ring wide n m. write-keeps st p b ring cfg time wide .kept n .2 m;
+      write-payload = λ st cfg time p b ring wide n. (write-keeps st p b ring cfg time wide .kept n .0, write-keeps st p b ring cfg time wide .kept n .1);
+      write-request = λ st cfg time p b ring wide. write-request-keeps st p b ring cfg time wide;
       window-start = λ w size highest. start-keeps w size highest .kept;
       window-accept = λ w seq. accept-keeps w seq .kept;
       window-reset = λ w. change-keeps w (λ x. fresh (x .size)) .kept;

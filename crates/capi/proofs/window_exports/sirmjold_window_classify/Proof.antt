@@ -1,5 +1,6 @@
 -- The words are loaded, and the call is made.
-use Rattle.capi.proofs.Calls.{class-asked, class-state}
+use Rattle.capi.specs.Window.{classExport}
+use Rattle.capi.proofs.Guards.{made-fit, refused-fit}
 use borrow.Author.Needs.{needs}
 use mathlib.Core.Path.{sym, _∙_}
 use Rattle.capi.proofs.window_exports.sirmjold_window_classify.Statement.{statement}
@@ -18,13 +19,15 @@ of-classification-requires : tie.Need-of-classification-requires
 of-classification-requires c κs = search needs
 
 returns : tie.Need-returns
-returns c = class-asked _ _ (sym (c .before .before .before .before .fits2 .ensures) ∙ c .before .before .before .if1 .taken) _ (c .before .before .load .ensures) _ (c .before .classify .ensures) _ (c .of-classification .ensures)
+unfolding classExport
+returns c = made-fit _ _ _ _ (sym (c .before .before .before .before .fits2 .ensures) ∙ c .before .before .before .if1 .taken) (rw (c .of-classification .ensures, c .before .classify .ensures, c .before .before .load .ensures))
 
 refused-delivery-requires : tie.Need-refused-delivery-requires
 refused-delivery-requires c κs = search needs
 
 returns-2 : tie.Need-returns-2
-returns-2 c = class-state _ _ (sym (c .before .before .fits2 .ensures) ∙ c .before .if1 .left) _ (c .refused-delivery .ensures)
+unfolding classExport
+returns-2 c = refused-fit _ _ _ _ (sym (c .before .before .fits2 .ensures) ∙ c .before .if1 .left) (rw (c .refused-delivery .ensures))
 
 pub sirmjold-window-classify-spec : {M : Type 1} → statement M
 sirmjold-window-classify-spec =

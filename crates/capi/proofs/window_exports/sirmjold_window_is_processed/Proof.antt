@@ -1,5 +1,6 @@
 -- The words are loaded, and the call is made.
-use Rattle.capi.proofs.Calls.{known-told, known-state}
+use Rattle.capi.specs.Window.{knownExport}
+use Rattle.capi.proofs.Guards.{made-fit, refused-fit}
 use borrow.Author.Needs.{needs}
 use mathlib.Core.Path.{sym, _∙_}
 use Rattle.capi.proofs.window_exports.sirmjold_window_is_processed.Statement.{statement}
@@ -18,13 +19,15 @@ of-knowledge-requires : tie.Need-of-knowledge-requires
 of-knowledge-requires c κs = search needs
 
 returns : tie.Need-returns
-returns c = known-told _ _ (sym (c .before .before .before .before .fits2 .ensures) ∙ c .before .before .before .if1 .taken) _ (c .before .before .load .ensures) _ (c .before .is-processed .ensures) _ (c .of-knowledge .ensures)
+unfolding knownExport
+returns c = made-fit _ _ _ _ (sym (c .before .before .before .before .fits2 .ensures) ∙ c .before .before .before .if1 .taken) (rw (c .of-knowledge .ensures, c .before .is-processed .ensures, c .before .before .load .ensures))
 
 refused-known-requires : tie.Need-refused-known-requires
 refused-known-requires c κs = search needs
 
 returns-2 : tie.Need-returns-2
-returns-2 c = known-state _ _ (sym (c .before .before .fits2 .ensures) ∙ c .before .if1 .left) _ (c .refused-known .ensures)
+unfolding knownExport
+returns-2 c = refused-fit _ _ _ _ (sym (c .before .before .fits2 .ensures) ∙ c .before .if1 .left) (rw (c .refused-known .ensures))
 
 pub sirmjold-window-is-processed-spec : {M : Type 1} → statement M
 sirmjold-window-is-processed-spec =

@@ -1,5 +1,6 @@
 -- The words are loaded, the call is made, and the words are stored.
-use Rattle.capi.proofs.Calls.{mark-done, mark-state}
+use Rattle.capi.specs.Window.{markExport}
+use Rattle.capi.proofs.Guards.{made-fit, refused-fit}
 use Rattle.capi.proofs.Words.{window-known}
 use borrow.Author.Needs.{needs}
 use mathlib.Core.Path.{sym, _∙_}
@@ -25,8 +26,8 @@ same-length : tie.Need-same-length
 same-length c = search needs
 
 returns : tie.Need-returns
-returns c =
-    mark-done _ _ (sym (c .before .before .before .before .before .before .before .before .before .before .fits2 .ensures) ∙ c .before .before .before .before .before .before .before .before .before .if1 .taken) _ (c .before .before .before .before .before .before .before .load .ensures) _ (c .before .before .before .before .before .before .mark-range .ensures) _ (c .before .before .before .store .ensures) _ (c .of-extent .ensures)
+unfolding markExport
+returns c = made-fit _ _ _ _ (sym (c .before .before .before .before .before .before .before .before .before .before .fits2 .ensures) ∙ c .before .before .before .before .before .before .before .before .before .if1 .taken) (rw (c .of-extent .ensures, c .before .before .before .store .ensures, c .before .before .before .before .before .before .mark-range .ensures, c .before .before .before .before .before .before .before .load .ensures))
 
 refused-span-requires : tie.Need-refused-span-requires
 refused-span-requires c κs = search needs
@@ -35,7 +36,8 @@ same-length-2 : tie.Need-same-length-2
 same-length-2 c = search needs
 
 returns-2 : tie.Need-returns-2
-returns-2 c = mark-state _ _ (sym (c .before .before .fits2 .ensures) ∙ c .before .if1 .left) _ (c .refused-span .ensures)
+unfolding markExport
+returns-2 c = refused-fit _ _ _ _ (sym (c .before .before .fits2 .ensures) ∙ c .before .if1 .left) (rw (c .refused-span .ensures))
 
 pub sirmjold-window-mark-range-spec : {M : Type 1} → statement M
 sirmjold-window-mark-range-spec =

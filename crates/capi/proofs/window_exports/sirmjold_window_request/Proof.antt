@@ -1,5 +1,6 @@
 -- The words are loaded, and the call is made.
-use Rattle.capi.proofs.Calls.{span-told, span-state}
+use Rattle.capi.specs.Window.{spanExport}
+use Rattle.capi.proofs.Guards.{made-fit, refused-fit}
 use borrow.Author.Needs.{needs}
 use mathlib.Core.Path.{sym, _∙_}
 use Rattle.capi.proofs.window_exports.sirmjold_window_request.Statement.{statement}
@@ -18,13 +19,15 @@ of-extent-requires : tie.Need-of-extent-requires
 of-extent-requires c κs = search needs
 
 returns : tie.Need-returns
-returns c = span-told _ _ (sym (c .before .before .before .before .fits2 .ensures) ∙ c .before .before .before .if1 .taken) _ (c .before .before .load .ensures) _ (c .before .request .ensures) _ (c .of-extent .ensures)
+unfolding spanExport
+returns c = made-fit _ _ _ _ (sym (c .before .before .before .before .fits2 .ensures) ∙ c .before .before .before .if1 .taken) (rw (c .of-extent .ensures, c .before .request .ensures, c .before .before .load .ensures))
 
 refused-span-requires : tie.Need-refused-span-requires
 refused-span-requires c κs = search needs
 
 returns-2 : tie.Need-returns-2
-returns-2 c = span-state _ _ (sym (c .before .before .fits2 .ensures) ∙ c .before .if1 .left) _ (c .refused-span .ensures)
+unfolding spanExport
+returns-2 c = refused-fit _ _ _ _ (sym (c .before .before .fits2 .ensures) ∙ c .before .if1 .left) (rw (c .refused-span .ensures))
 
 pub sirmjold-window-request-spec : {M : Type 1} → statement M
 sirmjold-window-request-spec =

@@ -1,8 +1,9 @@
 -- The words are loaded, the call is made, and the words are stored.
-use Rattle.capi.proofs.Calls.{change-done, change-state}
+use Rattle.capi.specs.Window.{changeExport}
+use Rattle.capi.proofs.Guards.{made-fit, refused-fit}
 use Rattle.capi.proofs.Words.{window-known}
 use borrow.Author.Needs.{needs}
-use mathlib.Core.Path.{sym, _∙_}
+use mathlib.Core.Path.{refl, sym, _∙_}
 use Rattle.capi.proofs.window_exports.sirmjold_window_reset.Statement.{statement}
 use Rattle.capi.proofs.window_exports.sirmjold_window_reset.Tie as tie
 
@@ -25,14 +26,15 @@ same-length : tie.Need-same-length
 same-length c = search needs
 
 returns : tie.Need-returns
-returns c =
-    change-done _ _ (sym (c .before .before .before .before .before .before .before .before .before .before .fits2 .ensures) ∙ c .before .before .before .before .before .before .before .before .before .if1 .taken) _ (c .before .before .before .before .before .before .before .load .ensures) _ (c .before .before .before .before .before .before .reset .ensures) _ (c .before .before .before .store .ensures) _ (c .of-change .ensures)
+unfolding changeExport
+returns c = made-fit _ _ _ _ (sym (c .before .before .before .before .before .before .before .before .before .before .fits2 .ensures) ∙ c .before .before .before .before .before .before .before .before .before .if1 .taken) (rw (c .of-change .ensures, c .before .before .before .store .ensures, c .before .before .before .before .before .before .reset .ensures, c .before .before .before .before .before .before .before .load .ensures))
 
 same-length-2 : tie.Need-same-length-2
 same-length-2 c = search needs
 
 returns-2 : tie.Need-returns-2
-returns-2 c = change-state _ _ (sym (c .before .fits2 .ensures) ∙ c .if1 .left)
+unfolding changeExport
+returns-2 c = refused-fit _ _ _ _ (sym (c .before .fits2 .ensures) ∙ c .if1 .left) refl
 
 pub sirmjold-window-reset-spec : {M : Type 1} → statement M
 sirmjold-window-reset-spec =

@@ -1,6 +1,9 @@
 -- The new window is stored.
-use Rattle.capi.proofs.Calls.{start-done, start-state}
+use Rattle.capi.specs.Window.{startExport}
+use Rattle.capi.proofs.Guards.{made-fit, refused-fit}
 use borrow.Author.Needs.{needs}
+use borrow.Author.Tests.{eq-eqb, ne-eqb}
+use mathlib.Core.Path.{refl}
 use Rattle.capi.proofs.window_exports.sirmjold_window_starting_at.Statement.{statement}
 use Rattle.capi.proofs.window_exports.sirmjold_window_starting_at.Tie as tie
 
@@ -14,10 +17,14 @@ same-length : tie.Need-same-length
 same-length c = search needs
 
 returns : tie.Need-returns
-returns c = start-done _ _ _ (c .before .before .before .before .before .if1 .taken) _ (c .before .before .before .starting-at .ensures) _ _ (c .before .before .start .ensures)
+unfolding startExport
+returns c =
+    let q = rw (c .before .before .before .starting-at .ensures) at (c .before .before .start .ensures) in
+    made-fit _ _ _ _ (eq-eqb _ 4 (c .before .before .before .before .before .if1 .taken)) q
 
 returns-2 : tie.Need-returns-2
-returns-2 c = start-state _ _ _ (c .if1 .left)
+unfolding startExport
+returns-2 c = refused-fit _ _ _ _ (ne-eqb _ 4 (c .if1 .left)) refl
 
 pub sirmjold-window-starting-at-spec : {M : Type 1} → statement M
 sirmjold-window-starting-at-spec =

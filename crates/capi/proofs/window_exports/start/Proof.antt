@@ -1,5 +1,5 @@
 -- By cases.
-use Rattle.capi.proofs.Calls.{started-window, started-refused}
+use Rattle.capi.proofs.Started.{started-window, started-refused}
 use borrow.Author.Needs.{needs}
 use Rattle.capi.proofs.window_exports.start.Statement.{statement}
 use Rattle.capi.proofs.window_exports.start.Tie as tie
