@@ -3,6 +3,7 @@
 use Prim.Native.Nat.{ℕ, _+_, _-_, _≤_, _<_}
 use mathlib.Core.Path.{_≡_, refl, _∙_}
 use mathlib.Core.Bool.{false}
+use mathlib.Core.Logic.{_↔_}
 use mathlib.Core.List.{List, [], _∷_, _++_, List·Memᴰ}
 use native.Mathlib.Omega.{arith}
 use lib.ListN.{length}
@@ -29,8 +30,9 @@ use Rattle.receiver_log.specs.Log.{origin, Missing}
 use Rattle.sender_log.proofs.Covered.{every-size}
 use Rattle.delivery.specs.Commands.{Command, isData, dataOf}
 use Rattle.delivery.specs.Console.{Lent, bytes, Call, open-payload, lend-again, queue-words, retransmit-request, write-into, put-into, write-astray, Entry, Console, stepOf, logFrom, Allowed, AllAllowed, accepted, written, positions, positionOf, Was}
-use Rattle.delivery.specs.Chamber.{handedOn, AllHanded}
-use Rattle.delivery.specs.Sentence.{Line, hear, pass, highest, NoLoss, Run, sentLog, heardLog, heardIn, Contract, HandedWords}
+use Rattle.delivery.specs.Chamber.{handedOn, handedByPosition, AllHanded}
+use Rattle.delivery.specs.Performance.{SamePerformance}
+use Rattle.delivery.specs.Sentence.{Line, hear, pass, highest, NoLoss, Run, sentLog, heardLog, heardIn, Holds, Contract, HandedWords}
 use Rattle.delivery.specs.Take.{TakenBy, Takes}
 
 -- ---- calls
@@ -103,6 +105,10 @@ pub every-holding : Contract → (u : Run) (ps : List ℕ) → Line (sentLog u) 
     → handedOn (heardIn u) ≡ accepted (sentLog u)
 every-holding c u ps line all newest none nothing =
     c .first .joined u (ps, record { line = line; all-written = all; newest-heard = newest; no-loss = none; nothing-missing = nothing })
+
+-- performances are compared between any two such runs, whatever their windows, histories and settings
+pub every-pair : Contract → (u v : Run) → Holds u → Holds v → SamePerformance (sentLog u) (sentLog v) ↔ (handedByPosition (heardIn u) ≡ handedByPosition (heardIn v))
+every-pair c = c .first .performances
 
 -- what is handed on is all words, for the line alone; and a take is any receiver's, of any payload
 pub every-heard : HandedWords → (u : Run) (ps : List ℕ) → Line (sentLog u) (heardLog u) ps

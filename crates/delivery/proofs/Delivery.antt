@@ -1,7 +1,7 @@
 -- The first sentence of demand 3, along the line between a console's log and a chamber's.
 use Prim.Native.Nat.{ℕ, zero, suc, _+_, _-_, _≤_, _<_, max}
 use mathlib.Core.Path.{_≡_, refl, ap, sym, _∙_}
-use mathlib.Core.Logic.{_⊎_, inl, inr}
+use mathlib.Core.Logic.{_⊎_, inl, inr, _↔_}
 use mathlib.Core.Bool.{true, _&&_}
 use mathlib.Core.List.{List, [], _∷_, _++_, append-assoc, append-nil, List·Memᴰ, List·Memᴰ·head, List·Memᴰ·tail, List·Memᴰ·cases-cons, List·Memᴰ·not-nil}
 use native.Mathlib.Omega.{arith}
@@ -30,6 +30,7 @@ use Rattle.delivery.proofs.Sound.{Sound}
 use Rattle.delivery.proofs.Wires.{At}
 use Rattle.delivery.proofs.Tags.{on, noCommand, Found, on-found}
 use Rattle.delivery.proofs.Consoles.{Good, console-good}
+use Rattle.delivery.proofs.Performance.{same-positions}
 use Rattle.delivery.proofs.Chambers.{read-position, whole-handed, Same, unheard-same, no-loss-lost, once-each, joined-is, listed-is, joined-add, joined-none}
 
 module _ (words places : ℕ) (d : Console) (t : List Entry) (i : Good words places d t) where
@@ -242,13 +243,23 @@ by-position u h =
       nowhere-else = r .nowhere-else;
     }
 
+words-are : (u : Run) → Holds u → wordsIn (positions (sentLog u)) ≡ accepted (sentLog u)
+words-are u h = written-words (u .words) (u .places) (good u .0) (sentLog u) (good u .1) (h .1 .all-written)
+
 all-joined : (u : Run) → Holds u → handedOn (heardIn u) ≡ accepted (sentLog u)
 all-joined u h =
     handed-joined (positions (sentLog u)) (heardIn u) (by-position u h) (on-line u (h .0) (h .1 .line) .none)
-    ∙ written-words (u .words) (u .places) (good u .0) (sentLog u) (good u .1) (h .1 .all-written)
+    ∙ words-are u h
 
 all-listed : (u : Run) → Holds u → handedByPosition (heardIn u) ≡ positions (sentLog u)
 all-listed u h = handed-listed (positions (sentLog u)) (heardIn u) (by-position u h) (on-line u (h .0) (h .1 .line) .none)
+
+-- two that equal two others are equal exactly when these are
+both : {A : Type 0} {a b c d : A} → c ≡ a → d ≡ b → (a ≡ b) ↔ (c ≡ d)
+both p q = (λ e. p ∙ e ∙ sym q, λ e. sym p ∙ e ∙ q)
+
+across : {A B C : Type 0} → A ↔ B → B ↔ C → A ↔ C
+across f g = (λ a. g .0 (f .0 a), λ c. f .1 (g .1 c))
 
 pub sentence : Sentence
 sentence = record {
@@ -256,9 +267,10 @@ sentence = record {
   safe = safe;
   by-position = by-position;
   joined = all-joined;
-  equal = λ u v h k. (λ e. all-joined u h ∙ e ∙ sym (all-joined v k), λ e. sym (all-joined u h) ∙ e ∙ all-joined v k);
+  equal = λ u v h k. both (all-joined u h) (all-joined v k);
   listed = all-listed;
-  equal-by-position = λ u v h k. (λ e. all-listed u h ∙ e ∙ sym (all-listed v k), λ e. sym (all-listed u h) ∙ e ∙ all-listed v k);
+  equal-by-position = λ u v h k. both (all-listed u h) (all-listed v k);
+  performances = λ u v h k. across (same-positions (sentLog u) (sentLog v) (words-are u h) (words-are v k)) (both (all-listed u h) (all-listed v k));
 }
 
 pub contract : Contract

@@ -81,7 +81,7 @@ badSettings = growing 0 0
 abbrev pub A : List ℕ
 A = 0x20903C40 ∷ []
 
-abbrev B : List ℕ
+abbrev pub B : List ℕ
 B = 0x20803C00 ∷ []
 
 abbrev D : List ℕ
@@ -103,7 +103,7 @@ asks5 = record { seq = 5; count = 1 }
 abbrev badPayload : PayloadWriter
 badPayload = record { len = 6; max = 1400 }
 
-abbrev zeros : ℕ → List ℕ
+abbrev pub zeros : ℕ → List ℕ
 zeros n = replicate n 0
 
 -- payloads 0 to 2

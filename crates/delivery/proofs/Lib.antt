@@ -11,9 +11,11 @@ mod Tags
 mod Lent
 pub mod Consoles
 mod Chambers
+mod Performance
 pub mod Delivery
 pub mod Taking
 mod Refusing
 mod Covered
 pub mod Example
 mod Reach
+mod Performances

@@ -3,5 +3,6 @@ pub mod Commands
 pub mod Positions
 pub mod Console
 pub mod Chamber
+pub mod Performance
 pub mod Sentence
 pub mod Take

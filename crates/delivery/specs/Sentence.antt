@@ -23,6 +23,7 @@ use Rattle.command.specs.Messages.{wordsIn}
 use Rattle.sender.specs.declared.sender.Start.the-variants.{Done}
 use Rattle.delivery.specs.Commands.{Command, dataOf}
 use Rattle.delivery.specs.Console.{Lent, bytes, Call, Entry, logFrom, freshConsole, AllAllowed, accepted, written, positions, positionOf, Was}
+use Rattle.delivery.specs.Performance.{SamePerformance}
 use Rattle.delivery.specs.Chamber.{isHeard, delivered, handedOn, handedByPosition, AllHanded}
 
 -- ---- the line
@@ -131,6 +132,9 @@ pub record Sentence : Type 0 where
   pub listed : (u : Run) → Holds u → handedByPosition (heardIn u) ≡ positions (sentLog u)
   pub equal-by-position : (u v : Run) → Holds u → Holds v
       → (positions (sentLog u) ≡ positions (sentLog v)) ↔ (handedByPosition (heardIn u) ≡ handedByPosition (heardIn v))
+  -- 02, 13/14: two performances are equal exactly when what their receivers hand on is equal position by position; `equal` is the old wording, which looks past the division
+  pub performances : (u v : Run) → Holds u → Holds v
+      → SamePerformance (sentLog u) (sentLog v) ↔ (handedByPosition (heardIn u) ≡ handedByPosition (heardIn v))
 
 -- both sentences
 pub record Contract : Type 0 where

@@ -16,7 +16,7 @@
 // There is no state and no code here. Each function of `theorems` does nothing, and its contract is a
 // theorem about the definitions of crates `sender` and `receiver`:
 //
-//   contract_sentence   demand 3, both sentences
+//   contract_sentence   demand 3, both sentences; when two performances are equal (02, 13/14)
 //   handed_words        the program hands on all words of a command that is heard on the line
 //   take                a receiver's take leaves a payload as it was, or writes one Retransmit Request
 //

@@ -46,5 +46,6 @@ stream-sentence = record {
   equal = λ u v h k. sentence .equal (run u) (run v) h k;
   listed = λ u h. sentence .listed (run u) h;
   equal-by-position = λ u v h k. sentence .equal-by-position (run u) (run v) h k;
+  performances = λ u v h k. sentence .performances (run u) (run v) h k;
   second = λ e. receiver-promise (e .window) (start e .least) (start e .most) (endsOf (e .window) (runOf e .called) .received) (heard-typed e);
 }

@@ -10,6 +10,7 @@ use Rattle.receiver_log.specs.Promise.{logOf, Promise}
 use Rattle.delivery.specs.Commands.{Command, dataOf}
 use Rattle.delivery.specs.Chamber.{handedOn, handedByPosition}
 use Rattle.delivery.specs.Console.{Lent, bytes, Entry, logFrom, freshConsole, accepted, positions, Was}
+use Rattle.delivery.specs.Performance.{SamePerformance}
 use Rattle.delivery.specs.Sentence.{Run, sentLog, heardLog, Line, Premises, Safe, ByPosition, Copy}
 use Rattle.stream_log.specs.Ends.{endsOf}
 use Rattle.stream_log.specs.Console.{End, runOf}
@@ -53,4 +54,7 @@ pub record StreamSentence : Type 0 where
   pub listed : (u : Pair) → Holds u → handedByPosition (reportsBy (u .chamber)) ≡ positions (sentBy (u .console))
   pub equal-by-position : (u v : Pair) → Holds u → Holds v
       → (positions (sentBy (u .console)) ≡ positions (sentBy (v .console))) ↔ (handedByPosition (reportsBy (u .chamber)) ≡ handedByPosition (reportsBy (v .chamber)))
+  -- 02, 13/14: the same performance
+  pub performances : (u v : Pair) → Holds u → Holds v
+      → SamePerformance (sentBy (u .console)) (sentBy (v .console)) ↔ (handedByPosition (reportsBy (u .chamber)) ≡ handedByPosition (reportsBy (v .chamber)))
   pub second : (e : End) → Promise (e .window) (reportsBy e)
