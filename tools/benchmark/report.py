@@ -1,5 +1,6 @@
 """The page and the plot of a run of the benchmark."""
 import os
+import re
 
 here = os.path.dirname(os.path.abspath(__file__))
 
@@ -50,6 +51,33 @@ def growth(rows):
     return "\n".join(lines)
 
 
+BEFORE, PAST = ", before the end", ", past the end"
+
+
+def past(rows):
+    """Commands that pass the history's end beside the same ones that do not, then what one word more costs."""
+    def quick(r, side):
+        return r[side][1]
+
+    def count(r, side):
+        return r[side + "_count"]
+
+    def words(r):
+        return int(re.search(r"\d+", r["name"]).group())
+    named = {r["name"]: r for r in rows}
+    pairs = [(r, named[n.replace(BEFORE, PAST)]) for n, r in named.items() if n.endswith(BEFORE)]
+    lines = ["| row | ns, before the end | past the end | ratio | instructions, before the end | past the end | ratio |", "|---|--:|--:|--:|--:|--:|--:|"]
+    for a, b in pairs:
+        shown = [x for of in (quick, count) for x in (figure(of(a, "ours")), figure(of(b, "ours")), ratio(of(b, "ours"), of(a, "ours")))]
+        lines.append("| %s | %s |" % (a["name"].removesuffix(BEFORE), " | ".join(shown)))
+    lines += ["", "| a word more | before the end | past the end | Rust | copied and swapped | past the end / copied |", "|---|--:|--:|--:|--:|--:|"]
+    (a, b), (c, d) = pairs[-2:]
+    for what, of in (("ns", quick), ("instructions", count)):
+        each = [(of(y, side) - of(x, side)) / (words(c) - words(a)) for x, y, side in ((a, c, "ours"), (b, d, "ours"), (b, d, "rust"), (b, d, "copy"))]
+        lines.append("| %s | %s | %s |" % (what, " | ".join("%.2f" % x for x in each), ratio(each[1], each[3])))
+    return "\n".join(lines)
+
+
 def stacks(rows):
     lines = ["| row | this library | the Rust |", "|---|--:|--:|"]
     return "\n".join(lines + ["| %s | %d | %d |" % (r["name"], *r["stack"]) for r in rows])
@@ -59,7 +87,7 @@ def page(machine, rounds, rows, ours, same, rust):
     plain = [r for r in rows if not r["series"]]
     text = open(here + "/page.md").read()
     return text.format(
-        machine=machine, rounds=rounds, table=table(plain), growth=growth([r for r in rows if r["series"]]),
+        machine=machine, rounds=rounds, table=table(plain), past=past(plain), growth=growth([r for r in rows if r["series"]]),
         ours=sum(ours.values()), same=same, exports=sum(1 for n in ours if n.startswith("sirmjold_")), rust=sum(rust.values()),
         stacks=stacks([r for r in plain if not r["name"].startswith("the same")]))
 

@@ -14,3 +14,5 @@ pub mod States
 pub mod Queues
 pub mod Written
 pub mod Reached
+mod Turned
+mod Covered

@@ -22,14 +22,15 @@ pub entry-written : (p : PayloadWriter) (b ring : List ℕ) (i n number start ru
     → i < length ring → lengthAt ring i ≤ length ring → 1 ≤ length ring
     → n ≡ lengthAt ring i → number ≡ numberAt ring i
     → start ≡ slotOf (length ring) i 1 → run ≡ runOf (length ring) start n
-    → r ≡ writtenOf p b (packet 255 (number / 256) (number % 256) (take (start + run - start) (drop start ring) ++ take (n - run) ring))
+    → r ≡ writtenOf p b (packet 255 (number / 256) (number % 256) (take (start + run - start) (drop start ring) ++ take (n - run - 0) (drop 0 ring)))
     → r ≡ writtenOf p b (entryPacket ring i)
 unfolding entryPacket
 entry-written p b ring i n number start run r inside fits some en enumber es er e =
     let z : start + run - start ≡ run = omega arith in
+    let y : n - run - 0 ≡ n - run = omega arith in
     let w : take run (drop start ring) ++ take (n - run) ring ≡ wordsAt ring i =
     rw (er, es, en) (read-parts (lengthAt ring i) ring (slotOf (length ring) i 1) (slot-in (length ring) i 1 inside some) fits) in
-    e ∙ rw (z, w, enumber)
+    e ∙ rw (z, y, w, enumber)
 
 -- entry k of the list, with the number k after the oldest
 pub holds-packet-at : (h : SendHistory) (b : List ℕ) (es : List (List ℕ)) → Holds h b es → (k : ℕ) → k < h .count

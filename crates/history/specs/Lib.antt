@@ -7,3 +7,4 @@ pub mod Push
 pub mod Entries
 pub mod Written
 pub mod Queue
+pub mod Turned

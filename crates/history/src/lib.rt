@@ -17,6 +17,7 @@
 //   valid     what a sender calls once it has made those tests: `push`, `append_to_last`, `index_of`,
 //             `write_entry` and their like; `push_request`, `set_front`, `pop`; and, once it has tested
 //             the sizes, `clear` and `clear_requests`, which start anew
+//   theorems  a command that passes the end gives the bytes that it gives when it does not
 //
 // A state that fails its test is refused as `InvalidState`. Nothing is shifted: the oldest leave by
 // moving the head, and words go in and out as at most two straight runs.
@@ -24,4 +25,5 @@ mod headers;
 pub mod history;
 pub mod queue;
 mod ring;
+pub mod theorems;
 pub mod valid;

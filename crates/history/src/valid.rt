@@ -184,7 +184,7 @@ pub fn write_entry(p: PayloadWriter, buf: &mut [u8], history: &[u32], at: usize)
         (number / 256) as u8,
         (number % 256) as u8,
         &history[start..end],
-        &history[..rest],
+        &history[0..rest],
     )
 }
 

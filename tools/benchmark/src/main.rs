@@ -1,7 +1,7 @@
 //! Runs this library and the Rust side by side on the same inputs.
 //!
-//!     benchmark time ROUNDS            a line for each row: name, unit, series, then for each side its ns per unit,
-//!                                      one for each round
+//!     benchmark time ROUNDS [PART]     a line for each row, or each that has PART in its name: name, unit, series, then for
+//!                                      each side its ns per unit, one for each round
 //!     benchmark run ROW SIDE BATCHES   that many batches of one side, to be counted from outside
 //!     benchmark stack                  a line for each row: name, bytes of stack that a batch uses on each side
 //!     benchmark rows                   the rows, by number
@@ -22,13 +22,13 @@ mod stack;
 use rows::{Batch, Sized, rows};
 use std::time::Instant;
 
-const SIDES: [&str; 3] = ["ours", "rust", "tests"];
+const SIDES: [&str; 4] = ["ours", "rust", "tests", "copy"];
 /// How long one sample takes at least.
 const SAMPLE_NS: u64 = 1_000_000;
 
-/// The library, the Rust, or the library's state tests alone where the row has such.
+/// The library, the Rust, or, where the row has such, the library's state tests or the copied words alone.
 fn batch(row: &Sized, side: usize) -> Option<Batch> {
-    [Some(row.row.ours), Some(row.row.rust), row.row.tests][side].map(|make| make(row.size))
+    [Some(row.row.ours), Some(row.row.rust), row.row.tests, row.row.copy][side].map(|make| make(row.size))
 }
 
 fn agree(row: &Sized, sums: &[u64]) {
@@ -37,7 +37,7 @@ fn agree(row: &Sized, sums: &[u64]) {
 
 /// The ns per unit of each round, for each side.
 fn times(row: &Sized, rounds: usize) -> Vec<Vec<f64>> {
-    let mut sides: Vec<Batch> = (0..3).filter_map(|side| batch(row, side)).collect();
+    let mut sides: Vec<Batch> = (0..SIDES.len()).filter_map(|side| batch(row, side)).collect();
     let start = Instant::now();
     let mut batches = 0u64;
     while (start.elapsed().as_nanos() as u64) < sides.len() as u64 * SAMPLE_NS {
@@ -70,17 +70,18 @@ fn main() {
     let args: Vec<String> = std::env::args().skip(1).collect();
     let words: Vec<&str> = args.iter().map(String::as_str).collect();
     match words[..] {
-        ["time", rounds] => {
-            for row in rows() {
-                let times = times(&row, rounds.parse().expect("a count of rounds"));
+        ["time", rounds] | ["time", rounds, _] => {
+            let part = words.get(2).copied().unwrap_or_default();
+            for row in rows().iter().filter(|row| row.row.name.contains(part)) {
+                let times = times(row, rounds.parse().expect("a count of rounds"));
                 let shown: Vec<String> =
                     times.iter().map(|t| t.iter().map(|ns| format!("{ns:.2}")).collect::<Vec<_>>().join(" ")).collect();
-                println!("{}\t{}", line(&row), shown.join("\t"));
+                println!("{}\t{}", line(row), shown.join("\t"));
             }
         }
         ["run", row, side, batches] => {
             let row = &rows()[row.parse::<usize>().expect("a row's number")];
-            let side = SIDES.iter().position(|s| *s == side).expect("ours, rust or tests");
+            let side = SIDES.iter().position(|s| *s == side).expect("ours, rust, tests or copy");
             let mut batch = batch(row, side).expect("a row with such a side");
             let sum = (0..batches.parse::<u32>().expect("a count")).fold(0, |sum, _| side::fold(sum, batch()));
             println!("{sum}");
@@ -103,7 +104,7 @@ fn main() {
         ["read", count] => drawn::compare(count.parse().expect("a count")),
         ["rows"] => rows().iter().for_each(|row| println!("{}", line(row))),
         _ => {
-            eprintln!("benchmark time ROUNDS | run ROW SIDE BATCHES | stack | rows | read COUNT");
+            eprintln!("benchmark time ROUNDS [PART] | run ROW SIDE BATCHES | stack | rows | read COUNT");
             std::process::exit(2);
         }
     }

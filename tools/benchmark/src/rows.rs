@@ -2,7 +2,7 @@
 //! last one left, and gives a sum of the answers.
 use crate::ours::{self, Ours};
 use crate::rust::Rust;
-use crate::side::{LIMIT, Side, Stream, fold};
+use crate::side::{LIMIT, SMALL, Side, Stream, fold};
 use std::hint::black_box;
 
 pub type Batch = Box<dyn FnMut() -> u64>;
@@ -18,6 +18,8 @@ pub struct Row {
     pub rust: fn(usize) -> Batch,
     /// The library's tests of one unit alone.
     pub tests: Option<fn(usize) -> Batch>,
+    /// The words of one unit alone, copied straight with their bytes swapped; only where there are tests.
+    pub copy: Option<fn(usize) -> Batch>,
 }
 
 const UNITS: u32 = 256;
@@ -205,6 +207,92 @@ fn serve_one<S: Side>(entries: usize) -> Batch {
     serving::<S::Large>(entries, 1)
 }
 
+/// The words of the commands before the one that `standing` is about: three of them are held with it, whatever its
+/// length.
+const BEFORE: usize = 62;
+
+/// A stream with a history of 256 words whose newest command has `words` words and its header at place `at`: one
+/// command brings the others, of one length, to their places. The command's number comes with it.
+fn standing<T: Stream>(words: usize, at: usize, buf: &mut [u8]) -> (T, u16) {
+    let reached = |count| {
+        let first = (at + 3 * SMALL - 1 - (1 + BEFORE) * count) % SMALL;
+        (1..=64).contains(&first).then_some((first, count))
+    };
+    let (first, count) = (4..12).find_map(reached).expect("a place that can be reached");
+    let mut stream = T::fresh();
+    for n in [first].into_iter().chain(std::iter::repeat_n(BEFORE, count)).chain([words]) {
+        stream.send(&Load::new(n).words);
+        stream.write(0, buf);
+    }
+    (stream, count as u16 + 1)
+}
+
+/// The place of a header whose command of `words` words ends at the end of the history, and of one that has half of
+/// them behind it.
+fn before_end(words: usize) -> usize {
+    SMALL - 1 - words
+}
+
+fn past_end(words: usize) -> usize {
+    SMALL - 1 - words / 2
+}
+
+/// The payload with the command of `words` words at place `at`, asked for again.
+fn again<T: Stream>(words: usize, at: usize) -> Vec<u8> {
+    let mut buf = vec![0; LIMIT];
+    let (mut stream, number): (T, u16) = standing(words, at, &mut buf);
+    stream.request(number, 1);
+    let (len, _) = stream.write(0, &mut buf);
+    buf.truncate(len);
+    buf
+}
+
+/// Asks for the newest command, with its header at place `at`, and writes it.
+fn resending<T: Stream + 'static>(words: usize, at: usize) -> Batch {
+    assert_eq!(again::<T>(words, at), again::<T>(words, before_end(words)), "other bytes past the end");
+    let mut buf = vec![0; LIMIT];
+    let (mut stream, number): (T, u16) = standing(words, at, &mut buf);
+    Box::new(move || {
+        (0..UNITS).fold(0, |sum, _| {
+            let outcome = stream.request(number, 1);
+            let (len, more) = stream.write(0, &mut buf);
+            fold(sum, outcome + len as u64 + u64::from(more) + u64::from(buf[len - 1]))
+        })
+    })
+}
+
+fn resend_before<S: Side>(words: usize) -> Batch {
+    resending::<S::Small>(words, before_end(words))
+}
+
+fn resend_past<S: Side>(words: usize) -> Batch {
+    resending::<S::Small>(words, past_end(words))
+}
+
+fn test_resend(words: usize, at: usize) -> Batch {
+    let (stream, _): (<Ours as Side>::Small, u16) = standing(words, at, &mut [0; LIMIT]);
+    Box::new(move || (0..2 * UNITS).fold(0, |sum, _| fold(sum, black_box(&stream).wants(1).into())))
+}
+
+/// Stores the words straight, the highest byte of each first.
+#[inline(never)]
+fn swap_words(words: &[u32], out: &mut [u8]) {
+    for (bytes, word) in out.chunks_exact_mut(4).zip(words) {
+        bytes.copy_from_slice(&word.to_be_bytes());
+    }
+}
+
+fn copy_words(words: usize) -> Batch {
+    let words = Load::new(words).words;
+    let mut buf = vec![0; LIMIT];
+    Box::new(move || {
+        (0..UNITS).fold(0, |sum, _| {
+            swap_words(black_box(&words), &mut buf);
+            fold(sum, buf[4 * words.len() - 1].into())
+        })
+    })
+}
+
 fn asking<T: Stream + 'static>(entries: usize) -> Batch {
     let stream: T = written(entries, &mut [0; LIMIT]);
     Box::new(move || (0..UNITS).fold(0, |sum, _| fold(sum, black_box(&stream).wants(1).into())))
@@ -304,12 +392,18 @@ macro_rules! row {
             ours: $make::<Ours>,
             rust: $make::<Rust>,
             tests: None,
+            copy: None,
         }
         .sized($size)
     };
     ($name:expr, $unit:literal, $series:expr, $make:ident, $size:expr, $tests:expr) => {{
         let mut sized = row!($name, $unit, $series, $make, $size);
         sized.row.tests = Some($tests);
+        sized
+    }};
+    ($name:expr, $unit:literal, $series:expr, $make:ident, $size:expr, $tests:expr, $copy:expr) => {{
+        let mut sized = row!($name, $unit, $series, $make, $size, $tests);
+        sized.row.copy = Some($copy);
         sized
     }};
 }
@@ -362,6 +456,11 @@ pub fn rows() -> Vec<Sized> {
         row!("a whole round, 192 words, history 256", "round", None, round_small, 192, test_small),
         row!("a whole round, 1 word, history 4096", "round", None, round_large, 1, test_large),
     ]);
+    for words in [4, 16, 64] {
+        let name = |side| format!("resend {words} words, {side} the end");
+        rows.push(row!(name("before"), "request", None, resend_before, words, |n| test_resend(n, before_end(n)), copy_words));
+        rows.push(row!(name("past"), "request", None, resend_past, words, |n| test_resend(n, past_end(n)), copy_words));
+    }
     for words in [1, 2, 4, 8, 16, 32, 64] {
         rows.push(row!(format!("write a command by words, {words}"), "command", Some(("words", words)), write_command, words));
     }

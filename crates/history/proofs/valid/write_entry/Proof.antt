@@ -1,6 +1,5 @@
 -- The run up to the end and the run from the start are the entry's words, in order.
 use native.Mathlib.Omega.{arith}
-use lib.ListN.{length-take}
 use Rattle.history.proofs.Written.{entry-written}
 use borrow.Author.Needs.{needs}
 use Rattle.history.proofs.valid.write_entry.Statement.{statement}
@@ -42,8 +41,14 @@ part-command-runs-start c = search needs
 part-command-runs-end : tie.Need-part-command-runs-end
 part-command-runs-end c = search needs
 
-slice-aggregate-command-runs : tie.Need-slice-aggregate-command-runs
-slice-aggregate-command-runs c = simp length-take (omega arith)
+sub-command-runs-2 : tie.Need-sub-command-runs-2
+sub-command-runs-2 c = search needs
+
+part-command-runs-start-2 : tie.Need-part-command-runs-start-2
+part-command-runs-start-2 c = search needs
+
+part-command-runs-end-2 : tie.Need-part-command-runs-end-2
+part-command-runs-end-2 c = search needs
 
 command-runs-requires : tie.Need-command-runs-requires
 command-runs-requires c κs = search needs
@@ -79,7 +84,9 @@ write-entry-spec =
     sub-command-runs
     part-command-runs-start
     part-command-runs-end
-    slice-aggregate-command-runs
+    sub-command-runs-2
+    part-command-runs-start-2
+    part-command-runs-end-2
     command-runs-requires
     same-length
     returns)
