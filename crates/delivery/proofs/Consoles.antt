@@ -1,20 +1,22 @@
 -- After every list of a console's calls: what its sender holds agrees with the log, and each payload holds what the log says.
-use Prim.Native.Nat.{ℕ, _<_}
+use Prim.Native.Nat.{ℕ, _≤_, _<_}
 use mathlib.Core.Path.{_≡_, refl}
 use mathlib.Core.Bool.{Bool, true, false, cond, not, _&&_}
 use mathlib.Core.List.{List, [], _∷_, _++_}
 use native.Mathlib.Omega.{arith}
-use lib.Dec.{ltb}
+use lib.Dec.{leb, ltb}
+use borrow.Author.Tests.{leb-true, not-false}
 use lib.ListN.{length}
-use Rattle.config.specs.Range.{outside}
+use Rattle.config.specs.Range.{within, outside}
 use Rattle.config.specs.Settings.{checkOf}
 use Rattle.config.specs.declared.settings.Check.the-variants.{Passed}
 use Rattle.config.specs.declared.settings.StreamConfig.{StreamConfig}
-use Rattle.config.proofs.Tests.{tests}
+use Rattle.config.proofs.Tests.{tests, and-right}
 use Rattle.packet.specs.Layout.{Words32}
 use Rattle.packet.specs.Write.{openedOf, validOf as payloadValid}
 use Rattle.packet.specs.declared.writer.PayloadWriter.{PayloadWriter}
 use Rattle.packet.specs.declared.writer.Opened.{Opened}
+use Rattle.packet.specs.declared.writer.Opened.the-variants.{Payload}
 use Rattle.command.specs.declared.retransmit.RetransmitRequest.{RetransmitRequest}
 use Rattle.sender.specs.State.{validOf}
 use Rattle.sender.specs.Answers.{newAnswer, writeAnswer}
@@ -50,6 +52,10 @@ astray-keeps s cfg now p b ring h = by-check Kept (checkOf cfg) _ _ (λ why. (re
     Kept : Wrote × List ℕ × List ℕ → Type 0
     Kept w = (w .0 .sender ≡ s) × (w .2 ≡ ring)
 
+-- a limit that opening takes
+pub limit-most : (limit : ℕ) → outside 8 1400 limit ≡ false → limit ≤ 1400
+limit-most limit e = leb-true limit 1400 (and-right (leb 8 limit) (leb limit 1400) (not-false (within 8 1400 limit) e))
+
 -- ---- every call keeps what holds
 
 module _ (c q : ℕ) where
@@ -59,22 +65,22 @@ module _ (c q : ℕ) where
     pub agrees : Agrees c book (accepted t) (commands (written t))
     pub payloads : Payloads (d .payloads) (written t) t
 
-  abbrev StepGood : List Entry → Step → Type 0
+  abbrev pub StepGood : List Entry → Step → Type 0
   StepGood t s = Good (s .console) (s .entry ∷ t)
 
   -- ---- calls that touch no payload
 
-  quiet-noted : (t : List Entry) (k : ℕ) (v : Lent) → Was (noted ∷ t) k v → Was t k v
+  pub quiet-noted : (t : List Entry) (k : ℕ) (v : Lent) → Was (noted ∷ t) k v → Was t k v
   quiet-noted t k v (was e h) = h
 
-  quiet-queued : (t : List Entry) (cfg : StreamConfig) (ws : List ℕ) (a : Send) (k : ℕ) (v : Lent) → Was (queued cfg ws a ∷ t) k v → Was t k v
+  pub quiet-queued : (t : List Entry) (cfg : StreamConfig) (ws : List ℕ) (a : Send) (k : ℕ) (v : Lent) → Was (queued cfg ws a ∷ t) k v → Was t k v
   quiet-queued t cfg ws a k v (was e h) = h
 
-  noted-good : (d : Console) (t : List Entry) → Good d t → StepGood t (noting d)
+  unfoldable pub noted-good : (d : Console) (t : List Entry) → Good d t → StepGood t (noting d)
   noted-good d t i =
-      record { book = i .book; follows = i .follows; agrees = i .agrees; payloads = payloads-quiet (d .payloads) (written t) t noted (quiet-noted t) (i .payloads) }
+      record { book = i .book; follows = i .follows; agrees = i .agrees; payloads = payloads-quiet (d .payloads) (written t) t noted (quiet-noted t) (λ o. o) (i .payloads) }
 
-  queue-good : (d : Console) (t : List Entry) → Good d t → (cfg : StreamConfig) (ws : List ℕ) → Words32 ws → StepGood t (stepOf d (queue-words cfg ws))
+  unfoldable pub queue-good : (d : Console) (t : List Entry) → Good d t → (cfg : StreamConfig) (ws : List ℕ) → Words32 ws → StepGood t (stepOf d (queue-words cfg ws))
   unfolding stepOf
   queue-good d t i cfg ws h =
       let f = send-follows c q (d .sender) (d .ring) (i .book) (i .follows) cfg ws in
@@ -82,7 +88,7 @@ module _ (c q : ℕ) where
         book = sentIn c (i .book) cfg ws .book;
         follows = f .0;
         agrees = rw (f .1) (sent-agrees c (i .book) cfg ws (accepted t) (commands (written t)) (i .agrees) h);
-        payloads = payloads-quiet (d .payloads) (written t) t _ (quiet-queued t cfg ws _) (i .payloads);
+        payloads = payloads-quiet (d .payloads) (written t) t _ (quiet-queued t cfg ws _) (λ o. o) (i .payloads);
       }
 
   request-good : (d : Console) (t : List Entry) → Good d t → (cfg : StreamConfig) (r : RetransmitRequest) → StepGood t (stepOf d (retransmit-request cfg r))
@@ -92,37 +98,42 @@ module _ (c q : ℕ) where
         book = requestedIn q (i .book) cfg r .book;
         follows = request-follows c q (d .sender) (d .ring) (i .book) (i .follows) cfg r .0;
         agrees = requested-agrees c q (i .book) cfg r (accepted t) (commands (written t)) (i .agrees);
-        payloads = payloads-quiet (d .payloads) (written t) t noted (quiet-noted t) (i .payloads);
+        payloads = payloads-quiet (d .payloads) (written t) t noted (quiet-noted t) (λ o. o) (i .payloads);
       }
 
   -- ---- calls that touch one
 
-  open-good : (d : Console) (t : List Entry) → Good d t → (limit : ℕ) (buffer : List ℕ) → StepGood t (openStep d buffer (openedOf limit))
-  unfolding openedOf
-  open-good d t i limit buffer =
-      by-cond (λ (o : Opened). StepGood t (openStep d buffer o)) (outside 8 1400 limit) _ _ (λ e. noted-good d t i)
-      (λ e. record {
-        book = i .book;
-        follows = i .follows;
-        agrees = i .agrees;
-        payloads = payloads-opened (d .payloads) (written t) t record { payload = record { len = 0; max = limit }; buffer = buffer } (reads-opened limit buffer) (i .payloads);
-      })
-
-  put-good : (d : Console) (t : List Entry) → Good d t → (k : ℕ) (f : Lent → Lent) → ((v : Lent) (cs : List Command) → Reads v cs → Reads (f v) cs)
-      → StepGood t (cond (ltb k (length (d .payloads))) (putStep d k (f (payloadAt d k))) (noting d))
-  put-good d t i k f keeps =
-      by-cond (StepGood t) (ltb k (length (d .payloads))) _ _
-      (λ e.
-      let l : k < length (d .payloads) = omega (arith, tests) in
+  unfoldable pub opened-good : (d : Console) (t : List Entry) → Good d t → (limit : ℕ) (buffer : List ℕ) → limit ≤ 1400 → StepGood t (openStep d buffer (Payload record { len = 0; max = limit }))
+  opened-good d t i limit buffer l =
       record {
         book = i .book;
         follows = i .follows;
         agrees = i .agrees;
-        payloads = payloads-stood (d .payloads) (written t) t (i .payloads) k l (f (payloadAt d k)) (keeps (payloadAt d k) (on k (written t)) (i .payloads .open-ones k l));
-      })
-      (λ e. noted-good d t i)
+        payloads = payloads-opened (d .payloads) (written t) t record { payload = record { len = 0; max = limit }; buffer = buffer } (reads-opened limit buffer l) (i .payloads);
+      }
 
-  write-good : (d : Console) (t : List Entry) → Good d t → (k : ℕ) (cfg : StreamConfig) (now : ℕ) → TypedConfig cfg → k < length (d .payloads) → StepGood t (writeStep d k cfg now)
+  open-good : (d : Console) (t : List Entry) → Good d t → (limit : ℕ) (buffer : List ℕ) → StepGood t (openStep d buffer (openedOf limit))
+  unfolding openedOf
+  open-good d t i limit buffer =
+      by-cond (λ (o : Opened). StepGood t (openStep d buffer o)) (outside 8 1400 limit) _ _ (λ e. noted-good d t i) (λ e. opened-good d t i limit buffer (limit-most limit e))
+
+  unfoldable pub put-good : (d : Console) (t : List Entry) → Good d t → (k : ℕ) → k < length (d .payloads) → (v : Lent) → (Reads (payloadAt d k) (on k (written t)) → Reads v (on k (written t)))
+      → StepGood t (putStep d k v)
+  put-good d t i k l v keeps =
+      record {
+        book = i .book;
+        follows = i .follows;
+        agrees = i .agrees;
+        payloads = payloads-stood (d .payloads) (written t) t (i .payloads) k l v (keeps (i .payloads .open-ones k l));
+      }
+
+  touch-good : (d : Console) (t : List Entry) → Good d t → (k : ℕ) (f : Lent → Lent) → ((v : Lent) (cs : List Command) → Reads v cs → Reads (f v) cs)
+      → StepGood t (cond (ltb k (length (d .payloads))) (putStep d k (f (payloadAt d k))) (noting d))
+  touch-good d t i k f keeps =
+      by-cond (StepGood t) (ltb k (length (d .payloads))) _ _
+      (λ e. put-good d t i k (omega (arith, tests)) (f (payloadAt d k)) (keeps (payloadAt d k) (on k (written t)))) (λ e. noted-good d t i)
+
+  unfoldable pub write-good : (d : Console) (t : List Entry) → Good d t → (k : ℕ) (cfg : StreamConfig) (now : ℕ) → TypedConfig cfg → k < length (d .payloads) → StepGood t (writeStep d k cfg now)
   write-good d t i k cfg now typed l =
       let v : Lent = payloadAt d k in
       let w = writeAnswer (d .sender) cfg now (v .payload) (v .buffer) (d .ring) in
@@ -145,12 +156,12 @@ module _ (c q : ℕ) where
   step-good : (d : Console) (t : List Entry) → Good d t → (call : Call) → Allowed call → StepGood t (stepOf d call)
   unfolding stepOf
   step-good d t i (open-payload limit buffer) a = open-good d t i limit buffer
-  step-good d t i (lend-again k rest) a = put-good d t i k (lentAgain rest) (reads-lent rest)
+  step-good d t i (lend-again k rest) a = touch-good d t i k (lentAgain rest) (reads-lent rest)
   step-good d t i (queue-words cfg ws) a = queue-good d t i cfg ws a
   step-good d t i (retransmit-request cfg r) a = request-good d t i cfg r
   step-good d t i (write-into k cfg now) a =
       by-cond (StepGood t) (ltb k (length (d .payloads))) _ _ (λ e. write-good d t i k cfg now a (omega (arith, tests))) (λ e. noted-good d t i)
-  step-good d t i (put-into k call) a = put-good d t i k (putInto call) (λ v cs. reads-put call v cs (a .0) (a .1))
+  step-good d t i (put-into k call) a = touch-good d t i k (putInto call) (λ v cs. reads-put call v cs (a .0) (a .1))
   step-good d t i (write-astray p b cfg now) a =
       let e = astray-keeps (d .sender) cfg now p b (d .ring) a in rw (e .0, e .1) (noted-good d t i)
 

@@ -1,12 +1,12 @@
 -- What the theorems are said of: every call of a console and of a chamber with any arguments of its types, refused ones too, every size that 01 allows, and a line as
 -- wide as 01's.
-use Prim.Native.Nat.{ℕ, _+_, _-_, _≤_, _<_}
+use Prim.Native.Nat.{ℕ, suc, _+_, _-_, _*_, _≤_, _<_}
 use mathlib.Core.Path.{_≡_, refl, _∙_}
 use mathlib.Core.Bool.{false}
 use mathlib.Core.Logic.{_↔_}
 use mathlib.Core.List.{List, [], _∷_, _++_, List·Memᴰ}
 use native.Mathlib.Omega.{arith}
-use lib.ListN.{length}
+use lib.ListN.{length, getD}
 use Rattle.config.specs.Settings.{checkOf}
 use Rattle.config.specs.declared.refusal.Refusal.{Refusal}
 use Rattle.config.specs.declared.settings.Check.the-variants.{Passed}
@@ -29,13 +29,26 @@ use Rattle.receiver_log.specs.Calls as Chamber
 use Rattle.receiver_log.specs.Log.{origin, Missing}
 use Rattle.sender_log.proofs.Covered.{every-size}
 use Rattle.delivery.specs.Commands.{Command, isData, dataOf}
-use Rattle.delivery.specs.Console.{Lent, bytes, Call, open-payload, lend-again, queue-words, retransmit-request, write-into, put-into, write-astray, Entry, Console, stepOf, logFrom, Allowed, AllAllowed, accepted, written, positions, positionOf, Was}
+use Rattle.delivery.specs.Console.{Lent, bytes, Call, open-payload, lend-again, queue-words, retransmit-request, write-into, put-into, write-astray, Entry, Console, stepOf, logFrom, freshConsole, Allowed, AllAllowed, accepted, held, written, positions, positionOf, Was}
 use Rattle.delivery.specs.Chamber.{handedOn, handedByPosition, AllHanded}
 use Rattle.delivery.specs.Performance.{SamePerformance}
 use Rattle.delivery.specs.Sentence.{Line, hear, pass, highest, NoLoss, Run, sentLog, heardLog, heardIn, Holds, Contract, HandedWords}
+use Rattle.delivery.specs.Positions.{numbered}
+use Rattle.delivery.specs.Repeats.{lastOf, Brought, one, Brings, writtenPayloads, Arrives, next, heardCommands, AllHandedOn, RepeatsAlone}
+use Rattle.delivery.specs.Paced.{Ready, Paced, PacedSender}
 use Rattle.delivery.specs.Take.{TakenBy, Takes}
 
 -- ---- calls
+
+-- neither queued nor written, and no request
+abbrev Apart : Call → Type 0
+Apart (open-payload limit buffer) = Unit {0}
+Apart (lend-again k rest) = Unit {0}
+Apart (put-into k call) = Unit {0}
+Apart (write-astray p b cfg now) = Unit {0}
+Apart (queue-words cfg ws) = ⊥
+Apart (retransmit-request cfg r) = ⊥
+Apart (write-into k cfg now) = ⊥
 
 -- of a console: R and K up to 255, a buffer lent again, a write refused for its payload's state
 pub every-call : (limit k : ℕ) (buffer ws : List ℕ) (cfg : StreamConfig) (r : RetransmitRequest) (now : ℕ) (call : Writes.Call) (p : PayloadWriter)
@@ -117,3 +130,43 @@ every-heard h = h
 
 pub every-take : Takes → (r : Receiver) (cfg : StreamConfig) (v : Lent) → TakenBy v (takeAnswer r cfg (v .payload) (v .buffer))
 every-take h = h
+
+-- ---- repeats alone
+
+-- any R, with any run: a window of 1 to 128, any settings, history and times (`every-run`); what is asked is what payloads hold and what arrives, and nothing else
+pub every-R : RepeatsAlone → (u : Run) (R : ℕ) → Brings R (sentLog u) → Arrives R (sentLog u) (length (writtenPayloads (sentLog u))) (heardCommands (heardLog u))
+    → AllHandedOn (positions (sentLog u)) (heardIn u)
+every-R h u R b a = h u R record { brings = b; gone = length (writtenPayloads (sentLog u)); arrives = a; last = refl }
+
+-- any number up to R is lost in a row, from the first payload on; R 0 means none
+pub every-loss : {R : ℕ} {t : List Entry} {n : ℕ} {cs : List Command} → Arrives R t n cs → (lost : ℕ) → lost ≤ R
+    → (v : Lent) → Was t (getD (writtenPayloads t) (n + lost) 0) v → n + lost < length (writtenPayloads t) → 0 < held v
+    → Arrives R t (suc (n + lost)) (cs ++ dataOf (bytes v))
+every-loss a lost l v w m h = next a lost (omega (arith, l)) v record { is-written = m; was-so = w; since = h }
+
+-- a new command has any words, also none, and a payload may hold other commands before and behind
+pub every-new : (R : ℕ) (C : List (List ℕ)) (u v : Lent) (ws : List ℕ) → held u ≡ 0 → dataOf (bytes v) ≡ lastOf R C ++ (numbered (length C) ws ∷ []) → Brought R C u v
+every-new R C u v ws e d = one e ws d
+
+-- each other call, and a refused data command, may stand between
+pub every-between : (q : List Heard) (cfg : StreamConfig) (now seq : ℕ) (ws : List ℕ) (why : Refusal) (e : RetransmitError) (told asked naked : StreamEvent) (p r : PayloadWriter) (b d : List ℕ) (a : Request)
+    → heardCommands (data-entry cfg now seq ws (HearingRefused why) ∷ poll-entry cfg now told ∷ error-entry e asked ∷ nak-entry naked ∷ take-entry cfg p b a r d ∷ q) ≡ heardCommands q
+every-between q cfg now seq ws why e told asked naked p r b d a = refl
+
+-- a sender is paced whatever payloads are opened, lent again and put into between, and whatever writes are refused
+pub every-pace : (R s n : ℕ) (d : Console) (calls : List Call) (call : Call) → Apart call → Paced R s (stepOf d call .console) n calls → Paced R s d n (call ∷ calls)
+every-pace R s n d calls (open-payload limit buffer) x h = h
+every-pace R s n d calls (lend-again k rest) x h = h
+every-pace R s n d calls (put-into k call) x h = h
+every-pace R s n d calls (write-astray p b cfg now) x h = h
+every-pace R s n d calls (queue-words cfg ws) x h = absurd x
+every-pace R s n d calls (retransmit-request cfg r) x h = absurd x
+every-pace R s n d calls (write-into k cfg now) x h = absurd x
+
+-- what is asked of it, with the figures written out: of each write, and of the history
+pub every-write : (R s : ℕ) (cfg : StreamConfig) (v : Lent) → checkOf cfg ≡ Passed → cfg .«fec_repeats» ≡ R → v .payload .len ≡ 0
+    → 4 + (R + 1) * (4 + 4 * s) ≤ v .payload .max → 4 + (R + 1) * (4 + 4 * s) ≤ length (v .buffer) → Ready R s cfg v
+every-write R s cfg v a b c d e = record { passes = a; repeats = b; empty = c; limit = d; lent = e }
+
+pub every-paced : PacedSender → (u : Run) (R s : ℕ) → (R + 1) * (1 + s) ≤ u .words → Paced R s (freshConsole (u .words) (u .places) (u .memory)) 0 (u .calls) → Brings R (sentLog u)
+every-paced p u R s h c = p .brings u R s record { history = h; paced = c }

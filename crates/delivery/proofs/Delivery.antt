@@ -199,7 +199,7 @@ module _ (C : List (List ℕ)) (q : List Report) (d : ByPosition C q) (none : (x
       ∙ ap (λ (a : List ℕ). a ++ joined (delivered q) origin (length C)) low
       ∙ joined-is (delivered q) C origin (d .same)
 
-  handed-listed : handedByPosition q ≡ C
+  pub handed-listed : handedByPosition q ≡ C
   unfolding handedByPosition
   handed-listed =
       let n : suc (high q) - origin ≡ length C = omega (arith, d .top) in
@@ -210,7 +210,7 @@ module _ (C : List (List ℕ)) (q : List Report) (d : ByPosition C q) (none : (x
 promise : (u : Run) → Promise (u .window) (heardIn u)
 promise u = receiver-promise (u .window) (omega (arith, u .least)) (omega (arith, u .most)) (u .arrivals) (u .typed)
 
-good : (u : Run) → (d : Console) × Good (u .words) (u .places) d (sentLog u)
+pub good : (u : Run) → (d : Console) × Good (u .words) (u .places) d (sentLog u)
 good u = console-good (u .words) (u .places) (u .memory) (u .started) (u .calls) (u .allowed)
 
 on-line : (u : Run) (ps : List ℕ) → Line (sentLog u) (heardLog u) ps → Right (u .words) (u .places) (good u .0) (sentLog u) (good u .1) (heardIn u) ps

@@ -130,13 +130,13 @@ abbrev calls : List Call
 calls = early ++ (fourth ++ (turnedAway ++ late))
 
 -- an empty payload, one that holds n bytes of words and is followed by m free ones, and one that fills its buffer
-abbrev empty : ℕ → Lent
+abbrev pub empty : ℕ → Lent
 empty n = record { payload = record { len = 0; max = 1400 }; buffer = zeros n }
 
-abbrev partly : ℕ → List ℕ → ℕ → Lent
+abbrev pub partly : ℕ → List ℕ → ℕ → Lent
 partly n words m = record { payload = record { len = n; max = 1400 }; buffer = bytesOf words ++ zeros m }
 
-abbrev full : ℕ → List ℕ → Lent
+abbrev pub full : ℕ → List ℕ → Lent
 full n words = record { payload = record { len = n; max = 1400 }; buffer = bytesOf words }
 
 abbrev payload0 : Lent
@@ -164,7 +164,7 @@ longer3 = partly 40 first3 8
 abbrev again3 : Lent
 again3 = full 48 (first3 ++ (0xFF010003 ∷ E))
 
-abbrev all : ℕ → Writing
+abbrev pub all : ℕ → Writing
 all n = Written record { commands = n; more = false }
 
 abbrev sent : List Entry
@@ -194,7 +194,7 @@ arrivals =
     ∷ data-command (settings 0) 41 3 E ∷ data-command (settings 0) 41 2 D
     ∷ []
 
-abbrev delivery : ℕ → Class → Span → Delivery
+abbrev pub delivery : ℕ → Class → Span → Delivery
 delivery seq class gap = record { seq = seq; class = class; gap = gap; lost = Nothing }
 
 abbrev arrived : List Heard

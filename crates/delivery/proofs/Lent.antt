@@ -1,7 +1,7 @@
 -- The payloads of a console: each holds the commands written into it, and what any of them ever held is the beginning of what it holds now.
 use Prim.Native.Nat.{ℕ, _≤_, _<_}
 use mathlib.Core.Path.{_≡_, refl, ap, sym, _∙_}
-use mathlib.Core.Logic.{inl, inr, _≢_}
+use mathlib.Core.Logic.{_⊎_, inl, inr, _≢_}
 use mathlib.Core.Bool.{false, cond}
 use mathlib.Core.List.{List, [], _∷_, _++_, append-assoc, append-nil}
 use native.Mathlib.Omega.{arith}
@@ -16,7 +16,8 @@ use Rattle.command.specs.Calls.{Call, callOf, commandOf, Typed, accepts}
 use Rattle.command.proofs.RoundTrip.{call-outcome, typed-words}
 use Rattle.sender.specs.declared.sender.Writing.{Writing}
 use Rattle.delivery.specs.Commands.{Command, isData, dataIn, dataOf}
-use Rattle.delivery.specs.Console.{Lent, bytes, noPayload, lentAgain, putInto, Entry, wrote, stood, Tag, held, added, tagged, Was, was-wrote, was-stood, was}
+use Rattle.delivery.specs.Console.{Lent, bytes, noPayload, lentAgain, putInto, Entry, queued, wrote, stood, noted, Tag, held, added, tagged, Was, was-wrote, was-stood, was}
+use Rattle.delivery.proofs.Lists.{length-none}
 use Rattle.delivery.proofs.Payloads.{Holds, holds-data, holds-after}
 use Rattle.delivery.proofs.Packets.{data-append}
 use Rattle.delivery.proofs.Tags.{on, Indexed, on-tagged, indexed-tagged, same-payload}
@@ -32,9 +33,9 @@ pub record Reads (v : Lent) (cs : List Command) : Type 0 where
 reads-data : (v : Lent) (cs : List Command) → Reads v cs → dataOf (bytes v) ≡ cs
 reads-data v cs r = holds-data (v .payload) (v .buffer) (r .packets) (r .holds) ∙ r .data-are
 
-pub reads-opened : (max : ℕ) (buffer : List ℕ) → Reads record { payload = record { len = 0; max = max }; buffer = buffer } []
+pub reads-opened : (max : ℕ) (buffer : List ℕ) → max ≤ 1400 → Reads record { payload = record { len = 0; max = max }; buffer = buffer } []
 unfolding payloadOf dataIn
-reads-opened max buffer = record { packets = []; holds = record { inside = omega arith; bytes = refl; encodable = tt }; data-are = refl }
+reads-opened max buffer l = record { packets = []; holds = record { opened = l; below = omega arith; inside = omega arith; bytes = refl; encodable = tt }; data-are = refl }
 
 -- other bytes past the length
 pub reads-lent : (rest : List ℕ) (v : Lent) (cs : List Command) → Reads v cs → Reads (lentAgain rest v) cs
@@ -43,6 +44,8 @@ reads-lent rest v cs r =
     record {
       packets = r .packets;
       holds = record {
+        opened = r .holds .opened;
+        below = r .holds .below;
         inside = omega (arith, length-append (bytes v) rest);
         bytes = take-at (bytes v) rest (v .payload .len) n ∙ r .holds .bytes;
         encodable = r .holds .encodable;
@@ -83,19 +86,44 @@ reads-added u v cs ds r s = rw (reads-data u cs r, reads-data v (cs ++ ds) s) (d
 abbrev pub Prefix : List Command → List Command → Type 0
 Prefix cs ds = (rest : List Command) × (ds ≡ cs ++ rest)
 
+-- each write that adds data commands finds a payload with none
+abbrev pub Once : List Entry → Type 0
+Once [] = Unit {0}
+Once (queued cfg ws a ∷ t) = Once t
+Once (wrote k u v a ∷ t) = ((added u v ≡ []) ⊎ (held u ≡ 0)) × Once t
+Once (stood k v ∷ t) = Once t
+Once (noted ∷ t) = Once t
+
+abbrev NoneOrAll : Lent → List Command → Type 0
+NoneOrAll v cs = (dataOf (bytes v) ≡ []) ⊎ (dataOf (bytes v) ≡ cs)
+
 -- the payloads opened, the commands written into them, and the log
 pub record Payloads (vs : List Lent) (w : List Tag) (t : List Entry) : Type 0 where
   pub indexed : Indexed w
   pub unopened : (k : ℕ) → length vs ≤ k → on k w ≡ []
   pub open-ones : (k : ℕ) → k < length vs → Reads (getD vs k noPayload) (on k w)
   pub past : (k : ℕ) (v : Lent) → Was t k v → Prefix (dataOf (bytes v)) (on k w)
+  pub once : Once t → (k : ℕ) (v : Lent) → Was t k v → NoneOrAll v (on k w)
 
 pub none-opened : Payloads [] [] []
-none-opened = record { indexed = tt; unopened = λ k l. refl; open-ones = λ k l. absurd (let z : ⊥ = omega arith in z); past = λ k v h. elim h [ ] }
+none-opened = record {
+  indexed = tt;
+  unopened = λ k l. refl;
+  open-ones = λ k l. absurd (let z : ⊥ = omega arith in z);
+  past = λ k v h. elim h [ ];
+  once = λ o k v h. elim h [ ];
+}
 
 -- an entry that touches no payload
-pub payloads-quiet : (vs : List Lent) (w : List Tag) (t : List Entry) (e : Entry) → ((k : ℕ) (v : Lent) → Was (e ∷ t) k v → Was t k v) → Payloads vs w t → Payloads vs w (e ∷ t)
-payloads-quiet vs w t e quiet i = record { indexed = i .indexed; unopened = i .unopened; open-ones = i .open-ones; past = λ k v h. i .past k v (quiet k v h) }
+pub payloads-quiet : (vs : List Lent) (w : List Tag) (t : List Entry) (e : Entry) → ((k : ℕ) (v : Lent) → Was (e ∷ t) k v → Was t k v) → (Once (e ∷ t) → Once t)
+    → Payloads vs w t → Payloads vs w (e ∷ t)
+payloads-quiet vs w t e quiet still i = record {
+  indexed = i .indexed;
+  unopened = i .unopened;
+  open-ones = i .open-ones;
+  past = λ k v h. i .past k v (quiet k v h);
+  once = λ o k v h. i .once (still o) k v (quiet k v h);
+}
 
 reads-prefix : (v : Lent) (cs : List Command) → Reads v cs → Prefix (dataOf (bytes v)) cs
 reads-prefix v cs r = ([], sym (append-nil (dataOf (bytes v)) ∙ reads-data v cs r))
@@ -129,6 +157,7 @@ payloads-opened vs w t v r i =
             rw (List·getD-append vs (v ∷ []) noPayload k q) (i .open-ones k q)
       ];
       past = past-stood t (length vs) v (λ k x. Prefix (dataOf (bytes x)) (on k w)) (reads-prefix v (on (length vs) w) new) (i .past);
+      once = λ o. past-stood t (length vs) v (λ k x. NoneOrAll x (on k w)) (inr (reads-data v (on (length vs) w) new)) (i .once o);
     }
 
 -- payload k is another, and holds more data commands
@@ -157,6 +186,7 @@ module _ (vs : List Lent) (w : List Tag) (t : List Entry) (i : Payloads vs w t) 
         unopened = c .0;
         open-ones = c .1;
         past = past-stood t k v (λ j x. Prefix (dataOf (bytes x)) (on j w)) (reads-prefix v (on k w) r) (i .past);
+        once = λ o. past-stood t k v (λ j x. NoneOrAll x (on j w)) (inr (reads-data v (on k w) r)) (i .once o);
       }
 
   -- as a write left it
@@ -177,4 +207,15 @@ module _ (vs : List Lent) (w : List Tag) (t : List Entry) (i : Payloads vs w t) 
               | inl e ↦ rw e (prefix-more (dataOf (bytes x)) (on j w) more (i .past j x h))
               | inr e ↦ rw e (i .past j x h)
             ]));
+        once = λ o. past-wrote t k u v a (λ j x. NoneOrAll x (on j s)) (inr (reads-data v (on k s) (rw here after)))
+            (λ j x h. rw (grows j) (elim (split (eqb j k)) [
+              | inl e ↦ let q : j ≡ k = omega (arith, tests) in rw (e, q) (first x (o .0) (rw q at (i .once (o .1) j x h)))
+              | inr e ↦ rw e (i .once (o .1) j x h)
+            ]));
       }
+    where
+      -- nothing is added, or nothing was there
+      first : (x : Lent) → (added u v ≡ []) ⊎ (held u ≡ 0) → NoneOrAll x (on k w) → NoneOrAll x (on k w ++ more)
+      first x o (inl h) = inl h
+      first x (inl o) (inr h) = inr (rw (sym (reads-added u v (on k w) more before after) ∙ o, append-nil) h)
+      first x (inr o) (inr h) = inl (h ∙ length-none (on k w) (omega (arith, reads-held u (on k w) before)))

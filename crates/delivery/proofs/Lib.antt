@@ -12,10 +12,20 @@ mod Lent
 pub mod Consoles
 mod Chambers
 mod Performance
+mod Room
+mod Filled
+mod Brought
+mod Steady
+mod AtRest
 pub mod Delivery
+mod InTime
+pub mod Repeats
+pub mod Paced
 pub mod Taking
 mod Refusing
 mod Covered
 pub mod Example
+mod RepeatsExample
+mod PacedExample
 mod Reach
 mod Performances

@@ -3,21 +3,25 @@ use Prim.Native.Nat.{ℕ, suc, _+_, _≤_}
 use mathlib.Core.Path.{_≡_, refl, ap, _∙_}
 use mathlib.Core.List.{List, [], _∷_, _++_, append-assoc, append-nil}
 use native.Mathlib.Omega.{arith}
-use lib.ListN.{length, take}
-use Rattle.packet.specs.Layout.{Packet, payloadOf, Words32, Encodable, AllEncodable}
+use lib.ListN.{length, take, length-append}
+use lib.Seq.{length-take-le}
+use Rattle.packet.specs.Layout.{Packet, signature, encoded, encodedAll, payloadOf, Words32, Encodable, AllEncodable}
 use Rattle.packet.specs.Read.{placed}
 use Rattle.packet.specs.Write.{bytesIn, doneOf, placedOf, writtenOf, Outcome, refused, done}
 use Rattle.packet.specs.declared.writer.PayloadWriter.{PayloadWriter}
 use Rattle.packet.specs.declared.writer.Wrote.{Wrote}
-use Rattle.packet.proofs.RoundTrip.{items-payload}
+use Rattle.packet.proofs.RoundTrip.{items-payload, length-encoded}
 use Rattle.packet.proofs.Outcomes.{outcome, written-grows, written-length}
 use Rattle.command.specs.Calls.{accepts}
 use Rattle.sender.specs.Writing.{Row, oneMore, rowOf}
-use Rattle.delivery.specs.Commands.{dataIn, wholesIn, dataOf}
+use Rattle.receiver_log.proofs.Choices.{by-cond}
+use Rattle.delivery.specs.Commands.{Command, isData, dataIn, wholesIn, dataOf}
 use Rattle.delivery.proofs.Lists.{All, all-append}
 
--- a payload lies in its buffer, and its bytes are those of the commands
+-- a payload lies in its buffer and its limit, one that opening takes, and its bytes are those of the commands
 pub record Holds (p : PayloadWriter) (by : List ℕ) (cs : List Packet) : Type 0 where
+  pub opened : p .max ≤ 1400
+  pub below : p .len ≤ p .max
   pub inside : p .len ≤ length by
   pub bytes : bytesIn p by ≡ payloadOf cs
   pub encodable : All Encodable cs
@@ -40,6 +44,25 @@ unfolding dataOf
 holds-data p by cs h =
     ap dataOf (h .bytes) ∙ ap (λ is. dataIn (wholesIn is)) (items-payload cs (all-encodable cs (h .encodable))) ∙ ap dataIn (wholes-placed cs 4)
 
+-- no more than it has bytes
+encoded-many : (cs : List Packet) → length cs ≤ length (encodedAll cs)
+unfolding encodedAll
+encoded-many [] = omega arith
+encoded-many (c ∷ cs) = omega (arith, encoded-many cs, length-append (encoded c) (encodedAll cs), length-encoded c)
+
+payload-many : (cs : List Packet) → length cs ≤ length (payloadOf cs)
+unfolding payloadOf
+payload-many [] = omega arith
+payload-many (c ∷ cs) = omega (arith, encoded-many (c ∷ cs), length-append signature (encodedAll (c ∷ cs)))
+
+data-few : (cs : List Packet) → length (dataIn cs) ≤ length cs
+unfolding dataIn
+data-few [] = omega arith
+data-few (c ∷ cs) = by-cond (λ (ds : List Command). length ds ≤ length (c ∷ cs)) (isData c) _ _ (λ e. omega (arith, data-few cs)) (λ e. omega (arith, data-few cs))
+
+pub holds-few : (p : PayloadWriter) (by : List ℕ) (cs : List Packet) → Holds p by cs → length (dataIn cs) ≤ 1400
+holds-few p by cs h = omega (arith, h .opened, h .below, ap length (h .bytes), length-take-le (p .len) by (h .inside), payload-many cs, data-few cs)
+
 -- ---- writing
 
 pub holds-after : (p : PayloadWriter) (by : List ℕ) (c : Packet) (cs : List Packet) (w : Wrote × List ℕ) → Outcome p by c w → Words32 (c .words) → Holds p by cs
@@ -47,6 +70,8 @@ pub holds-after : (p : PayloadWriter) (by : List ℕ) (c : Packet) (cs : List Pa
 holds-after p by c cs w (refused r) e h = h
 holds-after p by c cs w (done f l) e h =
     record {
+      opened = h .opened;
+      below = omega arith;
       inside = rw (written-length p by c _ (done f l)) (omega arith);
       bytes = written-grows p by c cs (h .inside) f (h .bytes);
       encodable = all-append Encodable cs (c ∷ []) (h .encodable) (record { few = l; words32 = e }, tt);

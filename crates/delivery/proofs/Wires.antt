@@ -9,11 +9,7 @@ use lib.Seq.{getD-append-seam}
 use Rattle.config.specs.Sequence.{turn, ahead}
 use Rattle.config.proofs.Tests.{lifts}
 use Rattle.delivery.specs.Commands.{Command}
-use Rattle.delivery.specs.Positions.{opens, contents, newestWith, position}
-
--- the command of a position
-abbrev pub numbered : ℕ → List ℕ → Command
-numbered p ws = record { number = p % turn; words = ws }
+use Rattle.delivery.specs.Positions.{opens, contents, newestWith, position, numbered}
 
 -- a command was written at a position; the newest command stands first
 pub data Sent : List Command → Command → ℕ → Type 0 where
@@ -45,7 +41,7 @@ sent-more C D w j old keeps new k p (earlier i h) = keeps k p (old k p h)
 
 -- a position that is there, not over 32,768 behind the next: the command is read as its copy
 module _ (n p : ℕ) (l : p < n) (m : n ≤ p + 32768) where
-  copy-opens-not : opens n (p % turn) ≡ false
+  pub copy-opens-not : opens n (p % turn) ≡ false
   unfolding opens
   copy-opens-not = omega (arith, lifts)
 

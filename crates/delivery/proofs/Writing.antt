@@ -136,7 +136,7 @@ module _ (c : ℕ) (most : c ≤ 32768) (b : Book) (accepted : List ℕ) (w : Li
   empty-none [] e = refl
   empty-none (u ∷ us) e = absurd (let z : _≡_ {A = ℕ} 0 1 = cc in omega arith)
 
-  idled-agrees : (cfg : StreamConfig) (now : ℕ) → 1 ≤ c → Agrees c (idledIn c cfg now b) accepted w
+  pub idled-agrees : (cfg : StreamConfig) (now : ℕ) → 1 ≤ c → Agrees c (idledIn c cfg now b) accepted w
   unfolding idledIn Words32
   idled-agrees cfg now l = by (b .idle)
     where

@@ -5,4 +5,6 @@ pub mod Console
 pub mod Chamber
 pub mod Performance
 pub mod Sentence
+pub mod Repeats
+pub mod Paced
 pub mod Take

@@ -23,3 +23,7 @@ newestWith count number = count - 1 - ahead number ((count - 1) % turn)
 -- the position of a command that is written after others: the next, or any other repeats the newest position with its number
 unfoldable pub position : List Command → Command → ℕ
 position w k = cond (opens (length (contents w)) (k .number)) (length (contents w)) (newestWith (length (contents w)) (k .number))
+
+-- the command of a position, with its words
+abbrev pub numbered : ℕ → List ℕ → Command
+numbered p ws = record { number = p % turn; words = ws }

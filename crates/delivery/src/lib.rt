@@ -18,10 +18,13 @@
 //
 //   contract_sentence   demand 3, both sentences; when two performances are equal (02, 13/14)
 //   handed_words        the program hands on all words of a command that is heard on the line
+//   repeats_alone       what repeats alone guarantee, without a return cable (02, 14/14)
+//   paced_sender        when our sender's payloads are as that asks
 //   take                a receiver's take leaves a payload as it was, or writes one Retransmit Request
 //
 // proofs/Covered.antt shows that the theorems are said of every call, size and refused call.
 // proofs/Example.antt has a run that meets all premises, with a lost, a repeated and a retransmitted
 // payload, one that is sent at two moments, and refused calls; proofs/Reach.antt shows what a command
-// out of reach would do.
+// out of reach would do. proofs/RepeatsExample.antt has a run on repeats alone; proofs/PacedExample.antt
+// shows what a history or a payload with too little room would do.
 pub mod theorems;

@@ -3,6 +3,7 @@ use mathlib.Core.Path.{refl}
 use Rattle.receiver_log.proofs.Runs.{receiver-promise}
 use Rattle.delivery.specs.Sentence.{Run}
 use Rattle.delivery.proofs.Delivery.{sentence}
+use Rattle.delivery.proofs.Repeats.{repeats-alone}
 use Rattle.stream_log.specs.Ends.{endsOf}
 use Rattle.stream_log.specs.Console.{End, runOf}
 use Rattle.stream_log.specs.Sentence.{Pair, StreamSentence}
@@ -47,5 +48,6 @@ stream-sentence = record {
   listed = λ u h. sentence .listed (run u) h;
   equal-by-position = λ u v h k. sentence .equal-by-position (run u) (run v) h k;
   performances = λ u v h k. sentence .performances (run u) (run v) h k;
+  repeats-alone = λ u R o. repeats-alone (run u) R o;
   second = λ e. receiver-promise (e .window) (start e .least) (start e .most) (endsOf (e .window) (runOf e .called) .received) (heard-typed e);
 }

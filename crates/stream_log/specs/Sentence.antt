@@ -12,6 +12,7 @@ use Rattle.delivery.specs.Chamber.{handedOn, handedByPosition}
 use Rattle.delivery.specs.Console.{Lent, bytes, Entry, logFrom, freshConsole, accepted, positions, Was}
 use Rattle.delivery.specs.Performance.{SamePerformance}
 use Rattle.delivery.specs.Sentence.{Run, sentLog, heardLog, Line, Premises, Safe, ByPosition, Copy}
+use Rattle.delivery.specs.Repeats.{RepeatsOnly, AllHandedOn}
 use Rattle.stream_log.specs.Ends.{endsOf}
 use Rattle.stream_log.specs.Console.{End, runOf}
 
@@ -57,4 +58,6 @@ pub record StreamSentence : Type 0 where
   -- 02, 13/14: the same performance
   pub performances : (u v : Pair) → Holds u → Holds v
       → SamePerformance (sentBy (u .console)) (sentBy (v .console)) ↔ (handedByPosition (reportsBy (u .chamber)) ≡ handedByPosition (reportsBy (v .chamber)))
+  -- 02, 14/14: what repeats alone guarantee
+  pub repeats-alone : (u : Pair) (R : ℕ) → RepeatsOnly R (sentBy (u .console)) (heardBy (u .chamber)) → AllHandedOn (positions (sentBy (u .console))) (reportsBy (u .chamber))
   pub second : (e : End) → Promise (e .window) (reportsBy e)

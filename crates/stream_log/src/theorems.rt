@@ -46,8 +46,8 @@ pub fn line_ends()
     ensures { λ _. ⌜ LineEnds ⌝ }
 {}
 
-// Demand 3 of two streams, a console's and a chamber's: both sentences, and when two performances are
-// equal.
+// Demand 3 of two streams, a console's and a chamber's: both sentences, when two performances are
+// equal, and what repeats alone guarantee.
 pub fn stream_sentence()
     ensures { λ _. ⌜ StreamSentence ⌝ }
 {}
