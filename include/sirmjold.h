@@ -371,6 +371,35 @@ uint8_t sirmjold_window_mark_all(uint64_t *w, size_t w_len);
 struct sirmjold_span sirmjold_window_mark_range(uint64_t *w, size_t w_len, uint16_t first,
                                                 uint16_t count);
 
+/* ---- a load that can be made again (archive libc_load.a): values drawn from a seed, and what each of
+ * them asks to send. Nothing is lent and nothing refused: any `last` is a seed. */
+
+struct sirmjold_load {
+    uint32_t last; /* the last value drawn, at first the seed */
+};
+
+struct sirmjold_jumped {
+    struct sirmjold_load load;
+    uint32_t rounds; /* that it took: as many as `n` has binary digits, 0 to 16 */
+};
+
+/* Words for sirmjold_stream_send_ump: the first `count`, 0 to 8; where `count` is 0, the value is idle. */
+struct sirmjold_asked {
+    uint32_t words[8];
+    size_t count;
+};
+
+/* The next value: the last times 1664525 plus 1013904223, modulo 2^32. */
+struct sirmjold_load sirmjold_load_draw(struct sirmjold_load load);
+
+/* `n` draws at one step, which equals `n` single ones. A count above 65535 is none of this type: C takes
+ * it modulo 65536. */
+struct sirmjold_jumped sirmjold_load_jump(struct sirmjold_load load, uint16_t n);
+
+/* What the last value asks to send: nothing where its top bit is 0, else 20903C40 once more often than
+ * its next three bits say. */
+struct sirmjold_asked sirmjold_load_words(struct sirmjold_load load);
+
 #ifdef __cplusplus
 }
 #endif

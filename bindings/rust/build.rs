@@ -1,11 +1,13 @@
-//! Links `libcapi.a`, which `rt staticlib capi` writes to the repository's `target/staticlib`;
-//! `SIRMJOLD_LIB` names another folder.
+//! Links `libcapi.a` and `libc_load.a`, which `rt staticlib` writes to the repository's
+//! `target/staticlib`; `SIRMJOLD_LIB` names another folder.
 fn main() {
     let here = std::env::var("CARGO_MANIFEST_DIR").unwrap();
     let folder =
         std::env::var("SIRMJOLD_LIB").unwrap_or_else(|_| format!("{here}/../../target/staticlib"));
     println!("cargo:rerun-if-env-changed=SIRMJOLD_LIB");
-    println!("cargo:rerun-if-changed={folder}/libcapi.a");
     println!("cargo:rustc-link-search=native={folder}");
-    println!("cargo:rustc-link-lib=static=capi");
+    for archive in ["capi", "c_load"] {
+        println!("cargo:rerun-if-changed={folder}/lib{archive}.a");
+        println!("cargo:rustc-link-lib=static={archive}");
+    }
 }

@@ -1,8 +1,10 @@
-//! Links `libcapi.a` from the folder that SIRMJOLD_LIB names.
+//! Links the archives of the folder that SIRMJOLD_LIB names.
 fn main() {
     println!("cargo:rerun-if-env-changed=SIRMJOLD_LIB");
-    let folder = std::env::var("SIRMJOLD_LIB").expect("SIRMJOLD_LIB names the folder of libcapi.a");
+    let folder = std::env::var("SIRMJOLD_LIB").expect("SIRMJOLD_LIB names the folder of libcapi.a and libc_load.a");
     println!("cargo:rerun-if-changed={folder}");
     println!("cargo:rustc-link-search=native={folder}");
-    println!("cargo:rustc-link-lib=static=capi");
+    for archive in ["capi", "c_load"] {
+        println!("cargo:rustc-link-lib=static={archive}");
+    }
 }

@@ -155,9 +155,9 @@ def plot(rows):
     for r in rows:
         if r["series"]:
             titles.setdefault(r["name"].rsplit(",", 1)[0], []).append(r)
-    y = bottom + 60
+    y, end = bottom + 60, bottom + 60 + (len(titles) + 1) // 2 * 190
     for i, (title, group) in enumerate(titles.items()):
         parts += curve(group, title + " (ns)", 60 + i % 2 * 380, y + i // 2 * 190, 320, 130)
-    parts.append(text(60, y + 2 * 190, "blue: this library; grey: the Rust; both axes in powers of two", 10, "start", GREY))
+    parts.append(text(60, end, "blue: this library; grey: the Rust; both axes in powers of two", 10, "start", GREY))
     return ('<svg xmlns="http://www.w3.org/2000/svg" width="800" height="%d" font-family="sans-serif">\n<rect width="100%%" height="100%%" fill="white"/>\n%s\n</svg>\n'
-            % (y + 2 * 190 + 20, "\n".join(parts)))
+            % (end + 20, "\n".join(parts)))

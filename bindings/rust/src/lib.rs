@@ -2,7 +2,8 @@
 //! (`include/sirmjold.h`). All memory is the caller's; nothing is allocated.
 //!
 //! [`Stream`] has both ends of a stream, [`Payload`] writes payloads, [`commands`] reads them, and
-//! [`Window`] is a receive window alone. Times are the caller's, in ms.
+//! [`Window`] is a receive window alone. [`Load`] makes words to send from a seed. Times are the
+//! caller's, in ms.
 //!
 //! # So that no pipe sounds on
 //!
@@ -926,5 +927,75 @@ impl Window {
                 range.count,
             )
         })
+    }
+}
+
+/// A load that can be made again: 32-bit values drawn from a seed, and what each of them asks to send.
+///
+/// ```
+/// let mut load = sirmjold::Load::new(0);
+/// assert_eq!(load.draw(), 0x3C6E_F35F);
+/// assert_eq!(load.jump(2), 2);
+/// assert_eq!(load.last(), 0xD1CC_F6E9);
+/// assert_eq!(load.words().words(), [0x2090_3C40; 6]);
+/// ```
+#[derive(Debug, Clone, Copy, PartialEq, Eq)]
+pub struct Load {
+    last: u32,
+}
+
+/// What a value of a load asks to send: 0 to 8 words.
+#[derive(Debug, Clone, Copy, PartialEq, Eq)]
+pub struct LoadWords {
+    words: [u32; 8],
+    count: usize,
+}
+
+impl LoadWords {
+    /// The words; none where the value is idle.
+    pub fn words(&self) -> &[u32] {
+        &self.words[..self.count]
+    }
+}
+
+impl Load {
+    /// The load of a seed, before its first draw.
+    pub fn new(seed: u32) -> Load {
+        Load { last: seed }
+    }
+
+    /// The last value drawn, at first the seed.
+    pub fn last(&self) -> u32 {
+        self.last
+    }
+
+    fn raw(&self) -> raw::Load {
+        raw::Load { last: self.last }
+    }
+
+    /// Draws the next value.
+    pub fn draw(&mut self) -> u32 {
+        // SAFETY: the function takes values alone. So below.
+        self.last = unsafe { raw::sirmjold_load_draw(self.raw()) }.last;
+        self.last
+    }
+
+    /// Draws `n` values at one step; the answer is the rounds that it took, as many as `n` has binary
+    /// digits.
+    pub fn jump(&mut self, n: u16) -> u32 {
+        // SAFETY: as in `draw`.
+        let jumped = unsafe { raw::sirmjold_load_jump(self.raw(), n) };
+        self.last = jumped.load.last;
+        jumped.rounds
+    }
+
+    /// What the last value asks to send.
+    pub fn words(&self) -> LoadWords {
+        // SAFETY: as in `draw`.
+        let asked = unsafe { raw::sirmjold_load_words(self.raw()) };
+        LoadWords {
+            words: asked.words,
+            count: asked.count.min(asked.words.len()),
+        }
     }
 }

@@ -118,6 +118,23 @@ pub struct Known {
     pub processed: u8,
 }
 
+#[repr(C)]
+pub struct Load {
+    pub last: u32,
+}
+
+#[repr(C)]
+pub struct Jumped {
+    pub load: Load,
+    pub rounds: u32,
+}
+
+#[repr(C)]
+pub struct Asked {
+    pub words: [u32; 8],
+    pub count: usize,
+}
+
 extern "C" {
     pub fn sirmjold_stream_new(
         s: *mut u64,
@@ -275,4 +292,7 @@ extern "C" {
     pub fn sirmjold_window_request(w: *const u64, w_len: usize) -> Span;
     pub fn sirmjold_window_mark_all(w: *mut u64, w_len: usize) -> u8;
     pub fn sirmjold_window_mark_range(w: *mut u64, w_len: usize, first: u16, count: u16) -> Span;
+    pub fn sirmjold_load_draw(load: Load) -> Load;
+    pub fn sirmjold_load_jump(load: Load, n: u16) -> Jumped;
+    pub fn sirmjold_load_words(load: Load) -> Asked;
 }

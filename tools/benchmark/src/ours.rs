@@ -170,6 +170,10 @@ impl Side for Ours {
     fn accept(w: &mut [u64; 4], seq: u16) -> u64 {
         told(unsafe { raw::sirmjold_window_accept(w.as_mut_ptr(), 4, seq) })
     }
+
+    fn drawn(seed: u32, n: u16) -> u32 {
+        unsafe { raw::sirmjold_load_jump(raw::Load { last: seed }, n) }.load.last
+    }
 }
 
 impl<const C: usize> Stream for Ends<C> {

@@ -382,6 +382,11 @@ fn round_large<S: Side>(words: usize) -> Batch {
     rounds::<S::Large>(words)
 }
 
+/// `n` draws from each of some seeds.
+fn draw<S: Side>(n: usize) -> Batch {
+    Box::new(move || (0..UNITS).fold(0, |sum, seed| fold(sum, S::drawn(black_box(seed), black_box(n as u16)).into())))
+}
+
 macro_rules! row {
     ($name:expr, $unit:literal, $series:expr, $make:ident, $size:expr) => {
         Row {
@@ -472,6 +477,9 @@ pub fn rows() -> Vec<Sized> {
     }
     for entries in [0, 8, 64, 256, 1024, 2048] {
         rows.push(row!(format!("ask whether to write by entries, {entries}"), "call", Some(("entries", entries)), ask_large, entries));
+    }
+    for n in [1, 2, 4, 16, 256, 4096, 65535] {
+        rows.push(row!(format!("a jump by draws, {n}"), "jump", Some(("draws", n)), draw, n));
     }
     rows
 }

@@ -141,6 +141,12 @@ impl Side for Rust {
         let a = w.accept(SeqNum(seq));
         told(a.class, a.lost)
     }
+
+    /// One after the other: there is no jump in the Rust.
+    #[inline(never)]
+    fn drawn(seed: u32, n: u16) -> u32 {
+        (0..n).fold(seed, |last, _| last.wrapping_mul(1_664_525).wrapping_add(1_013_904_223))
+    }
 }
 
 impl<const C: usize> Stream for Ends<C> {

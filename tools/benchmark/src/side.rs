@@ -30,6 +30,8 @@ pub trait Side: 'static {
     fn write_data_apart(buf: &mut [u8], seq: u16, words: &[u32]) -> usize;
     fn window() -> Self::Window;
     fn accept(w: &mut Self::Window, seq: u16) -> u64;
+    /// The value of the load (02's 1/14) that `n` draws from a seed lead to.
+    fn drawn(seed: u32, n: u16) -> u32;
 }
 
 pub const WINDOW: usize = 64;
