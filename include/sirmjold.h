@@ -41,7 +41,7 @@ enum sirmjold_refusal {
     SIRMJOLD_COMMAND_WORDS = 9,    /* SIZE is not 1 to 64 */
     SIRMJOLD_MALFORMED = 10,       /* a request or an error without its word */
     SIRMJOLD_REASON_NOT_ALLOWED = 11,
-    SIRMJOLD_SIZE_NOT_ALLOWED = 12, /* of a window, a history or a request ring */
+    SIRMJOLD_SIZE_NOT_ALLOWED = 12, /* of a window, a history, a request ring or a step budget */
     SIRMJOLD_INVALID_STATE = 13     /* words that no call has left, or arrays of a wrong length */
 };
 
@@ -399,6 +399,27 @@ struct sirmjold_jumped sirmjold_load_jump(struct sirmjold_load load, uint16_t n)
 /* What the last value asks to send: nothing where its top bit is 0, else 20903C40 once more often than
  * its next three bits say. */
 struct sirmjold_asked sirmjold_load_words(struct sirmjold_load load);
+
+/* ---- a pretend link (archive libc_link.a), to try settings before a hire: a console, a line and a chamber in
+ * steps of 1 ms. docs/LINK.md says what such a line is not. */
+
+struct sirmjold_report {
+    uint32_t steps;  /* done: the budget */
+    uint32_t handed; /* commands that the chamber handed on, those without words too */
+    uint32_t losses; /* that it reported, each once, however many numbers it has */
+    uint8_t refusal;
+};
+
+/* A run of `budget` steps, at most 65536, from time 0. Both ends start fresh with the same settings: a receive window of
+ * `window` numbers (1 to 128), a request ring of `places` places (1 to 16), and the whole of `ring` and of
+ * `other` as the histories of console and chamber, 65 to 32768 words each. In each step the console queues the words of the
+ * next value of `seed` and writes a payload, which is dropped when the next value of `drop`, modulo 256, is
+ * below `figure`; the chamber hears it, polls and writes, and its payload reaches the console in that step. The
+ * settings are tested first; then 12 for a size or a budget out of these bounds and for histories of two
+ * lengths. A refused run leaves both histories as they were; another one zeroes them and leaves the words of its ends there. */
+struct sirmjold_report sirmjold_link_run(const uint32_t *cfg, size_t cfg_len, uint32_t window, size_t places,
+                                         uint32_t seed, uint32_t drop, uint16_t figure, uint32_t budget,
+                                         uint32_t *ring, size_t ring_len, uint32_t *other, size_t other_len);
 
 #ifdef __cplusplus
 }

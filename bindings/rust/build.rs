@@ -1,4 +1,4 @@
-//! Links `libcapi.a` and `libc_load.a`, which `rt staticlib` writes to the repository's
+//! Links `libcapi.a`, `libc_load.a` and `libc_link.a`, which `rt staticlib` writes to the repository's
 //! `target/staticlib`; `SIRMJOLD_LIB` names another folder.
 fn main() {
     let here = std::env::var("CARGO_MANIFEST_DIR").unwrap();
@@ -6,7 +6,7 @@ fn main() {
         std::env::var("SIRMJOLD_LIB").unwrap_or_else(|_| format!("{here}/../../target/staticlib"));
     println!("cargo:rerun-if-env-changed=SIRMJOLD_LIB");
     println!("cargo:rustc-link-search=native={folder}");
-    for archive in ["capi", "c_load"] {
+    for archive in ["capi", "c_load", "c_link"] {
         println!("cargo:rerun-if-changed={folder}/lib{archive}.a");
         println!("cargo:rustc-link-lib=static={archive}");
     }

@@ -2,8 +2,8 @@
 //! (`include/sirmjold.h`). All memory is the caller's; nothing is allocated.
 //!
 //! [`Stream`] has both ends of a stream, [`Payload`] writes payloads, [`commands`] reads them, and
-//! [`Window`] is a receive window alone. [`Load`] makes words to send from a seed. Times are the
-//! caller's, in ms.
+//! [`Window`] is a receive window alone. [`Load`] makes words to send from a seed, and [`Line`] tries
+//! settings on a pretend link. Times are the caller's, in ms.
 //!
 //! # So that no pipe sounds on
 //!
@@ -43,7 +43,7 @@ pub enum Refusal {
     Malformed,
     /// A reason that is not in the table of its command.
     ReasonNotAllowed,
-    /// A window, history or request ring of a size that is not taken.
+    /// A window, history, request ring or step budget of a size that is not taken.
     SizeNotAllowed,
     /// A state that no call has left.
     InvalidState,
@@ -997,5 +997,79 @@ impl Load {
             words: asked.words,
             count: asked.count.min(asked.words.len()),
         }
+    }
+}
+
+/// A pretend line, to try settings on before a hire: the sizes of both ends, and the seeds of a run.
+///
+/// In each step of 1 ms the console queues the words of the next value of `seed` and writes a payload, which is dropped
+/// when the next value of `drop`, modulo 256, is below `figure`; the chamber hears it, polls and writes, and its payload
+/// reaches the console in that step. `docs/LINK.md` says what such a line is not.
+///
+/// ```
+/// let line = sirmjold::Line { window: 64, places: 4, seed: 1, drop: 2, figure: 255 };
+/// let (mut ring, mut other) = ([0; 256], [0; 256]);
+/// let run = line.run(&sirmjold::StreamConfig::default(), 3000, &mut ring, &mut other).unwrap();
+/// assert_eq!((run.steps, run.handed, run.losses), (3000, 15, 20));
+/// ```
+#[derive(Debug, Clone, Copy, PartialEq, Eq)]
+pub struct Line {
+    /// The numbers of each receive window, 1 to 128.
+    pub window: u32,
+    /// The places of each request ring, 1 to 16.
+    pub places: usize,
+    /// The seed of the load.
+    pub seed: u32,
+    /// The seed of the line.
+    pub drop: u32,
+    /// How many of 256 payloads are dropped; 256 or more drops all.
+    pub figure: u16,
+}
+
+/// What a run reports.
+#[derive(Debug, Clone, Copy, PartialEq, Eq)]
+pub struct Report {
+    /// The steps done: the budget.
+    pub steps: u32,
+    /// Commands that the chamber handed on, those without words too.
+    pub handed: u32,
+    /// Losses that it reported, each once, however many numbers it has.
+    pub losses: u32,
+}
+
+impl Line {
+    /// A run of `budget` steps, at most 65,536, from a fresh start of both ends, with the histories of console and chamber,
+    /// both of one length, 65 to 32768 words. They are zeroed, unless the run is refused.
+    pub fn run(
+        &self,
+        cfg: &StreamConfig,
+        budget: u32,
+        ring: &mut [u32],
+        other: &mut [u32],
+    ) -> Result<Report, Refusal> {
+        let cfg = cfg.words();
+        // SAFETY: each pointer is a slice's own, with its length, and they do not overlap.
+        let r = unsafe {
+            raw::sirmjold_link_run(
+                cfg.as_ptr(),
+                cfg.len(),
+                self.window,
+                self.places,
+                self.seed,
+                self.drop,
+                self.figure,
+                budget,
+                ring.as_mut_ptr(),
+                ring.len(),
+                other.as_mut_ptr(),
+                other.len(),
+            )
+        };
+        Refusal::check(r.refusal)?;
+        Ok(Report {
+            steps: r.steps,
+            handed: r.handed,
+            losses: r.losses,
+        })
     }
 }

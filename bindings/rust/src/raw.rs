@@ -135,6 +135,14 @@ pub struct Asked {
     pub count: usize,
 }
 
+#[repr(C)]
+pub struct Report {
+    pub steps: u32,
+    pub handed: u32,
+    pub losses: u32,
+    pub refusal: u8,
+}
+
 extern "C" {
     pub fn sirmjold_stream_new(
         s: *mut u64,
@@ -295,4 +303,18 @@ extern "C" {
     pub fn sirmjold_load_draw(load: Load) -> Load;
     pub fn sirmjold_load_jump(load: Load, n: u16) -> Jumped;
     pub fn sirmjold_load_words(load: Load) -> Asked;
+    pub fn sirmjold_link_run(
+        cfg: *const u32,
+        cfg_len: usize,
+        window: u32,
+        places: usize,
+        seed: u32,
+        drop: u32,
+        figure: u16,
+        budget: u32,
+        ring: *mut u32,
+        ring_len: usize,
+        other: *mut u32,
+        other_len: usize,
+    ) -> Report;
 }

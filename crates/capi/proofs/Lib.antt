@@ -1,8 +1,8 @@
--- Laws that this crate's proofs cite.
+-- Laws that this crate's proofs and those of the crates above cite.
 mod Within
-mod Guards
+pub mod Guards
 mod Words
-mod Figures
+pub mod Figures
 mod Started
 mod RoundTrip
 mod StoredBack

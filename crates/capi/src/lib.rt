@@ -18,7 +18,7 @@ pub mod exports;
 mod guard;
 mod lent;
 mod payload;
-mod settings;
+pub mod settings;
 mod state;
 pub mod theorems;
 pub mod window_exports;

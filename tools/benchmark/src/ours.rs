@@ -174,6 +174,15 @@ impl Side for Ours {
     fn drawn(seed: u32, n: u16) -> u32 {
         unsafe { raw::sirmjold_load_jump(raw::Load { last: seed }, n) }.load.last
     }
+
+    fn link(figure: u16, steps: u32) -> (u32, u32) {
+        let (mut ring, mut other) = ([0; SMALL], [0; SMALL]);
+        let r = unsafe {
+            raw::sirmjold_link_run(CFG.as_ptr(), 8, WINDOW as u32, PLACES, 1, 2, figure, steps, ring.as_mut_ptr(), SMALL, other.as_mut_ptr(), SMALL)
+        };
+        assert_eq!((r.refusal, r.steps), (0, steps));
+        (r.handed, r.losses)
+    }
 }
 
 impl<const C: usize> Stream for Ends<C> {

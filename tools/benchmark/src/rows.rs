@@ -387,6 +387,17 @@ fn draw<S: Side>(n: usize) -> Batch {
     Box::new(move || (0..UNITS).fold(0, |sum, seed| fold(sum, S::drawn(black_box(seed), black_box(n as u16)).into())))
 }
 
+/// The steps of a run on the pretend link.
+const STEPS: u32 = 65536;
+
+/// A run whose line drops `figure` of 256 payloads.
+fn link<S: Side>(figure: usize) -> Batch {
+    Box::new(move || {
+        let (handed, losses) = S::link(black_box(figure as u16), black_box(STEPS));
+        fold(handed.into(), losses.into())
+    })
+}
+
 macro_rules! row {
     ($name:expr, $unit:literal, $series:expr, $make:ident, $size:expr) => {
         Row {
@@ -411,6 +422,13 @@ macro_rules! row {
         sized.row.copy = Some($copy);
         sized
     }};
+}
+
+/// The same as a row: a unit is a step.
+fn link_row(figure: usize) -> Sized {
+    let mut sized = row!(format!("a step of the pretend link, {figure} of 256 dropped"), "step", None, link, figure);
+    sized.row.units = STEPS;
+    sized
 }
 
 /// A row with the size that its batches are made for.
@@ -461,6 +479,7 @@ pub fn rows() -> Vec<Sized> {
         row!("a whole round, 192 words, history 256", "round", None, round_small, 192, test_small),
         row!("a whole round, 1 word, history 4096", "round", None, round_large, 1, test_large),
     ]);
+    rows.extend([13, 128].map(link_row));
     for words in [4, 16, 64] {
         let name = |side| format!("resend {words} words, {side} the end");
         rows.push(row!(name("before"), "request", None, resend_before, words, |n| test_resend(n, before_end(n)), copy_words));

@@ -1,7 +1,7 @@
 //! The Rust's side. Each call is kept apart (`inline(never)`), as a program's calls are that come with packets and
 //! timers; what it calls is inlined into it as the compiler likes.
 use crate::side::{LARGE, LIMIT, PLACES, SMALL, Side, Stream, WINDOW, delivery, fold};
-use zmidi_net::command::{Command, Malformed, RetransmitRequest, SeqNum, UmpData, UmpMessage, UmpMessages};
+use zmidi_net::command::{Command, Malformed, RetransmitError, RetransmitRequest, SeqNum, UmpData, UmpMessage, UmpMessages};
 use zmidi_net::packet::{CommandPackets, Header, MaxPayload, PacketItem, PayloadWriter, RawCommand, command_packets};
 use zmidi_net::stream::{Class, DataStream, Ignored, ReceiveWindow, RequestOutcome, SeqRange, StreamConfig, StreamEvent};
 
@@ -145,7 +145,81 @@ impl Side for Rust {
     /// One after the other: there is no jump in the Rust.
     #[inline(never)]
     fn drawn(seed: u32, n: u16) -> u32 {
-        (0..n).fold(seed, |last, _| last.wrapping_mul(1_664_525).wrapping_add(1_013_904_223))
+        (0..n).fold(seed, |last, _| draw(last))
+    }
+
+    #[inline(never)]
+    fn link(figure: u16, steps: u32) -> (u32, u32) {
+        let mut link = Link::new();
+        let (mut load, mut line) = (1, 2);
+        for now in 0..steps {
+            (load, line) = (draw(load), draw(line));
+            link.step(now.into(), load, line % 256 >= figure.into());
+        }
+        (link.handed, link.losses)
+    }
+}
+
+fn draw(last: u32) -> u32 {
+    last.wrapping_mul(1_664_525).wrapping_add(1_013_904_223)
+}
+
+/// A pretend link, as a program over the Rust has it.
+struct Link {
+    console: Box<DataStream<WINDOW, SMALL, PLACES>>,
+    chamber: Box<DataStream<WINDOW, SMALL, PLACES>>,
+    /// The error that stands first in the console's next payload.
+    waiting: Option<RetransmitError>,
+    handed: u32,
+    losses: u32,
+}
+
+impl Link {
+    fn new() -> Self {
+        let end = || Box::new(DataStream::new(CFG).expect("settings that are taken"));
+        Link { console: end(), chamber: end(), waiting: None, handed: 0, losses: 0 }
+    }
+
+    fn step(&mut self, now: u64, load: u32, carried: bool) {
+        if load >> 31 == 1 {
+            // Words for which there is no room are dropped.
+            let _ = self.console.send_ump(&CFG, &[0x2090_3C40; 8][..(load >> 28) as usize - 7]);
+        }
+        let mut buf = [0; LIMIT];
+        let mut w = PayloadWriter::new(&mut buf, limit());
+        if let Some(e) = self.waiting.take() {
+            e.write(&mut w).expect("an error fits an empty payload");
+        }
+        self.console.write_data(&CFG, now, &mut w).expect("commands that fit");
+        let len = w.len();
+        if carried {
+            for item in command_packets(&buf[..len]).into_iter().flatten() {
+                let PacketItem::Command(raw) = item else { unreachable!("payloads arrive whole") };
+                match Command::parse(raw) {
+                    Ok(Command::UmpData(data)) => {
+                        let d = self.chamber.on_ump_data(&CFG, now, data);
+                        self.handed += u32::from(d.delivers());
+                        self.losses += u32::from(d.lost.is_some());
+                    }
+                    Ok(Command::RetransmitError(e)) => {
+                        self.losses += u32::from(matches!(self.chamber.on_retransmit_error(e), StreamEvent::DataLoss { .. }));
+                    }
+                    _ => {}
+                }
+            }
+        }
+        self.losses += u32::from(matches!(self.chamber.poll(&CFG, now), Some(StreamEvent::DataLoss { .. })));
+        let mut w = PayloadWriter::new(&mut buf, limit());
+        self.chamber.write_data(&CFG, now, &mut w).expect("a request fits");
+        let len = w.len();
+        for item in command_packets(&buf[..len]).into_iter().flatten() {
+            let PacketItem::Command(raw) = item else { unreachable!("payloads arrive whole") };
+            if let Ok(Command::RetransmitRequest(req)) = Command::parse(raw) {
+                if let RequestOutcome::Error(e) = self.console.on_retransmit_request(&CFG, req) {
+                    self.waiting = Some(e);
+                }
+            }
+        }
     }
 }
 

@@ -32,6 +32,8 @@ pub trait Side: 'static {
     fn accept(w: &mut Self::Window, seq: u16) -> u64;
     /// The value of the load (02's 1/14) that `n` draws from a seed lead to.
     fn drawn(seed: u32, n: u16) -> u32;
+    /// A run of so many steps on the pretend link (02's 7/14), seeds 1 and 2: commands handed on and losses.
+    fn link(figure: u16, steps: u32) -> (u32, u32);
 }
 
 pub const WINDOW: usize = 64;

@@ -29,7 +29,8 @@ pub enum Call {
     Last,
 }
 
-fn decimal<T: TryFrom<u64>>(field: &str) -> Option<T> {
+/// A decimal figure that its type holds.
+pub fn decimal<T: TryFrom<u64>>(field: &str) -> Option<T> {
     if field.is_empty() || !field.bytes().all(|b| b.is_ascii_digit()) {
         return None;
     }

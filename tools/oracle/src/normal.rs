@@ -49,6 +49,11 @@ pub fn sizes(w: u64, c: u64, q: u64) -> Result<(), u32> {
     if (1..=128).contains(&w) && (65..=32768).contains(&c) && (1..=16).contains(&q) { Ok(()) } else { Err(12) }
 }
 
+/// The Rust has no runs; 12 is added.
+pub fn budget(steps: u32) -> Result<(), u32> {
+    if steps <= 65536 { Ok(()) } else { Err(12) }
+}
+
 /// Bytes past the payload's length stay as they were here; the Rust may have written there.
 pub fn buffer(bytes: &[u8], len: usize, fill: u8) -> Vec<u8> {
     let mut out = bytes.to_vec();
