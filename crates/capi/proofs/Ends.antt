@@ -5,7 +5,7 @@ use mathlib.Core.List.{List, [], _∷_, _++_, append-nil, append-assoc}
 use Prim.Native.Nat.{ℕ, _+_, _≤_}
 use native.Mathlib.Omega.{arith}
 use lib.ListN.{length, take, drop, take-append-drop, drop-of-length-le}
-use Rattle.config.proofs.Tests.{and-left}
+use Rattle.config.specs.inner.Tests.{and-left}
 use Rattle.packet.specs.Bytes.{spliced}
 use Rattle.packet.proofs.Splice.{drop-spliced, take-before-spliced}
 use Rattle.receiver.specs.declared.receiver.Receiver.{Receiver}

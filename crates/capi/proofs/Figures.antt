@@ -15,7 +15,7 @@ use Rattle.config.specs.declared.refusal.Refusal.{Refusal}
 use Rattle.config.specs.declared.refusal.Refusal.the-variants.{IdleInterval, IdleGrowth, CommandWords}
 use Rattle.config.specs.declared.settings.Check.the-variants.{Passed, Refused}
 use Rattle.config.specs.declared.settings.StreamConfig.{StreamConfig}
-use Rattle.config.proofs.Tests.{split}
+use Rattle.config.specs.inner.Tests.{split}
 use Rattle.capi.specs.Guard.{fitNumber}
 use Rattle.capi.specs.Limits.{within}
 use Rattle.capi.specs.Settings.{settingsOf, settingsLimits, settingsNumber, Small}

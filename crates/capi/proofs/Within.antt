@@ -7,7 +7,7 @@ use native.Mathlib.Omega.{arith}
 use lib.ListN.{length, getD, drop-of-length-le}
 use borrow.Author.Tests.{lt-leb, leb-true}
 use lib.Dec.{leb}
-use Rattle.config.proofs.Tests.{and-left, and-right}
+use Rattle.config.specs.inner.Tests.{and-left, and-right}
 use Rattle.packet.specs.Bytes.{spliced}
 use Rattle.capi.specs.Limits.{within}
 

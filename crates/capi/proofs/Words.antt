@@ -7,7 +7,7 @@ use native.Mathlib.Omega.{arith}
 use lib.ListN.{length, getD}
 use lib.Dec.{eqb, leb}
 use borrow.Author.Tests.{eq-eqb, ne-eqb, eqb-true, le-leb}
-use Rattle.config.proofs.Tests.{and-left, and-right}
+use Rattle.config.specs.inner.Tests.{and-left, and-right}
 use Rattle.packet.specs.Bytes.{spliced}
 use Rattle.packet.proofs.Splice.{spliced-append, length-spliced}
 use Rattle.command.specs.declared.retransmit.RetransmitRequest.{RetransmitRequest}

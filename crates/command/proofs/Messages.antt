@@ -10,7 +10,7 @@ use lib.Dec.{leb, ltb, eqb}
 use lib.ListN.{length, take, drop, getD, length-drop, drop-of-length-le}
 use lib.Seq.{drop-cons, drop-drop}
 use borrow.Author.Tests.{leb-true, eqb-true, le-leb, lt-leb}
-use Rattle.config.proofs.Tests.{split, tests, lifts, and-left, and-right, below, below-at}
+use Rattle.config.specs.inner.Tests.{split, tests, lifts, and-left, and-right, below, below-at}
 use Rattle.command.specs.Messages.{among, typeWords, messageWords, Messages, none, also, divided, messagesOf, wholeOf, wordsIn, messageItem, messageAt, follow, walked, MessagesWalk}
 use Rattle.command.specs.declared.message.UmpMessages.{UmpMessages}
 use Rattle.command.specs.declared.message.MessageItem.the-variants.{Message, Truncated, End}

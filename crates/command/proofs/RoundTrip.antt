@@ -11,7 +11,7 @@ use borrow.Author.Tests.{not-true, not-false}
 use Rattle.config.specs.Range.{outside, within}
 use Rattle.config.specs.declared.refusal.Refusal.{Refusal}
 use Rattle.config.specs.declared.refusal.Refusal.the-variants.{InvalidState, InvalidUmpData, ReasonNotAllowed, InvalidValue}
-use Rattle.config.proofs.Tests.{split, tests, lifts, and-left, and-right}
+use Rattle.config.specs.inner.Tests.{split, tests, lifts, and-left, and-right}
 use Rattle.packet.specs.Layout.{Packet, packet, sizeOf, payloadOf, Words32, Encodable, AllEncodable}
 use Rattle.packet.specs.Read.{Item, itemsOf, placed}
 use Rattle.packet.specs.Write.{openedOf, limitOf, validOf, startOf, refusedOf, doneOf, placedOf, writtenOf, bytesIn, Outcome, refused, done}

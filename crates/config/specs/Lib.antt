@@ -1,4 +1,5 @@
 -- The definitions that every layer shares.
+pub mod inner
 pub mod Range
 pub mod Refusals
 pub mod Sequence

@@ -12,7 +12,7 @@ use Rattle.config.specs.declared.refusal.Refusal.{Refusal}
 use Rattle.config.specs.declared.settings.Check.{Check}
 use Rattle.config.specs.declared.settings.Check.the-variants.{Passed, Refused as CheckRefused}
 use Rattle.config.specs.declared.settings.StreamConfig.{StreamConfig}
-use Rattle.config.proofs.Tests.{tests}
+use Rattle.config.specs.inner.Tests.{tests}
 use Rattle.packet.specs.Layout.{Words32}
 use Rattle.command.specs.Messages.{wholeOf, wordsIn}
 use Rattle.command.specs.declared.retransmit.RetransmitRequest.{RetransmitRequest}

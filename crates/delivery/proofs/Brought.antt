@@ -9,7 +9,7 @@ use lib.Dec.{eqb}
 use lib.ListN.{length, getD, length-append, List·getD-append}
 use lib.Seq.{getD-at, getD-append-seam}
 use Rattle.config.specs.Sequence.{turn}
-use Rattle.config.proofs.Tests.{split, tests, lifts}
+use Rattle.config.specs.inner.Tests.{split, tests, lifts}
 use Rattle.window.specs.Arrival.{reach}
 use Rattle.delivery.specs.Commands.{Command, dataOf}
 use Rattle.delivery.specs.Positions.{opens, contents, numbered}

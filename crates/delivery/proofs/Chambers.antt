@@ -10,7 +10,7 @@ use lib.ListN.{length, getD, take}
 use lib.Seq.{take-length}
 use borrow.Author.Tests.{not-true}
 use Rattle.config.specs.Sequence.{turn}
-use Rattle.config.proofs.Tests.{split, tests}
+use Rattle.config.specs.inner.Tests.{split, tests}
 use Rattle.packet.specs.Bytes.{wordsOf}
 use Rattle.command.specs.Messages.{messagesOf, wholeOf, wordsIn}
 use Rattle.window.specs.Arrival.{reach}

@@ -11,7 +11,7 @@ use Rattle.config.specs.Range.{within, outside}
 use Rattle.config.specs.Settings.{checkOf}
 use Rattle.config.specs.declared.settings.Check.the-variants.{Passed}
 use Rattle.config.specs.declared.settings.StreamConfig.{StreamConfig}
-use Rattle.config.proofs.Tests.{tests, and-right}
+use Rattle.config.specs.inner.Tests.{tests, and-right}
 use Rattle.packet.specs.Layout.{Words32}
 use Rattle.packet.specs.Write.{openedOf, validOf as payloadValid}
 use Rattle.packet.specs.declared.writer.PayloadWriter.{PayloadWriter}

@@ -8,7 +8,7 @@ use native.Mathlib.Omega.{arith}
 use lib.Dec.{ltb, eqb}
 use lib.ListN.{length, getD, length-append}
 use lib.Seq.{getD-append-seam}
-use Rattle.config.proofs.Tests.{split, tests, and-right}
+use Rattle.config.specs.inner.Tests.{split, tests, and-right}
 use Rattle.config.specs.declared.settings.StreamConfig.{StreamConfig}
 use Rattle.command.specs.Messages.{wholeOf, wordsIn}
 use Rattle.window.specs.Arrival.{reach}

@@ -18,7 +18,7 @@ use borrow.Author.Tests.{eqb-true}
 use Rattle.config.specs.Settings.{checkOf}
 use Rattle.config.specs.declared.refusal.Refusal.the-variants.{InvalidUmpData, IdleGrowth}
 use Rattle.config.specs.declared.settings.StreamConfig.{StreamConfig}
-use Rattle.config.proofs.Tests.{split, tests}
+use Rattle.config.specs.inner.Tests.{split, tests}
 use Rattle.packet.specs.Bytes.{bytesOf, wordsOf, spliced}
 use Rattle.packet.specs.Layout.{Words32}
 use Rattle.packet.specs.Read.{signed, itemsFrom, itemsOf}

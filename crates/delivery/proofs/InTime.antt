@@ -7,7 +7,7 @@ use mathlib.Core.List.{List, [], _∷_, _++_, append-assoc, append-nil}
 use native.Mathlib.Omega.{arith}
 use lib.Dec.{eqb}
 use lib.ListN.{length, getD}
-use Rattle.config.proofs.Tests.{split, lifts}
+use Rattle.config.specs.inner.Tests.{split, lifts}
 use Rattle.receiver_log.specs.Log.{Report, heard, told, origin, place, high, hands, times}
 use Rattle.delivery.specs.Chamber.{delivered}
 use Rattle.delivery.specs.Sentence.{NoLoss, ByPosition}

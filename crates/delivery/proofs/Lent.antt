@@ -8,7 +8,7 @@ use native.Mathlib.Omega.{arith}
 use lib.Dec.{eqb}
 use lib.ListN.{length, getD, set, length-append, length-set, List·getD-append}
 use lib.Seq.{getD-at, getD-set-same, getD-set-other, take-at, length-take-le, drop-append-seam}
-use Rattle.config.proofs.Tests.{split, tests, lifts}
+use Rattle.config.specs.inner.Tests.{split, tests, lifts}
 use Rattle.packet.specs.Layout.{Packet, payloadOf}
 use Rattle.packet.specs.declared.writer.Write.{Write}
 use Rattle.packet.specs.declared.writer.Write.the-variants.{Done, Refused}

@@ -8,7 +8,7 @@ use native.Mathlib.Omega.{arith}
 use lib.Dec.{leb}
 use lib.ListN.{length, take, drop, length-append, length-drop, take-append-drop}
 use lib.Seq.{drop-append-le, drop-length, length-take-le}
-use Rattle.config.proofs.Tests.{split, tests}
+use Rattle.config.specs.inner.Tests.{split, tests}
 use Rattle.command.specs.Messages.{messageWords, wholeOf, wordsIn}
 use Rattle.command.proofs.Messages.{messages-nil, messages-cons}
 use Rattle.receiver.specs.Messages.{wholeWords}

@@ -12,7 +12,7 @@ use lib.ListN.{length, getD, length-append, length-set, List·getD-eq-default}
 use lib.Seq.{getD-at}
 use Rattle.config.specs.Range.{outside}
 use Rattle.config.specs.declared.settings.StreamConfig.{StreamConfig}
-use Rattle.config.proofs.Tests.{split, tests}
+use Rattle.config.specs.inner.Tests.{split, tests}
 use Rattle.packet.specs.Layout.{Words32}
 use Rattle.packet.specs.Write.{openedOf}
 use Rattle.packet.specs.declared.writer.Opened.{Opened}

@@ -8,7 +8,7 @@ use native.Mathlib.Omega.{arith}
 use lib.ListN.{length, getD, length-append}
 use lib.Seq.{getD-at}
 use Rattle.config.specs.Sequence.{turn, after}
-use Rattle.config.proofs.Tests.{split}
+use Rattle.config.specs.inner.Tests.{split}
 use Rattle.packet.specs.Layout.{Packet, Encodable}
 use Rattle.history.specs.Written.{dataPacket}
 use Rattle.sender_log.specs.Writes.{dataFrom}

@@ -13,7 +13,7 @@ use Rattle.config.specs.declared.refusal.Refusal.the-variants.{InvalidState}
 use Rattle.config.specs.declared.settings.Check.{Check}
 use Rattle.config.specs.declared.settings.Check.the-variants.{Passed, Refused as CheckRefused}
 use Rattle.config.specs.declared.settings.StreamConfig.{StreamConfig}
-use Rattle.config.proofs.Tests.{tests, lifts}
+use Rattle.config.specs.inner.Tests.{tests, lifts}
 use Rattle.packet.specs.Layout.{Packet, sizeOf}
 use Rattle.packet.specs.Write.{openedOf, startOf, doneOf, placedOf, writtenOf, validOf as payloadValid, Outcome, refused, done}
 use Rattle.packet.specs.declared.writer.Opened.the-variants.{Payload}

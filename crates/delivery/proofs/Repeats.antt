@@ -12,7 +12,7 @@ use Rattle.config.specs.Range.{within}
 use Rattle.config.specs.Sequence.{turn, ahead}
 use Rattle.config.specs.Settings.{checkOf}
 use Rattle.config.specs.declared.settings.StreamConfig.{StreamConfig}
-use Rattle.config.proofs.Tests.{split, tests}
+use Rattle.config.specs.inner.Tests.{split, tests}
 use Rattle.window.specs.Set.{maxWindow}
 use Rattle.window.specs.Window.{freshOf as allProcessed}
 use Rattle.window.specs.Arrival.{reach}

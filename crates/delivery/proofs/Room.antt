@@ -12,7 +12,7 @@ use lib.Seq.{take-length, drop-length}
 use borrow.Author.Tests.{not-false}
 use Rattle.config.specs.Settings.{checkOf}
 use Rattle.config.specs.declared.settings.StreamConfig.{StreamConfig}
-use Rattle.config.proofs.Tests.{split, tests}
+use Rattle.config.specs.inner.Tests.{split, tests}
 use Rattle.command.specs.Messages.{wholeOf}
 use Rattle.command.specs.declared.retransmit.RetransmitRequest.{RetransmitRequest}
 use Rattle.history.specs.Entries.{size, kept}

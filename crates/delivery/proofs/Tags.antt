@@ -8,7 +8,7 @@ use native.Mathlib.Omega.{arith}
 use lib.Dec.{eqb}
 use lib.ListN.{length, getD, length-append, List·getD-append}
 use lib.Seq.{getD-at}
-use Rattle.config.proofs.Tests.{split, tests, lifts}
+use Rattle.config.specs.inner.Tests.{split, tests, lifts}
 use Rattle.delivery.specs.Commands.{Command}
 use Rattle.delivery.specs.Positions.{position}
 use Rattle.delivery.specs.Console.{Tag, tagged, commands, positionOf}

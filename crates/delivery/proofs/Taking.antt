@@ -9,7 +9,7 @@ use lib.ListN.{length}
 use Rattle.config.specs.Settings.{checkOf}
 use Rattle.config.specs.declared.refusal.Refusal.the-variants.{TooLarge, InvalidState}
 use Rattle.config.specs.declared.settings.StreamConfig.{StreamConfig}
-use Rattle.config.proofs.Tests.{split}
+use Rattle.config.specs.inner.Tests.{split}
 use Rattle.packet.specs.Write.{validOf as payloadValid, writtenOf, Outcome, done, refused as cut}
 use Rattle.packet.specs.declared.writer.Wrote.{Wrote}
 use Rattle.packet.proofs.Outcomes.{outcome}

@@ -7,7 +7,7 @@ use native.Mathlib.Omega.{arith}
 use lib.ListN.{length, getD, length-append, List·getD-append}
 use lib.Seq.{getD-append-seam}
 use Rattle.config.specs.Sequence.{turn, ahead}
-use Rattle.config.proofs.Tests.{lifts}
+use Rattle.config.specs.inner.Tests.{lifts}
 use Rattle.delivery.specs.Commands.{Command}
 use Rattle.delivery.specs.Positions.{opens, contents, newestWith, position, numbered}
 

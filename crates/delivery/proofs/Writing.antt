@@ -11,7 +11,7 @@ use borrow.Author.Tests.{not-false}
 use Rattle.config.specs.Sequence.{turn, after}
 use Rattle.config.specs.Settings.{checkOf}
 use Rattle.config.specs.declared.settings.StreamConfig.{StreamConfig}
-use Rattle.config.proofs.Tests.{tests}
+use Rattle.config.specs.inner.Tests.{tests}
 use Rattle.packet.specs.Layout.{Packet, Words32, Encodable}
 use Rattle.packet.specs.Write.{validOf as payloadValid}
 use Rattle.packet.specs.declared.writer.PayloadWriter.{PayloadWriter}

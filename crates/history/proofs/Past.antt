@@ -9,7 +9,7 @@ use borrow.Author.Tests.{le-leb, lt-leb, eq-eqb, ne-eqb, leb-true}
 use lib.ListN.{length, getD}
 use lib.Dec.{leb}
 use Rattle.config.specs.Sequence.{turn, after}
-use Rattle.config.proofs.Tests.{split, tests, lifts}
+use Rattle.config.specs.inner.Tests.{split, tests, lifts}
 use Rattle.history.specs.Ring.{slotOf}
 use Rattle.history.specs.Headers.{lengthAt, entrySize, nextAt, headerAt, wordsFrom, headerOk, numbered}
 use Rattle.history.specs.Walk.{newestFrom, passes, Past, Ran, Walked}

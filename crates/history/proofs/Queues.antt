@@ -9,7 +9,7 @@ use lib.ListN.{length, set, getD}
 use lib.Seq.{getD-set-other, getD-set-same}
 use lib.Dec.{leb, ltb}
 use Rattle.config.specs.Range.{within, outside}
-use Rattle.config.proofs.Tests.{and-left, and-right}
+use Rattle.config.specs.inner.Tests.{and-left, and-right}
 use Rattle.history.specs.Ring.{slotOf}
 use Rattle.history.specs.Queue.{blank, noneWait, queueOk, Fit, request, requests, waiting, asks, oldestOf, behind, popped, inFront, answered, pushAnswer, popOf, setFrontOf}
 use Rattle.command.specs.declared.retransmit.RetransmitRequest.{RetransmitRequest}

@@ -9,7 +9,7 @@ use borrow.Author.Tests.{lt-ltb, le-ltb, le-leb, lt-leb, eq-eqb, ne-eqb, leb-tru
 use lib.ListN.{length}
 use lib.Dec.{leb, ltb, eqb, eqb·suc-zero}
 use Rattle.config.specs.Range.{within, outside}
-use Rattle.config.proofs.Tests.{split, tests, and-left, and-right}
+use Rattle.config.specs.inner.Tests.{split, tests, and-left, and-right}
 use Rattle.history.specs.Headers.{nextAt, headerAt, wordsFrom, numbered}
 use Rattle.history.specs.Walk.{newestFrom, passes, Past, Walked}
 use Rattle.history.specs.State.{newestAt, unsentTake, walkOk, stateOk, backAt, Answers}

@@ -10,7 +10,7 @@ use lib.ListN.{length, drop}
 use lib.Dec.{leb, ltb, eqb}
 use Rattle.config.specs.Sequence.{turn}
 use Rattle.config.specs.Range.{within}
-use Rattle.config.proofs.Tests.{and-left, and-right}
+use Rattle.config.specs.inner.Tests.{and-left, and-right}
 use Rattle.history.specs.Headers.{headerAt, wordsFrom, entriesFrom, numbered}
 use Rattle.history.specs.State.{newestAt, unsentTake, walkOk, stateOk, Good}
 use Rattle.history.specs.Entries.{size, entriesOf, Holds, Unwritten}

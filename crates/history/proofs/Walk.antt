@@ -8,7 +8,7 @@ use borrow.Author.Tests.{leb-true, eqb-true}
 use lib.ListN.{length, getD}
 use lib.Dec.{leb}
 use Rattle.config.specs.Sequence.{turn, after}
-use Rattle.config.proofs.Tests.{and-left, and-right}
+use Rattle.config.specs.inner.Tests.{and-left, and-right}
 use Rattle.history.specs.Headers.{lengthAt, entrySize, nextAt, headerAt, wordsFrom, headerOk, numbered}
 use Rattle.history.proofs.Slots.{slot-in}
 

@@ -11,7 +11,7 @@ use Rattle.config.specs.Settings.{checkOf}
 use Rattle.config.specs.Sequence.{turn}
 use Rattle.config.specs.declared.settings.Check.the-variants.{Passed}
 use Rattle.config.specs.declared.settings.StreamConfig.{StreamConfig}
-use Rattle.config.proofs.Tests.{split}
+use Rattle.config.specs.inner.Tests.{split}
 use Rattle.window.specs.Set.{maxWindow}
 use Rattle.window.proofs.Ranges.{within-range}
 use Rattle.window.proofs.Preserved.{valid-fresh}

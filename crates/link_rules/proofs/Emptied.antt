@@ -12,7 +12,7 @@ use Rattle.config.specs.Sequence.{after}
 use Rattle.config.specs.Settings.{checkOf}
 use Rattle.config.specs.declared.settings.Check.the-variants.{Passed}
 use Rattle.config.specs.declared.settings.StreamConfig.{StreamConfig}
-use Rattle.config.proofs.Tests.{split}
+use Rattle.config.specs.inner.Tests.{split}
 use Rattle.packet.specs.Layout.{Packet}
 use Rattle.packet.specs.Write.{limitOf, startOf}
 use Rattle.packet.specs.declared.writer.PayloadWriter.{PayloadWriter}

@@ -12,7 +12,7 @@ use Rattle.config.specs.Sequence.{turn}
 use Rattle.config.specs.Settings.{checkOf}
 use Rattle.config.specs.declared.settings.Check.the-variants.{Passed}
 use Rattle.config.specs.declared.settings.StreamConfig.{StreamConfig}
-use Rattle.config.proofs.Tests.{and-left, and-right}
+use Rattle.config.specs.inner.Tests.{and-left, and-right}
 use Rattle.packet.specs.Read.{Item, whole, cut, itemsOf}
 use Rattle.packet.specs.Write.{writtenOf, validOf as payloadValid}
 use Rattle.packet.specs.declared.writer.Write.the-variants.{Done as Put}

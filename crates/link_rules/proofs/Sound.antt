@@ -14,7 +14,7 @@ use Rattle.config.specs.Settings.{checkOf}
 use Rattle.config.specs.declared.refusal.Refusal.{Refusal}
 use Rattle.config.specs.declared.settings.Check.the-variants.{Passed}
 use Rattle.config.specs.declared.settings.StreamConfig.{StreamConfig}
-use Rattle.config.proofs.Tests.{split, and-left}
+use Rattle.config.specs.inner.Tests.{split, and-left}
 use Rattle.packet.specs.Layout.{Packet}
 use Rattle.packet.specs.Write.{limitOf, startOf, doneOf}
 use Rattle.packet.specs.declared.writer.PayloadWriter.{PayloadWriter}

@@ -6,7 +6,7 @@ use Prim.Native.Nat.{ℕ, _+_, _-_, _*_, _^_, _≤_, _<_}
 use native.Mathlib.Nat.{le-trans}
 use native.Mathlib.Omega.{arith}
 use lib.Dec.{ltb}
-use Rattle.config.proofs.Tests.{tests, and-left}
+use Rattle.config.specs.inner.Tests.{tests, and-left}
 use Rattle.config.specs.declared.settings.StreamConfig.{StreamConfig}
 use Rattle.packet.specs.Write.{writtenOf}
 use Rattle.packet.specs.declared.writer.PayloadWriter.{PayloadWriter}

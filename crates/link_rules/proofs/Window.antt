@@ -7,7 +7,7 @@ use lib.Dec.{ltb}
 use lib.Pow.{pow-pos}
 use borrow.Author.Tests.{eq-eqb, eqb-true, lt-ltb}
 use Rattle.config.specs.Sequence.{ahead}
-use Rattle.config.proofs.Tests.{tests}
+use Rattle.config.specs.inner.Tests.{tests}
 use Rattle.window.specs.Set.{has, val, setOf}
 use Rattle.window.specs.Window.{Valid, freshOf, processed, missingOf}
 use Rattle.window.specs.Arrival.{reach, newOf, inOrder, acceptOf, classOf}

@@ -11,7 +11,7 @@ use lib.Seq.{length-take-le}
 use borrow.Author.Tests.{leb-true, eqb-true}
 use Rattle.config.specs.Range.{within}
 use Rattle.config.specs.declared.refusal.Refusal.the-variants.{InvalidValue, InvalidState}
-use Rattle.config.proofs.Tests.{split, tests, lifts, and-left, and-right}
+use Rattle.config.specs.inner.Tests.{split, tests, lifts, and-left, and-right}
 use Rattle.packet.specs.Bytes.{bytesOf, spliced}
 use Rattle.packet.specs.Layout.{Packet, signature, encoded, sizeOf, encodedAll, payloadOf}
 use Rattle.packet.specs.Write.{limitOf, validOf, startOf, noFit, refusedOf, doneOf, placedOf, writtenOf, bytesIn, Outcome, refused, done}

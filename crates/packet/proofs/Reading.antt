@@ -11,7 +11,7 @@ use lib.ListN.{length, take, drop, getD, length-drop, drop-of-length-le}
 use lib.Seq.{drop-cons, drop-length, take-nil, take-all}
 use borrow.Author.Tests.{le-leb, lt-leb, lt-ltb, le-ltb, eq-eqb, ne-eqb, ltb-true, ltb-false, leb-true}
 use Rattle.config.specs.declared.refusal.Refusal.the-variants.{BadSignature}
-use Rattle.config.proofs.Tests.{split}
+use Rattle.config.specs.inner.Tests.{split}
 use Rattle.packet.specs.Bytes.{wordOf, wordsOf}
 use Rattle.packet.specs.Read.{header, signed, openOf, itemOf, nextOf, bodyOf, wordAt}
 use Rattle.packet.specs.declared.reader.Cursor.{Cursor}

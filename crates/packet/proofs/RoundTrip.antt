@@ -8,7 +8,7 @@ use native.Mathlib.Omega.{arith}
 use lib.Dec.{eqb, leb, ltb}
 use lib.ListN.{length, take, drop, length-append, length-drop}
 use lib.Seq.{take-at, drop-at, drop-drop}
-use Rattle.config.proofs.Tests.{split, tests, lifts}
+use Rattle.config.specs.inner.Tests.{split, tests, lifts}
 use Rattle.packet.specs.Bytes.{wordBytes, bytesOf, wordOf, wordsOf}
 use Rattle.packet.specs.Layout.{Packet, packet, signature, encoded, sizeOf, encodedAll, payloadOf, Words32, Encodable, AllEncodable}
 use Rattle.packet.specs.Read.{header, signed, itemOf, nextOf, bodyOf, Item, whole, cut, itemsFrom, itemsOf, follow, walked, placed}

@@ -10,7 +10,7 @@ use lib.ListN.{length, length-append}
 use borrow.Author.Tests.{le-ltb, lt-ltb, eq-eqb, ne-eqb, not-true, not-false}
 use Rattle.config.specs.Range.{within, outside}
 use Rattle.config.specs.declared.refusal.Refusal.the-variants.{InvalidValue, InvalidState}
-use Rattle.config.proofs.Tests.{split, tests, lifts, and-left, and-right}
+use Rattle.config.specs.inner.Tests.{split, tests, lifts, and-left, and-right}
 use Rattle.packet.specs.Bytes.{bytesOf, spliced}
 use Rattle.packet.specs.Layout.{Packet, packet, signature, encoded, sizeOf}
 use Rattle.packet.specs.Write.{limitOf, validOf, startOf, begunOf, noFit, refusedOf, doneOf, placedOf, writtenOf}

@@ -9,7 +9,7 @@ use lib.Dec.{leb, ltb}
 use lib.ListN.{length, drop, length-drop}
 use lib.Seq.{drop-drop}
 use borrow.Author.Tests.{leb-true, ltb-true, ltb-false}
-use Rattle.config.proofs.Tests.{split}
+use Rattle.config.specs.inner.Tests.{split}
 use Rattle.packet.specs.Layout.{Packet, payloadOf, AllEncodable}
 use Rattle.packet.specs.Read.{signed, openOf, itemOf, nextOf, bodyOf, itemsFrom, itemsOf, walked, placed}
 use Rattle.packet.specs.declared.reader.Cursor.{Cursor}

@@ -11,7 +11,7 @@ use lib.Dec.{eqb, ltb}
 use Rattle.config.specs.Refusals.{numberOf}
 use Rattle.config.specs.declared.refusal.Refusal.{Refusal}
 use Rattle.config.specs.declared.refusal.Refusal.the-variants.{BadSignature, InvalidState}
-use Rattle.config.proofs.Tests.{split}
+use Rattle.config.specs.inner.Tests.{split}
 use Rattle.packet.specs.Bytes.{wordsOf, spliced}
 use Rattle.packet.specs.Read.{csdOf, signed, openOf, nextOf, bodyOf}
 use Rattle.packet.specs.declared.reader.Cursor.{Cursor}

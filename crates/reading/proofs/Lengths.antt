@@ -8,7 +8,7 @@ use native.Mathlib.Omega.{arith}
 use lib.ListN.{length, getD, take, drop, length-append, length-drop, drop-of-length-le}
 use lib.Seq.{length-take-le}
 use lib.Dec.{leb}
-use Rattle.config.proofs.Tests.{split}
+use Rattle.config.specs.inner.Tests.{split}
 use Rattle.command.specs.Messages.{messageWords, divided, messagesOf, wordsIn}
 use Rattle.command.proofs.Messages.{typeWords-range, messages-turn, messages-stop, messages-nil}
 use Rattle.reading.specs.Words.{wholeCount, eachLength, lengthsOf}

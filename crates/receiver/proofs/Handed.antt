@@ -9,7 +9,7 @@ use lib.Dec.{leb, ltb}
 use lib.ListN.{length, take, drop, length-append, length-drop}
 use lib.Seq.{length-take-le, take-add, drop-drop}
 use borrow.Author.Tests.{lt-ltb}
-use Rattle.config.proofs.Tests.{split, tests, lifts}
+use Rattle.config.specs.inner.Tests.{split, tests, lifts}
 use Rattle.packet.specs.Bytes.{wordsOf}
 use Rattle.packet.proofs.Reading.{length-wordsOf}
 use Rattle.command.specs.Messages.{messageWords, Messages, messagesOf, messageItem, messageAt, wordsIn}

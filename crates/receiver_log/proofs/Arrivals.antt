@@ -7,7 +7,7 @@ use mathlib.Core.List.{List, _∷_}
 use native.Mathlib.Omega.{arith}
 use lib.Dec.{ltb, leb, eqb}
 use Rattle.config.specs.Sequence.{turn, ahead}
-use Rattle.config.proofs.Tests.{split, tests, lifts}
+use Rattle.config.specs.inner.Tests.{split, tests, lifts}
 use Rattle.window.specs.Window.{processed}
 use Rattle.window.specs.Arrival.{reach, newOf, lateAt}
 use Rattle.window.specs.declared.window.ReceiveWindow.{ReceiveWindow}

@@ -7,7 +7,7 @@ use mathlib.Core.List.{List, [], _∷_}
 use lib.Dec.{eqb}
 use borrow.Author.Tests.{le-leb, lt-ltb}
 use Rattle.config.specs.Sequence.{turn}
-use Rattle.config.proofs.Tests.{split}
+use Rattle.config.specs.inner.Tests.{split}
 use Rattle.window.specs.Set.{maxWindow, val}
 use Rattle.window.specs.Window.{Valid, validOf as windowValid, freshOf as allProcessed, missingOf}
 use Rattle.window.specs.declared.window.ReceiveWindow.{ReceiveWindow}

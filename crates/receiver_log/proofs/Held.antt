@@ -8,7 +8,7 @@ use native.Mathlib.Omega.{arith}
 use lib.Dec.{ltb}
 use borrow.Author.Tests.{lt-ltb}
 use Rattle.config.specs.Sequence.{turn}
-use Rattle.config.proofs.Tests.{split, tests, lifts}
+use Rattle.config.specs.inner.Tests.{split, tests, lifts}
 use Rattle.window.specs.Set.{maxWindow}
 use Rattle.window.specs.Window.{Valid, fresh, processed}
 use Rattle.window.specs.declared.window.ReceiveWindow.{ReceiveWindow}

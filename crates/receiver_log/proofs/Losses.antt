@@ -6,7 +6,7 @@ use mathlib.Core.Bool.{Bool, true, false, _||_, _&&_, or-true, or-false}
 use native.Mathlib.Omega.{arith}
 use lib.Dec.{ltb, leb}
 use Rattle.config.specs.Sequence.{turn}
-use Rattle.config.proofs.Tests.{split, tests, lifts, and-left, and-right}
+use Rattle.config.specs.inner.Tests.{split, tests, lifts, and-left, and-right}
 use Rattle.receiver_log.specs.Log.{inLoss}
 use Rattle.receiver_log.specs.Spans.{Ends, none, ends, endsOf, spanFrom}
 use Rattle.receiver_log.proofs.EndsOf.{EndsOk, ends-ok}

@@ -8,7 +8,7 @@ use lib.Dec.{leb}
 use borrow.Author.Tests.{le-leb}
 use Rattle.config.specs.Range.{within}
 use Rattle.config.specs.Sequence.{turn}
-use Rattle.config.proofs.Tests.{and-left, and-right}
+use Rattle.config.specs.inner.Tests.{and-left, and-right}
 use Rattle.command.specs.declared.retransmit.RetransmitRequest.{RetransmitRequest}
 use Rattle.window.specs.Window.{Valid, behind, freshOf, processed}
 use Rattle.window.specs.Marking.{inRange, markOf}

@@ -7,7 +7,7 @@ use mathlib.Core.List.{List}
 use native.Mathlib.Omega.{arith}
 use lib.Dec.{leb, eqb}
 use Rattle.config.specs.Sequence.{turn}
-use Rattle.config.proofs.Tests.{split, lifts}
+use Rattle.config.specs.inner.Tests.{split, lifts}
 use Rattle.window.specs.Window.{missingSpan}
 use Rattle.window.specs.declared.window.ReceiveWindow.{ReceiveWindow}
 use Rattle.window.specs.declared.window.Span.the-variants.{Of}

@@ -8,7 +8,7 @@ use native.Mathlib.Omega.{arith}
 use lib.Dec.{ltb, leb, eqb}
 use borrow.Author.Tests.{leb-true, ltb-true, lt-ltb}
 use Rattle.config.specs.Sequence.{turn, ahead}
-use Rattle.config.proofs.Tests.{split, tests, lifts, and-left, and-right}
+use Rattle.config.specs.inner.Tests.{split, tests, lifts, and-left, and-right}
 use Rattle.window.specs.Arrival.{reach}
 use Rattle.window.specs.Window.{behind}
 use Rattle.receiver_log.specs.Log.{isAhead, place, start}

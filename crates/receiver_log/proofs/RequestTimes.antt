@@ -11,7 +11,7 @@ use Rattle.config.specs.declared.refusal.Refusal.the-variants.{InvalidState}
 use Rattle.config.specs.declared.settings.Check.{Check}
 use Rattle.config.specs.declared.settings.Check.the-variants.{Passed, Refused as CheckRefused}
 use Rattle.config.specs.declared.settings.StreamConfig.{StreamConfig}
-use Rattle.config.proofs.Tests.{lifts}
+use Rattle.config.specs.inner.Tests.{lifts}
 use Rattle.window.specs.Window.{validOf as windowValid, processed, missingOf, missingSpan}
 use Rattle.window.specs.Arrival.{classOf, newOf, takenOf, acceptOf}
 use Rattle.window.specs.declared.window.ReceiveWindow.{ReceiveWindow}

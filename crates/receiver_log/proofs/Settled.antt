@@ -6,7 +6,7 @@ use mathlib.Core.Bool.{Bool, true, false, not, _||_, _&&_}
 use mathlib.Core.List.{List, [], _∷_}
 use native.Mathlib.Omega.{arith}
 use lib.Dec.{ltb, leb, eqb}
-use Rattle.config.proofs.Tests.{split, tests, lifts, and-left, and-right}
+use Rattle.config.specs.inner.Tests.{split, tests, lifts, and-left, and-right}
 use Rattle.receiver_log.specs.Log.{Report, lossOf, origin, high, handsOn, times, inLoss, lost, unprocessed}
 use Rattle.receiver_log.proofs.Choices.{never, unless, not-true, or-left, or-right}
 

@@ -8,7 +8,7 @@ use native.Mathlib.Omega.{arith}
 use lib.Dec.{eqb, ltb}
 use borrow.Author.Tests.{ne-eqb}
 use Rattle.config.specs.Sequence.{turn}
-use Rattle.config.proofs.Tests.{split, tests, lifts, and-left}
+use Rattle.config.specs.inner.Tests.{split, tests, lifts, and-left}
 use Rattle.command.specs.declared.retransmit.RetransmitRequest.{RetransmitRequest}
 use Rattle.window.specs.Set.{has, topOf, bottomOf}
 use Rattle.window.specs.Window.{behind, processed, missingOf, spanOf, missingSpan, requestOf}

@@ -7,7 +7,7 @@ use mathlib.Core.List.{List, _∷_}
 use native.Mathlib.Omega.{arith}
 use Rattle.config.specs.Range.{within}
 use Rattle.config.specs.Sequence.{turn, ahead}
-use Rattle.config.proofs.Tests.{split}
+use Rattle.config.specs.inner.Tests.{split}
 use Rattle.window.specs.Window.{processed}
 use Rattle.window.specs.Arrival.{reach, newOf, lateAt, unchanged, acceptOf}
 use Rattle.window.specs.declared.window.ReceiveWindow.{ReceiveWindow}

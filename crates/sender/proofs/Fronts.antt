@@ -9,7 +9,7 @@ use lib.Dec.{leb, ltb}
 use lib.ListN.{length, take, drop, getD, length-append, length-drop, drop-of-length-le}
 use lib.Seq.{length-take-le, take-length, take-add, drop-drop, drop-cons, getD-drop}
 use borrow.Author.Tests.{leb-true, leb-false, le-leb, lt-leb, lt-ltb, le-ltb, ltb-true, ltb-false, not-true, not-false}
-use Rattle.config.proofs.Tests.{split}
+use Rattle.config.specs.inner.Tests.{split}
 use Rattle.command.specs.Messages.{messageWords, messagesOf, wholeOf}
 use Rattle.command.proofs.Messages.{typeWords-range, messages-nil, messages-cons, messages-cut}
 use Rattle.sender.specs.Commands.{fitting, front, behind, commandsIn, commandsOf, longer, above}

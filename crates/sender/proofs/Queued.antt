@@ -8,7 +8,7 @@ use lib.ListN.{length, take, drop, length-take}
 use lib.Dec.{leb, ltb, eqb}
 use mathlib.Core.Logic.{inl, inr}
 use borrow.Author.Tests.{lt-ltb, le-ltb, eq-eqb, ne-eqb, eqb-true, eqb-false, leb-true, not-false}
-use Rattle.config.proofs.Tests.{split as split-test, and-right}
+use Rattle.config.specs.inner.Tests.{split as split-test, and-right}
 use Rattle.config.specs.Range.{within, outside}
 use Rattle.config.specs.Settings.{checkOf}
 use Rattle.config.specs.Sequence.{turn}

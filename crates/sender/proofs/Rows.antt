@@ -9,7 +9,7 @@ use lib.ListN.{length, take, length-take}
 use lib.Dec.{eqb, leb}
 use borrow.Author.Tests.{ne-eqb, leb-true}
 use Rattle.config.specs.Range.{within}
-use Rattle.config.proofs.Tests.{split, and-left, and-right}
+use Rattle.config.specs.inner.Tests.{split, and-left, and-right}
 use Rattle.config.specs.declared.refusal.Refusal.{Refusal}
 use Rattle.packet.specs.Layout.{Packet, sizeOf}
 use Rattle.packet.specs.Write.{validOf as payloadValid, limitOf, startOf, doneOf, placedOf, writtenOf, Outcome, refused, done}

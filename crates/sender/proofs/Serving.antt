@@ -8,7 +8,7 @@ use native.Mathlib.Omega.{arith}
 use lib.ListN.{length, getD}
 use lib.Dec.{eqb}
 use borrow.Author.Tests.{le-leb, lt-leb, eq-eqb, ne-eqb}
-use Rattle.config.proofs.Tests.{split}
+use Rattle.config.specs.inner.Tests.{split}
 use Rattle.config.specs.Sequence.{after}
 use Rattle.config.specs.declared.settings.StreamConfig.{StreamConfig}
 use Rattle.packet.specs.Write.{validOf as payloadValid, startOf, writtenOf}

@@ -8,7 +8,7 @@ use native.Mathlib.Omega.{arith}
 use lib.Dec.{eqb}
 use lib.ListN.{length, take, drop, length-append, length-drop, drop-of-length-le, length-take}
 use lib.Seq.{take-at, drop-at, length-take-le, take-take}
-use Rattle.config.proofs.Tests.{split, tests, lifts}
+use Rattle.config.specs.inner.Tests.{split, tests, lifts}
 use Rattle.packet.specs.Layout.{Packet, signature, encoded, sizeOf, encodedAll, payloadOf, AllEncodable}
 use Rattle.packet.specs.Read.{itemsFrom, itemsOf, placed}
 use Rattle.packet.specs.Write.{limitOf, startOf, bytesIn, doneOf, placedOf, writtenOf, Outcome, refused, done}

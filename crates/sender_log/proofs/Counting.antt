@@ -15,7 +15,7 @@ use Rattle.config.specs.declared.refusal.Refusal.the-variants.{TooLarge, Invali
 use Rattle.config.specs.declared.settings.Check.{Check}
 use Rattle.config.specs.declared.settings.Check.the-variants.{Passed, Refused as CheckRefused}
 use Rattle.config.specs.declared.settings.StreamConfig.{StreamConfig}
-use Rattle.config.proofs.Tests.{split, tests, lifts}
+use Rattle.config.specs.inner.Tests.{split, tests, lifts}
 use Rattle.packet.specs.Layout.{Packet, AllEncodable, Words32}
 use Rattle.packet.specs.Read.{placed}
 use Rattle.packet.specs.Write.{limitOf, startOf, validOf}

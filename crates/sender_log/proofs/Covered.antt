@@ -11,7 +11,7 @@ use Rattle.config.specs.Settings.{checkOf}
 use Rattle.config.specs.declared.refusal.Refusal.the-variants.{SizeNotAllowed}
 use Rattle.config.specs.declared.settings.Check.the-variants.{Passed}
 use Rattle.config.specs.declared.settings.StreamConfig.{StreamConfig}
-use Rattle.config.proofs.Tests.{lifts}
+use Rattle.config.specs.inner.Tests.{lifts}
 use Rattle.packet.specs.Layout.{Words32}
 use Rattle.packet.specs.Write.{limitOf, startOf, validOf as payloadValid}
 use Rattle.packet.specs.declared.writer.PayloadWriter.{PayloadWriter}

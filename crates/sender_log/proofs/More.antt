@@ -16,7 +16,7 @@ use Rattle.config.specs.Settings.{checkOf, tested}
 use Rattle.config.specs.declared.settings.Check.{Check}
 use Rattle.config.specs.declared.settings.Check.the-variants.{Passed, Refused as CheckRefused}
 use Rattle.config.specs.declared.settings.StreamConfig.{StreamConfig}
-use Rattle.config.proofs.Tests.{split}
+use Rattle.config.specs.inner.Tests.{split}
 use Rattle.packet.specs.Layout.{Packet}
 use Rattle.packet.specs.Write.{limitOf, startOf, validOf}
 use Rattle.packet.specs.declared.writer.PayloadWriter.{PayloadWriter}

@@ -9,7 +9,7 @@ use lib.Dec.{ltb, leb, eqb}
 use lib.ListN.{length, take, drop, length-append, length-drop, length-take}
 use lib.Seq.{drop-drop, take-all}
 use Rattle.config.specs.Sequence.{turn, after, ahead}
-use Rattle.config.proofs.Tests.{split, tests, lifts}
+use Rattle.config.specs.inner.Tests.{split, tests, lifts}
 use Rattle.packet.specs.Layout.{Packet}
 use Rattle.packet.specs.declared.writer.PayloadWriter.{PayloadWriter}
 use Rattle.command.specs.Write.{errorPacket}

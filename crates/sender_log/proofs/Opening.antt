@@ -12,7 +12,7 @@ use Rattle.config.specs.declared.settings.Check.{Check}
 use Rattle.config.specs.declared.settings.Check.the-variants.{Passed, Refused as CheckRefused}
 use Rattle.config.specs.declared.refusal.Refusal.the-variants.{InvalidState}
 use Rattle.config.specs.declared.settings.StreamConfig.{StreamConfig}
-use Rattle.config.proofs.Tests.{tests, lifts}
+use Rattle.config.specs.inner.Tests.{tests, lifts}
 use Rattle.packet.specs.Layout.{Packet, AllEncodable}
 use Rattle.packet.specs.Read.{itemsFrom}
 use Rattle.packet.specs.Write.{startOf, validOf, bytesIn}

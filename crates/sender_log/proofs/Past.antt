@@ -17,7 +17,7 @@ use Rattle.config.specs.declared.refusal.Refusal.the-variants.{CommandWords, Id
 use Rattle.config.specs.declared.settings.Check.{Check}
 use Rattle.config.specs.declared.settings.Check.the-variants.{Passed, Refused as CheckRefused}
 use Rattle.config.specs.declared.settings.StreamConfig.{StreamConfig}
-use Rattle.config.proofs.Tests.{split, tests, lifts, and-left, ltb-not-leb}
+use Rattle.config.specs.inner.Tests.{split, tests, lifts, and-left, ltb-not-leb}
 use Rattle.packet.specs.Layout.{Packet}
 use Rattle.packet.specs.Write.{validOf as payloadValid}
 use Rattle.packet.specs.declared.writer.PayloadWriter.{PayloadWriter}

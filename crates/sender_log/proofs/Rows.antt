@@ -8,7 +8,7 @@ use native.Mathlib.Omega.{arith}
 use borrow.Author.Tests.{ltb-true, ltb-false, lt-ltb, le-ltb, ne-eqb}
 use lib.Dec.{ltb}
 use lib.ListN.{length, take, drop}
-use Rattle.config.proofs.Tests.{split}
+use Rattle.config.specs.inner.Tests.{split}
 use Rattle.packet.specs.Layout.{Packet, sizeOf}
 use Rattle.packet.specs.Write.{limitOf, startOf, noFit, validOf, refusedOf, doneOf, placedOf, writtenOf, done}
 use Rattle.packet.specs.declared.writer.PayloadWriter.{PayloadWriter}

@@ -9,7 +9,7 @@ use lib.Dec.{leb, eqb}
 use lib.ListN.{length, length-append, replicate, length-replicate}
 use Rattle.config.specs.Range.{within, outside}
 use Rattle.config.specs.Sequence.{ahead}
-use Rattle.config.proofs.Tests.{and-left, and-right}
+use Rattle.config.specs.inner.Tests.{and-left, and-right}
 use Rattle.command.specs.declared.retransmit.RetransmitRequest.{RetransmitRequest}
 use Rattle.history.specs.Entries.{size, Holds}
 use Rattle.history.specs.Queue.{Fit, blank, requests, waiting}

@@ -9,7 +9,7 @@ use lib.Dec.{leb}
 use lib.ListN.{length}
 use lib.Seq.{take-all}
 use Rattle.config.specs.declared.settings.StreamConfig.{StreamConfig}
-use Rattle.config.proofs.Tests.{split}
+use Rattle.config.specs.inner.Tests.{split}
 use Rattle.packet.specs.Layout.{Packet, AllEncodable}
 use Rattle.packet.specs.Write.{limitOf, startOf}
 use Rattle.packet.specs.declared.writer.PayloadWriter.{PayloadWriter}

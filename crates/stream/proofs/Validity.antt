@@ -3,7 +3,7 @@ use mathlib.Core.Path.{_≡_}
 use mathlib.Core.Bool.{Bool, true, false}
 use mathlib.Core.List.{List}
 use Prim.Native.Nat.{ℕ}
-use Rattle.config.proofs.Tests.{and-left, and-right}
+use Rattle.config.specs.inner.Tests.{and-left, and-right}
 use Rattle.receiver.specs.Receiver.{validOf as receiverValid}
 use Rattle.sender.specs.State.{validOf as senderValid}
 use Rattle.stream.specs.State.{validOf}

@@ -12,7 +12,7 @@ use Rattle.config.specs.declared.refusal.Refusal.the-variants.{InvalidState}
 use Rattle.config.specs.declared.settings.Check.{Check}
 use Rattle.config.specs.declared.settings.Check.the-variants.{Passed, Refused as CheckRefused}
 use Rattle.config.specs.declared.settings.StreamConfig.{StreamConfig}
-use Rattle.config.proofs.Tests.{tests}
+use Rattle.config.specs.inner.Tests.{tests}
 use Rattle.packet.specs.Write.{validOf as payloadValid, openedOf}
 use Rattle.packet.specs.declared.writer.PayloadWriter.{PayloadWriter}
 use Rattle.packet.specs.declared.writer.Opened.{Opened}

@@ -7,7 +7,7 @@ use native.Mathlib.Omega.{arith}
 use Rattle.config.specs.declared.refusal.Refusal.{Refusal}
 use Rattle.config.specs.declared.refusal.Refusal.the-variants.{TooLarge, InvalidState}
 use Rattle.config.specs.declared.settings.StreamConfig.{StreamConfig}
-use Rattle.config.proofs.Tests.{tests}
+use Rattle.config.specs.inner.Tests.{tests}
 use Rattle.packet.specs.declared.writer.PayloadWriter.{PayloadWriter}
 use Rattle.window.specs.Set.{maxWindow}
 use Rattle.receiver.specs.Answers as receiver

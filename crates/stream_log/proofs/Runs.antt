@@ -14,7 +14,7 @@ use Rattle.config.specs.declared.refusal.Refusal.the-variants.{SizeNotAllowed, 
 use Rattle.config.specs.declared.settings.Check.{Check}
 use Rattle.config.specs.declared.settings.Check.the-variants.{Passed, Refused as CheckRefused}
 use Rattle.config.specs.declared.settings.StreamConfig.{StreamConfig}
-use Rattle.config.proofs.Tests.{and-left, and-right}
+use Rattle.config.specs.inner.Tests.{and-left, and-right}
 use Rattle.packet.specs.Write.{validOf as payloadValid}
 use Rattle.packet.specs.declared.writer.PayloadWriter.{PayloadWriter}
 use Rattle.window.specs.Set.{maxWindow}

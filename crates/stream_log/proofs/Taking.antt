@@ -13,7 +13,7 @@ use Rattle.config.specs.declared.refusal.Refusal.the-variants.{TooLarge, Invali
 use Rattle.config.specs.declared.settings.Check.{Check}
 use Rattle.config.specs.declared.settings.Check.the-variants.{Passed, Refused as CheckRefused}
 use Rattle.config.specs.declared.settings.StreamConfig.{StreamConfig}
-use Rattle.config.proofs.Tests.{split, tests}
+use Rattle.config.specs.inner.Tests.{split, tests}
 use Rattle.packet.specs.Layout.{Packet, sizeOf}
 use Rattle.packet.specs.Write.{limitOf, startOf, noFit, validOf as payloadValid, refusedOf, doneOf, placedOf, writtenOf, done}
 use Rattle.packet.specs.declared.writer.PayloadWriter.{PayloadWriter}

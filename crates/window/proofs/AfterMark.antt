@@ -9,7 +9,7 @@ use lib.Bits.{bitOr}
 use lib.Dec.{eqb, leb, ltb}
 use lib.Pow.{pow-pos}
 use Rattle.config.specs.Range.{within}
-use Rattle.config.proofs.Tests.{split, tests, lifts}
+use Rattle.config.specs.inner.Tests.{split, tests, lifts}
 use Rattle.window.specs.Set.{val, setOf, has}
 use Rattle.window.specs.Window.{Valid, behind, processed, missingOf}
 use Rattle.window.specs.Arrival.{lateAt}

@@ -7,7 +7,7 @@ use native.Mathlib.Nat.{lt-of-lt-of-le}
 use native.Mathlib.Omega.{arith}
 use lib.Dec.{eqb, leb, ltb, lit<}
 use lib.Pow.{pow-mono, ones-lt}
-use Rattle.config.proofs.Tests.{split, tests, lifts}
+use Rattle.config.specs.inner.Tests.{split, tests, lifts}
 use Rattle.window.specs.Set.{val, has}
 use Rattle.window.specs.Window.{Valid, processed, missingOf}
 use Rattle.window.specs.Arrival.{movedOf, lostOf, newOf}

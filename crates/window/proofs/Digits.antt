@@ -8,7 +8,7 @@ use native.Mathlib.Omega.{arith}
 use lib.Dec.{eqb, ltb, lit<}
 use lib.Pow.{pow-pos, pow-lt, pow-mono, pow-add, high, split as parts-of, field, mod-mod-pow, shl-shr, shr-shr, shr-lt, ones-split, le-ones, ones-sub-lt}
 use lib.Bits.{bitOr, or-shr, or-mod}
-use Rattle.config.proofs.Tests.{split, tests}
+use Rattle.config.specs.inner.Tests.{split, tests}
 use Rattle.window.specs.Set.{has, topOf, bottomOf}
 use Rattle.window.proofs.Words.{flip}
 use Rattle.window.proofs.Ends.{top-is, top-unique, bottom-is, bottom-unique}

@@ -8,7 +8,7 @@ use lib.Dec.{eqb}
 use lib.Pow.{pow-pos, low, ones-lt}
 use borrow.Author.Tests.{eq-eqb, ne-eqb, eqb-true}
 use Rattle.config.specs.Sequence.{ahead}
-use Rattle.config.proofs.Tests.{and-left, and-right}
+use Rattle.config.specs.inner.Tests.{and-left, and-right}
 use Rattle.window.specs.Set.{val, setOf}
 use Rattle.window.specs.Window.{Valid, missingOf}
 use Rattle.window.specs.Arrival.{reach, movedOf, newOf, inOrder, acceptOf}

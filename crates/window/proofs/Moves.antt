@@ -6,7 +6,7 @@ use native.Mathlib.Omega.{arith}
 use lib.Bits.{bitAnd}
 use lib.Dec.{eqb}
 use borrow.Author.Tests.{eq-eqb, ne-eqb, eqb-false}
-use Rattle.config.proofs.Tests.{split, tests}
+use Rattle.config.specs.inner.Tests.{split, tests}
 use Rattle.window.specs.Set.{maxWindow, val, setOf}
 use Rattle.window.specs.Window.{Valid, missingOf}
 use Rattle.window.specs.Arrival.{movedOf}

@@ -7,7 +7,7 @@ use native.Mathlib.Nat.{lt-of-lt-of-le}
 use native.Mathlib.Omega.{arith}
 use lib.Dec.{leb, ltb}
 use lib.Pow.{pow-mono, ones-sub-lt}
-use Rattle.config.proofs.Tests.{split, tests}
+use Rattle.config.specs.inner.Tests.{split, tests}
 use Rattle.window.specs.Set.{val, setOf, has}
 use Rattle.window.specs.Window.{Valid, freshOf, processed, missingOf}
 use Rattle.window.specs.declared.window.ReceiveWindow.{ReceiveWindow}

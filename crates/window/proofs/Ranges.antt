@@ -6,7 +6,7 @@ use Prim.Native.Nat.{ℕ, _≤_, _<_}
 use lib.Dec.{leb}
 use borrow.Author.Tests.{leb-true, le-leb, lt-leb}
 use Rattle.config.specs.Range.{within, outside}
-use Rattle.config.proofs.Tests.{split, and-left, and-right}
+use Rattle.config.specs.inner.Tests.{split, and-left, and-right}
 
 module _ (low high n : ℕ) where
   pub within-yes : low ≤ n → n ≤ high → within low high n ≡ true

@@ -5,7 +5,7 @@ use Prim.Native.Nat.{_^_}
 use lib.Dec.{ltb}
 use borrow.Author.Tests.{ltb-true}
 use Rattle.config.specs.Range.{within, outside}
-use Rattle.config.proofs.Tests.{and-left, and-right}
+use Rattle.config.specs.inner.Tests.{and-left, and-right}
 use Rattle.window.specs.Set.{maxWindow, val}
 use Rattle.window.specs.Window.{Valid, validOf}
 use Rattle.window.specs.declared.window.ReceiveWindow.{ReceiveWindow}

@@ -10,7 +10,7 @@ use lib.Arith.{le-zero, digits-lt}
 use lib.Pow.{pow-pos, pow-lt, pow-mono, pow-add, high, low, split, mod-pow-add, shr-lt, shr-shr, ones-lt, ones-split}
 use lib.Bits.{bitOr, bitAnd, or-shifted, and-mask, or-disjoint, or-block, or-lt, or-zero-r, and-block, and-zero-r}
 use borrow.Author.Tests.{eq-eqb, ne-eqb, eqb-true, eqb-false, lt-ltb, le-ltb, le-leb, lt-leb, ltb-true, ltb-false}
-use Rattle.config.proofs.Tests.{split as test, tests}
+use Rattle.config.specs.inner.Tests.{split as test, tests}
 use Rattle.window.specs.Set.{maxWindow, val, setOf, has}
 use Rattle.window.specs.declared.set.Bits.{Bits}
 

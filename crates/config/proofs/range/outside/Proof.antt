@@ -1,6 +1,6 @@
 use mathlib.Core.Path.{_∙_}
 use borrow.Author.Tests.{lt-leb, le-leb}
-use Rattle.config.proofs.Tests.{ltb-not-leb}
+use Rattle.config.specs.inner.Tests.{ltb-not-leb}
 use Rattle.config.proofs.range.outside.Statement.{statement}
 use Rattle.config.proofs.range.outside.Tie as tie
 
