@@ -41,7 +41,7 @@ enum sirmjold_refusal {
     SIRMJOLD_COMMAND_WORDS = 9,    /* SIZE is not 1 to 64 */
     SIRMJOLD_MALFORMED = 10,       /* a request or an error without its word */
     SIRMJOLD_REASON_NOT_ALLOWED = 11,
-    SIRMJOLD_SIZE_NOT_ALLOWED = 12, /* of a window, a history, a request ring or a step budget */
+    SIRMJOLD_SIZE_NOT_ALLOWED = 12, /* of a window, a history, a request ring or a step budget; a group above 15 */
     SIRMJOLD_INVALID_STATE = 13     /* words that no call has left, or arrays of a wrong length */
 };
 
@@ -92,8 +92,9 @@ enum sirmjold_class {
  * Commands are handed on as they arrive, so a late note-on can follow its own note-off. A pipe that is
  * held by it sounds on, with no loss reported and nothing missing. The rule for a chamber: a late
  * command releases notes and never holds one, and a reported loss, here or in an event, releases all
- * held notes, before the messages of the command that it came with. docs/CONTRACT.md says more, and
- * examples/c/console_and_chamber.c keeps to it. */
+ * held notes, before the messages of the command that it came with. The functions for held notes, at the
+ * end of this file, keep to it, and examples/c/console_and_chamber.c uses them. docs/CONTRACT.md says
+ * more. */
 struct sirmjold_delivery {
     uint8_t refusal;
     uint8_t class_;
@@ -420,6 +421,43 @@ struct sirmjold_report {
 struct sirmjold_report sirmjold_link_run(const uint32_t *cfg, size_t cfg_len, uint32_t window, size_t places,
                                          uint32_t seed, uint32_t drop, uint16_t figure, uint32_t budget,
                                          uint32_t *ring, size_t ring_len, uint32_t *other, size_t other_len);
+
+/* ---- held notes (archive libc_held_notes.a): which notes of one group a chamber sounds, by the rule above.
+ * A state is a value that only these functions make: give each call what the last one left. 12 in any call
+ * when the group is above 15; then nothing is changed and no note given. */
+
+struct sirmjold_held {
+    uint8_t group;     /* 0 to 15 */
+    uint64_t held[32]; /* note k is bit k % 64 of word k / 64 */
+};
+
+/* A note is its channel times 128 plus its note byte. The first `count` items, by channel, then note, each
+ * once; the rest is 0. */
+struct sirmjold_notes {
+    size_t count;
+    uint16_t items[2048];
+};
+
+struct sirmjold_given {
+    struct sirmjold_held state;
+    struct sirmjold_notes notes; /* on a loss or a restart, all that were held; else none */
+    uint8_t refusal;
+};
+
+/* No note is held. */
+struct sirmjold_given sirmjold_held_start(uint8_t group);
+
+/* A data command was answered so: refusal, class_ and lost_count of its sirmjold_delivery. `body` has the
+ * bytes of its words: after sirmjold_command_next, payload + next - 4 * len, and 4 * len of them. A refused
+ * command changes nothing, and a class that is neither 0 nor 1 is a duplicate's. */
+struct sirmjold_given sirmjold_held_delivered(struct sirmjold_held state, uint8_t refusal, uint8_t class_,
+                                              uint16_t lost, const uint8_t *body, size_t body_len);
+
+/* A poll, a Retransmit Error or a NAK was answered with an event of this kind. */
+struct sirmjold_given sirmjold_held_told(struct sirmjold_held state, uint8_t kind);
+
+/* The stream was started again. */
+struct sirmjold_given sirmjold_held_restarted(struct sirmjold_held state);
 
 #ifdef __cplusplus
 }

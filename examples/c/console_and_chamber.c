@@ -2,8 +2,9 @@
  * streams of the library; at the end each change that was played, a note-on or a note-off, was handed
  * on once, or its command's number lies in a reported loss.
  *
- * The chamber keeps to a rule, so that no pipe sounds on: a late command releases notes and never
- * holds one, since its release may already have come; a reported loss releases all held notes.
+ * So that no pipe sounds on, the chamber tells the library what its stream answered, which says which
+ * notes are held: a late command releases notes and never holds one, since its release may already
+ * have come; a reported loss releases all held notes.
  *
  * Built and run by tools/run_c_example; takes the generator's seed as an argument.
  */
@@ -47,7 +48,7 @@ static struct flying line[FLIGHT];
 static uint32_t random_state;
 static unsigned handed[CHANGES];   /* how often each change was handed on */
 static uint8_t lost[65536];        /* numbers in a reported loss */
-static uint8_t held[128];          /* the keys whose pipes sound */
+static struct sirmjold_held held;  /* the notes whose pipes sound */
 static unsigned sent_payloads, dropped_payloads, doubled_payloads, losses;
 static unsigned notes_held, late_ons, let_go;
 
@@ -97,39 +98,27 @@ static uint32_t change(unsigned n)
     return n % 2 ? 0x20800000u | key << 8 : 0x20900040u | key << 8;
 }
 
-/* How many keys are held. */
+/* How many notes are held: those that a restart would give. */
 static unsigned sounding(void)
 {
-    unsigned n = 0;
-    for (unsigned key = 0; key < 128; key++)
-        n += held[key];
-    return n;
+    return (unsigned)sirmjold_held_restarted(held).notes.count;
 }
 
-/* A loss: what it held may have been releases, so all notes are released. */
+/* What is held now; the notes that are given, on a loss, are silenced. */
+static void keep(struct sirmjold_given given)
+{
+    if (given.refusal)
+        fail("held notes", given.refusal);
+    held = given.state;
+    let_go += (unsigned)given.notes.count;
+}
+
+/* A loss: its numbers. */
 static void report(uint16_t first, uint16_t count)
 {
-    if (!count)
-        return;
-    losses++;
+    losses += count != 0;
     for (unsigned k = 0; k < count; k++)
         lost[(uint16_t)(first + k)] = 1;
-    let_go += sounding();
-    memset(held, 0, sizeof held);
-}
-
-/* What the chamber does with a message; one that comes late holds nothing. */
-static void sound(uint32_t word, int late)
-{
-    uint32_t key = word >> 8 & 0x7F;
-    if ((word >> 20 & 0xF) == 8 || (word & 0x7F) == 0) {
-        held[key] = 0;
-    } else if (late) {
-        late_ons++;
-    } else {
-        held[key] = 1;
-        notes_held++;
-    }
 }
 
 /* The chamber hands on the messages of a data command. */
@@ -139,7 +128,8 @@ static void hand_on(const uint32_t *words, const uint8_t *lens, size_t count, ui
         if (seq >= CHANGES || words[at] != change(seq))
             fail("a change in another command than its own", seq);
         handed[seq]++;
-        sound(words[at], late);
+        if (seq % 2 == 0)
+            *(late ? &late_ons : &notes_held) += 1;
     }
 }
 
@@ -196,7 +186,10 @@ static void arrive(struct flying *f, uint64_t now)
                 e->words, SIRMJOLD_STREAM_WORDS, cfg, SIRMJOLD_SETTINGS, now, c.seq);
             if (d.refusal)
                 fail("on_ump_data", d.refusal);
-            report(d.lost_first, d.lost_count); /* before the messages of the same command */
+            size_t len = 4 * (size_t)c.len;
+            keep(sirmjold_held_delivered(held, d.refusal, d.class_, d.lost_count,
+                                         f->bytes + c.next - len, len));
+            report(d.lost_first, d.lost_count);
             if (d.class_ != SIRMJOLD_DUPLICATE)
                 hand_on(words, lens, c.count, c.seq, d.class_ == SIRMJOLD_LATE);
         } else if (c.kind == SIRMJOLD_READ_REQUEST) {
@@ -212,6 +205,7 @@ static void arrive(struct flying *f, uint64_t now)
                 e->words, SIRMJOLD_STREAM_WORDS, c.code, c.seq);
             if (v.refusal)
                 fail("on_retransmit_error", v.refusal);
+            keep(sirmjold_held_told(held, v.kind));
             report(v.first, v.count);
         }
         at = (size_t)c.next;
@@ -292,6 +286,7 @@ int main(int argc, char **argv)
     printf("seed %" PRIu32 "\n", seed);
     start(&console);
     start(&chamber);
+    keep(sirmjold_held_start(0));
     refusals();
 
     for (uint64_t now = 0; now < 6000; now++) {
@@ -307,6 +302,7 @@ int main(int argc, char **argv)
                                                        SIRMJOLD_SETTINGS, now);
         if (v.refusal)
             fail("poll", v.refusal);
+        keep(sirmjold_held_told(held, v.kind));
         report(v.first, v.count);
         flush(&console, 1, now);
         flush(&chamber, 0, now);

@@ -2,12 +2,13 @@
 //! each change that was played, a note-on or a note-off, was handed on once, or its command's number lies
 //! in a reported loss.
 //!
-//! The chamber keeps to a rule, so that no pipe sounds on: a late command releases notes and never holds
-//! one, since its release may already have come; a reported loss releases all held notes.
+//! So that no pipe sounds on, the chamber tells the library what its stream answered, which says which
+//! notes are held: a late command releases notes and never holds one, since its release may already have
+//! come; a reported loss releases all held notes.
 //!
 //! Built and run by tools/run_rust_example; takes the generator's seed as an argument.
 use sirmjold::{
-    commands, Class, Command, Payload, Read, Reader, RequestOutcome, SeqRange, Stream,
+    commands, Class, Command, HeldNotes, Payload, Read, Reader, RequestOutcome, SeqRange, Stream,
     StreamConfig, StreamEvent,
 };
 
@@ -91,7 +92,7 @@ struct Book {
     handed: Vec<usize>,
     lost: Vec<bool>,
     reports: usize,
-    held: [bool; 128],
+    held: HeldNotes,
     notes_held: usize,
     late_ons: usize,
     let_go: usize,
@@ -99,29 +100,33 @@ struct Book {
 
 impl Book {
     fn sounding(&self) -> usize {
-        self.held.iter().filter(|h| **h).count()
+        self.held.notes().count()
     }
 
-    /// A loss: what it held may have been releases, so all notes are released.
+    /// A loss: its numbers.
     fn report(&mut self, range: SeqRange) {
         self.reports += 1;
         for k in 0..range.count {
             self.lost[usize::from(range.first.wrapping_add(k))] = true;
         }
-        self.let_go += self.sounding();
-        self.held = [false; 128];
     }
 
-    /// What the chamber does with a message; one that comes late holds nothing.
-    fn sound(&mut self, word: u32, class: Class) {
-        let key = (word >> 8 & 0x7F) as usize;
-        if word >> 20 & 0xF == 8 || word & 0x7F == 0 {
-            self.held[key] = false;
-        } else if class == Class::Late {
-            self.late_ons += 1;
-        } else {
-            self.held[key] = true;
-            self.notes_held += 1;
+    /// A poll or a Retransmit Error was answered so.
+    fn told(&mut self, event: &StreamEvent) {
+        self.let_go += self.held.told(event).notes().count();
+        if let StreamEvent::DataLoss(range) | StreamEvent::ErrorLoss(range, _) = *event {
+            self.report(range);
+        }
+    }
+
+    /// A change was handed on.
+    fn hand_on(&mut self, n: usize, class: Class) {
+        self.handed[n] += 1;
+        if n % 2 == 0 {
+            match class {
+                Class::Late => self.late_ons += 1,
+                _ => self.notes_held += 1,
+            }
         }
     }
 }
@@ -187,7 +192,7 @@ fn arrive(
         match command {
             Command::UmpData(seq, messages) => {
                 let delivery = end.on_ump_data(cfg, now, seq).unwrap();
-                // before the messages of the same command
+                book.let_go += book.held.delivered(&delivery, &messages).notes().count();
                 if let Some(range) = delivery.lost {
                     book.report(range);
                 }
@@ -199,8 +204,7 @@ fn arrive(
                             [change(n)],
                             "a change in another command than its own"
                         );
-                        book.handed[n] += 1;
-                        book.sound(m.words()[0], delivery.class);
+                        book.hand_on(n, delivery.class);
                     }
                 }
             }
@@ -212,12 +216,7 @@ fn arrive(
                     line.put(true, now, payload.bytes());
                 }
             }
-            Command::RetransmitError(err) => match end.on_retransmit_error(err).unwrap() {
-                StreamEvent::DataLoss(range) | StreamEvent::ErrorLoss(range, _) => {
-                    book.report(range)
-                }
-                StreamEvent::Nothing | StreamEvent::RetransmitError(_) => (),
-            },
+            Command::RetransmitError(err) => book.told(&end.on_retransmit_error(err).unwrap()),
             other => panic!("a command that nobody wrote: {other:?}"),
         }
     }
@@ -243,7 +242,7 @@ fn main() {
         handed: vec![0; CHANGES],
         lost: vec![false; 65536],
         reports: 0,
-        held: [false; 128],
+        held: HeldNotes::start(0).unwrap(),
         notes_held: 0,
         late_ons: 0,
         let_go: 0,
@@ -255,9 +254,7 @@ fn main() {
             console.send_ump(&cfg, &[change(played)]).unwrap();
             played += 1;
         }
-        if let StreamEvent::DataLoss(range) = chamber.poll(&cfg, now).unwrap() {
-            book.report(range);
-        }
+        book.told(&chamber.poll(&cfg, now).unwrap());
         flush(&mut console, &cfg, true, now, &mut line);
         flush(&mut chamber, &cfg, false, now, &mut line);
         for f in line.arrived(now) {

@@ -2,8 +2,8 @@
 //! (`include/sirmjold.h`). All memory is the caller's; nothing is allocated.
 //!
 //! [`Stream`] has both ends of a stream, [`Payload`] writes payloads, [`commands`] reads them, and
-//! [`Window`] is a receive window alone. [`Load`] makes words to send from a seed, and [`Line`] tries
-//! settings on a pretend link. Times are the caller's, in ms.
+//! [`Window`] is a receive window alone. [`HeldNotes`] says which notes a chamber sounds. [`Load`] makes
+//! words to send from a seed, and [`Line`] tries settings on a pretend link. Times are the caller's, in ms.
 //!
 //! # So that no pipe sounds on
 //!
@@ -11,8 +11,8 @@
 //! that is held by it sounds on, with no loss reported and nothing missing. The rule for a chamber: a
 //! late command releases notes and never holds one, and a reported loss ([`Delivery::lost`],
 //! [`StreamEvent::DataLoss`], [`StreamEvent::ErrorLoss`]) releases all held notes, before the messages of
-//! the command that it came with. The example `console_and_chamber` keeps to it; `docs/CONTRACT.md` says
-//! more, and what is promised of delivery.
+//! the command that it came with. [`HeldNotes`] keeps to it, by proof, and the example
+//! `console_and_chamber` uses it; `docs/CONTRACT.md` says more, and what is promised of delivery.
 #![no_std]
 #![warn(missing_docs)]
 
@@ -43,7 +43,7 @@ pub enum Refusal {
     Malformed,
     /// A reason that is not in the table of its command.
     ReasonNotAllowed,
-    /// A window, history, request ring or step budget of a size that is not taken.
+    /// A window, history, request ring or step budget of a size that is not taken, or a group above 15.
     SizeNotAllowed,
     /// A state that no call has left.
     InvalidState,
@@ -1071,5 +1071,109 @@ impl Line {
             handed: r.handed,
             losses: r.losses,
         })
+    }
+}
+
+/// The held notes of one group: which notes a chamber sounds, so that a loss or a restart silences them
+/// and no pipe sounds on. It is told what the stream answers.
+///
+/// ```
+/// use sirmjold::{commands, Class, Command, Delivery, HeldNotes};
+/// let mut held = HeldNotes::start(0).unwrap();
+/// let new = Delivery { class: Class::New(0), gap: None, lost: None };
+/// for command in commands(b"MIDI\xFF\x01\0\0\x20\x90\x3C\x40").unwrap() {
+///     let Command::UmpData(_, messages) = command else { continue };
+///     held.delivered(&new, &messages);
+/// }
+/// assert!(held.holds(0, 0x3C));
+/// assert!(held.restarted().notes().eq([(0, 0x3C)]));
+/// assert!(held.notes().next().is_none());
+/// assert!(HeldNotes::start(16).is_err());
+/// ```
+#[derive(Debug, Clone, Copy, PartialEq, Eq)]
+pub struct HeldNotes {
+    state: raw::Held,
+}
+
+/// Notes that were held until a loss or a restart, by channel, then note, each once.
+#[derive(Debug, Clone, Copy, PartialEq, Eq)]
+pub struct GivenNotes {
+    notes: raw::Notes,
+}
+
+impl GivenNotes {
+    /// Each as its channel and its note.
+    pub fn notes(&self) -> impl Iterator<Item = (u8, u8)> + '_ {
+        self.notes
+            .items
+            .iter()
+            .take(self.notes.count)
+            .map(|&n| ((n / 128) as u8, (n % 128) as u8))
+    }
+}
+
+impl HeldNotes {
+    /// No note of the group is held; refused when it is above 15.
+    pub fn start(group: u8) -> Result<HeldNotes, Refusal> {
+        // SAFETY: the function takes values alone.
+        let given = unsafe { raw::sirmjold_held_start(group) };
+        Refusal::check(given.refusal)?;
+        Ok(HeldNotes { state: given.state })
+    }
+
+    // A group that was started is never refused.
+    fn after(&mut self, given: raw::Given) -> GivenNotes {
+        self.state = given.state;
+        GivenNotes { notes: given.notes }
+    }
+
+    /// Whether a note is held, by its channel and its note; none is above 15 or 127.
+    pub fn holds(&self, channel: u8, note: u8) -> bool {
+        let k = usize::from(channel % 16) * 128 + usize::from(note % 128);
+        channel < 16 && note < 128 && self.state.held[k / 64] >> (k % 64) & 1 == 1
+    }
+
+    /// The notes that are held, by channel, then note.
+    pub fn notes(&self) -> impl Iterator<Item = (u8, u8)> + '_ {
+        (0..16)
+            .flat_map(|channel| (0..128).map(move |note| (channel, note)))
+            .filter(|&(channel, note)| self.holds(channel, note))
+    }
+
+    /// A data command with these messages was answered so: a loss first, then all of its messages. The
+    /// notes that the loss silences.
+    pub fn delivered(&mut self, delivery: &Delivery, messages: &Messages<'_>) -> GivenNotes {
+        let class = match delivery.class {
+            Class::New(_) => 0,
+            Class::Late => 1,
+            Class::Duplicate => 2,
+        };
+        let lost = delivery.lost.map_or(0, |range| range.count);
+        let body = messages.body;
+        // SAFETY: `body` is a slice, and the function reads it alone.
+        let given = unsafe {
+            raw::sirmjold_held_delivered(self.state, 0, class, lost, body.as_ptr(), body.len())
+        };
+        self.after(given)
+    }
+
+    /// A poll, a Retransmit Error or a NAK was answered so. The notes that a loss silences.
+    pub fn told(&mut self, event: &StreamEvent) -> GivenNotes {
+        let kind = match event {
+            StreamEvent::Nothing => 0,
+            StreamEvent::DataLoss(_) => 1,
+            StreamEvent::ErrorLoss(_, _) => 2,
+            StreamEvent::RetransmitError(_) => 3,
+        };
+        // SAFETY: the function takes values alone.
+        let given = unsafe { raw::sirmjold_held_told(self.state, kind) };
+        self.after(given)
+    }
+
+    /// The stream was started again. The notes that this silences.
+    pub fn restarted(&mut self) -> GivenNotes {
+        // SAFETY: the function takes values alone.
+        let given = unsafe { raw::sirmjold_held_restarted(self.state) };
+        self.after(given)
     }
 }

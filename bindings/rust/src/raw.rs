@@ -143,6 +143,27 @@ pub struct Report {
     pub refusal: u8,
 }
 
+#[repr(C)]
+#[derive(Debug, Clone, Copy, PartialEq, Eq)]
+pub struct Held {
+    pub group: u8,
+    pub held: [u64; 32],
+}
+
+#[repr(C)]
+#[derive(Debug, Clone, Copy, PartialEq, Eq)]
+pub struct Notes {
+    pub count: usize,
+    pub items: [u16; 2048],
+}
+
+#[repr(C)]
+pub struct Given {
+    pub state: Held,
+    pub notes: Notes,
+    pub refusal: u8,
+}
+
 extern "C" {
     pub fn sirmjold_stream_new(
         s: *mut u64,
@@ -317,4 +338,15 @@ extern "C" {
         other: *mut u32,
         other_len: usize,
     ) -> Report;
+    pub fn sirmjold_held_start(group: u8) -> Given;
+    pub fn sirmjold_held_delivered(
+        held: Held,
+        refusal: u8,
+        class: u8,
+        lost_count: u16,
+        body: *const u8,
+        body_len: usize,
+    ) -> Given;
+    pub fn sirmjold_held_told(held: Held, kind: u8) -> Given;
+    pub fn sirmjold_held_restarted(held: Held) -> Given;
 }

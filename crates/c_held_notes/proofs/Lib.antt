@@ -1,0 +1,2 @@
+-- The tests of the numbers, one after the other.
+mod Numbers

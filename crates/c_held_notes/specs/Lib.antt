@@ -1,0 +1,2 @@
+-- The numbers of the C functions.
+pub mod Numbers

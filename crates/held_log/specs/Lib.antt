@@ -1,0 +1,3 @@
+-- What the receiver's promise and the contract sentence say of held notes.
+pub mod Log
+pub mod Theorems

@@ -1,0 +1,2 @@
+-- Why a message is what it is said to be.
+mod Notes

@@ -1,0 +1,2 @@
+-- What one message does to the notes of a group.
+pub mod Notes
