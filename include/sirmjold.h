@@ -42,7 +42,8 @@ enum sirmjold_refusal {
     SIRMJOLD_MALFORMED = 10,       /* a request or an error without its word */
     SIRMJOLD_REASON_NOT_ALLOWED = 11,
     SIRMJOLD_SIZE_NOT_ALLOWED = 12, /* of a window, a history, a request ring or a step budget; a group above 15 */
-    SIRMJOLD_INVALID_STATE = 13     /* words that no call has left, or arrays of a wrong length */
+    SIRMJOLD_INVALID_STATE = 13,    /* words that no call has left, or arrays of a wrong length */
+    SIRMJOLD_DIVISIONS_NOT_ALLOWED = 18 /* none, more than 8, or a turn that is not one of them */
 };
 
 /* The settings, by place: an array of SIRMJOLD_SETTINGS words. Each call that is given them tests them
@@ -458,6 +459,26 @@ struct sirmjold_given sirmjold_held_told(struct sirmjold_held state, uint8_t kin
 
 /* The stream was started again. */
 struct sirmjold_given sirmjold_held_restarted(struct sirmjold_held state);
+
+/* ---- one uplink for up to eight divisions (archive libc_uplink.a): how many words of a step each of
+ * them is granted. No state but the turn, which the caller keeps, at first 0. */
+
+#define SIRMJOLD_DIVISIONS_MAX 8
+
+/* Grants come by value, in division order; places past the last division are 0. Where the call is
+ * refused all of them are 0, and `turn` is the one that was given. */
+struct sirmjold_grants {
+    uint16_t grants[SIRMJOLD_DIVISIONS_MAX];
+    uint16_t turn; /* of the next step */
+    uint8_t refusal;
+};
+
+/* A step with `words` words to grant to `wants_len` divisions, each of which wants some: first the
+ * smaller of its want and `words` divided by the number of divisions, rounded down; what is left goes
+ * round from the turn on, each division taking all it still wants. 18 for no divisions, more than 8, or
+ * a turn that is not one of them. */
+struct sirmjold_grants sirmjold_uplink_grant(uint16_t words, uint16_t turn, const uint16_t *wants,
+                                             size_t wants_len);
 
 #ifdef __cplusplus
 }

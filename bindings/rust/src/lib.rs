@@ -2,8 +2,9 @@
 //! (`include/sirmjold.h`). All memory is the caller's; nothing is allocated.
 //!
 //! [`Stream`] has both ends of a stream, [`Payload`] writes payloads, [`commands`] reads them, and
-//! [`Window`] is a receive window alone. [`HeldNotes`] says which notes a chamber sounds. [`Load`] makes
-//! words to send from a seed, and [`Line`] tries settings on a pretend link. Times are the caller's, in ms.
+//! [`Window`] is a receive window alone. [`HeldNotes`] says which notes a chamber sounds, and [`Uplink`]
+//! shares an uplink out to divisions. [`Load`] makes words to send from a seed, and [`Line`] tries
+//! settings on a pretend link. Times are the caller's, in ms.
 //!
 //! # So that no pipe sounds on
 //!
@@ -47,6 +48,8 @@ pub enum Refusal {
     SizeNotAllowed,
     /// A state that no call has left.
     InvalidState,
+    /// No divisions of an uplink, more than eight, or a turn that is not one of them.
+    DivisionsNotAllowed,
 }
 
 impl Refusal {
@@ -65,6 +68,7 @@ impl Refusal {
             10 => Refusal::Malformed,
             11 => Refusal::ReasonNotAllowed,
             12 => Refusal::SizeNotAllowed,
+            18 => Refusal::DivisionsNotAllowed,
             _ => Refusal::InvalidState,
         })
     }
@@ -1175,5 +1179,65 @@ impl HeldNotes {
         // SAFETY: the function takes values alone.
         let given = unsafe { raw::sirmjold_held_restarted(self.state) };
         self.after(given)
+    }
+}
+
+/// One uplink for up to eight divisions: how many words of a step each of them is granted.
+///
+/// ```
+/// let mut uplink = sirmjold::Uplink::starting_at(2);
+/// assert_eq!(uplink.grant(100, &[10, 50, 60]).unwrap().grants(), [10, 33, 57]);
+/// assert_eq!(uplink.turn(), 0);
+/// assert_eq!(uplink.grant(100, &[10, 50, 60]).unwrap().grants(), [10, 50, 40]);
+/// assert_eq!(uplink.grant(100, &[]), Err(sirmjold::Refusal::DivisionsNotAllowed));
+/// assert_eq!(uplink.turn(), 1);
+/// ```
+#[derive(Debug, Clone, Copy, PartialEq, Eq, Default)]
+pub struct Uplink {
+    turn: u16,
+}
+
+/// What a step granted to 1 to 8 divisions.
+#[derive(Debug, Clone, Copy, PartialEq, Eq)]
+pub struct Grants {
+    grants: [u16; 8],
+    divisions: usize,
+}
+
+impl Grants {
+    /// The words of each division, in their order.
+    pub fn grants(&self) -> &[u16] {
+        &self.grants[..self.divisions]
+    }
+}
+
+impl Uplink {
+    /// An uplink before its first step: the turn is division 0's.
+    pub fn new() -> Uplink {
+        Uplink::default()
+    }
+
+    /// An uplink whose next step is this division's turn.
+    pub fn starting_at(turn: u16) -> Uplink {
+        Uplink { turn }
+    }
+
+    /// Whose turn the next step is.
+    pub fn turn(&self) -> u16 {
+        self.turn
+    }
+
+    /// A step with `words` words to grant to as many divisions as there are wants. First each has the
+    /// smaller of its want and an equal share, rounded down; what is left goes round from the turn on.
+    pub fn grant(&mut self, words: u16, wants: &[u16]) -> Result<Grants, Refusal> {
+        // SAFETY: the function reads the wants alone, which are lent with their length.
+        let step =
+            unsafe { raw::sirmjold_uplink_grant(words, self.turn, wants.as_ptr(), wants.len()) };
+        Refusal::check(step.refusal)?;
+        self.turn = step.turn;
+        Ok(Grants {
+            grants: step.grants,
+            divisions: wants.len().min(step.grants.len()),
+        })
     }
 }

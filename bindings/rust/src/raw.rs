@@ -164,6 +164,13 @@ pub struct Given {
     pub refusal: u8,
 }
 
+#[repr(C)]
+pub struct Granted {
+    pub grants: [u16; 8],
+    pub turn: u16,
+    pub refusal: u8,
+}
+
 extern "C" {
     pub fn sirmjold_stream_new(
         s: *mut u64,
@@ -349,4 +356,10 @@ extern "C" {
     ) -> Given;
     pub fn sirmjold_held_told(held: Held, kind: u8) -> Given;
     pub fn sirmjold_held_restarted(held: Held) -> Given;
+    pub fn sirmjold_uplink_grant(
+        words: u16,
+        turn: u16,
+        wants: *const u16,
+        wants_len: usize,
+    ) -> Granted;
 }

@@ -29,6 +29,8 @@ pub enum Refusal {
     SizeNotAllowed,
     // A state that no call has left.
     InvalidState,
+    // No divisions of an uplink, more than eight, or a turn that is not one of them.
+    DivisionsNotAllowed,
 }
 
 impl Refusal {
@@ -49,6 +51,7 @@ impl Refusal {
             Refusal::ReasonNotAllowed => 11,
             Refusal::SizeNotAllowed => 12,
             Refusal::InvalidState => 13,
+            Refusal::DivisionsNotAllowed => 18,
         }
     }
 }

@@ -1,0 +1,2 @@
+-- A step of the uplink as numbers.
+pub mod Numbers
