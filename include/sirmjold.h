@@ -41,8 +41,10 @@ enum sirmjold_refusal {
     SIRMJOLD_COMMAND_WORDS = 9,    /* SIZE is not 1 to 64 */
     SIRMJOLD_MALFORMED = 10,       /* a request or an error without its word */
     SIRMJOLD_REASON_NOT_ALLOWED = 11,
-    SIRMJOLD_SIZE_NOT_ALLOWED = 12, /* of a window, a history, a request ring or a step budget; a group above 15 */
+    SIRMJOLD_SIZE_NOT_ALLOWED = 12, /* of a window, a history, a request ring, a step budget or a loss sheet; a group above 15 */
     SIRMJOLD_INVALID_STATE = 13,    /* words that no call has left, or arrays of a wrong length */
+    SIRMJOLD_INVALID_BLOCK = 16,    /* of a loss sheet: not whole records, or over 65536 bytes or the output */
+    SIRMJOLD_INVALID_RECORD = 17,   /* of a loss sheet: a class above 2, or a zero byte that is not zero */
     SIRMJOLD_DIVISIONS_NOT_ALLOWED = 18 /* none, more than 8, or a turn that is not one of them */
 };
 
@@ -479,6 +481,45 @@ struct sirmjold_grants {
  * a turn that is not one of them. */
 struct sirmjold_grants sirmjold_uplink_grant(uint16_t words, uint16_t turn, const uint16_t *wants,
                                              size_t wants_len);
+
+/* ---- the loss sheet (archive libc_sheet.a): figures over the last `n` arrivals of a file, and its blocks
+ * stored by column. A file is records of 16 bytes, big-endian: time (8), number (2), class (1: 0 New,
+ * 1 Late, 2 Duplicate), a zero, loss count (2), loss first (2). A block is whole records, at most
+ * SIRMJOLD_SHEET_BLOCK bytes. A call that is refused changes nothing. */
+
+#define SIRMJOLD_SHEET_RECORD 16
+#define SIRMJOLD_SHEET_BLOCK 65536
+#define SIRMJOLD_SHEET_ARRIVALS 4096
+
+/* With a ring of `n` words, which the caller lends to each call: both are written by these calls alone. */
+struct sirmjold_sheet {
+    size_t n;    /* how many arrivals the figures go over, 1 to 4096 */
+    size_t head; /* the place of the oldest word held; 0 until `n` are held */
+    size_t len;  /* how many words are held */
+};
+
+/* The sheet after a call, as it was where the call was refused. */
+struct sirmjold_sheet_answer {
+    struct sirmjold_sheet sheet;
+    uint8_t refusal;
+};
+
+/* No arrivals yet, and the whole of `ring` zeroed. 12 when `n` is not 1 to 4096, or not `ring_len`. */
+struct sirmjold_sheet_answer sirmjold_sheet_start(size_t n, uint32_t *ring, size_t ring_len);
+
+/* The figures of each record, 16 bytes in `out`: how many of the last `n` arrivals, this one included,
+ * are New, Late and Duplicate, and the sum of their loss counts, four bytes each, big-endian; over all
+ * while there are fewer. They run on from block to block. Bytes of `out` past the block's length stay.
+ * 12 when `n` is not 1 to 4096, then 13 for a sheet and ring that no calls have left, then 16, then 17. */
+struct sirmjold_sheet_answer sirmjold_sheet_block(struct sirmjold_sheet sheet, uint32_t *ring,
+                                                  size_t ring_len, const uint8_t *block,
+                                                  size_t block_len, uint8_t *out, size_t out_len);
+
+/* A block by column: the first bytes of all records, then their second. Answers 0 or 16. */
+uint8_t sirmjold_sheet_columns(const uint8_t *block, size_t block_len, uint8_t *out, size_t out_len);
+
+/* The block of which `stored` holds the columns: the inverse. Answers 0 or 16. */
+uint8_t sirmjold_sheet_restore(const uint8_t *stored, size_t stored_len, uint8_t *out, size_t out_len);
 
 #ifdef __cplusplus
 }

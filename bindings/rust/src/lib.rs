@@ -4,7 +4,8 @@
 //! [`Stream`] has both ends of a stream, [`Payload`] writes payloads, [`commands`] reads them, and
 //! [`Window`] is a receive window alone. [`HeldNotes`] says which notes a chamber sounds, and [`Uplink`]
 //! shares an uplink out to divisions. [`Load`] makes words to send from a seed, and [`Line`] tries
-//! settings on a pretend link. Times are the caller's, in ms.
+//! settings on a pretend link. [`Sheet`] works figures out over the last arrivals of a file, and
+//! [`columns`] stores its blocks. Times are the caller's, in ms.
 //!
 //! # So that no pipe sounds on
 //!
@@ -44,10 +45,14 @@ pub enum Refusal {
     Malformed,
     /// A reason that is not in the table of its command.
     ReasonNotAllowed,
-    /// A window, history, request ring or step budget of a size that is not taken, or a group above 15.
+    /// A window, history, request ring, step budget or loss sheet of a size that is not taken, or a group above 15.
     SizeNotAllowed,
     /// A state that no call has left.
     InvalidState,
+    /// A block of a loss sheet that is not whole records, or longer than 65,536 bytes or its output.
+    InvalidBlock,
+    /// A record of a loss sheet with a class above 2, or with a zero byte that is not zero.
+    InvalidRecord,
     /// No divisions of an uplink, more than eight, or a turn that is not one of them.
     DivisionsNotAllowed,
 }
@@ -68,6 +73,8 @@ impl Refusal {
             10 => Refusal::Malformed,
             11 => Refusal::ReasonNotAllowed,
             12 => Refusal::SizeNotAllowed,
+            16 => Refusal::InvalidBlock,
+            17 => Refusal::InvalidRecord,
             18 => Refusal::DivisionsNotAllowed,
             _ => Refusal::InvalidState,
         })
@@ -1240,4 +1247,73 @@ impl Uplink {
             divisions: wants.len().min(step.grants.len()),
         })
     }
+}
+
+/// Figures over the last `n` arrivals of a file of 16-byte records (`include/sirmjold.h` has their form),
+/// which run on from block to block.
+///
+/// ```
+/// let mut ring = [0; 2];
+/// let mut sheet = sirmjold::Sheet::start(&mut ring).unwrap();
+/// let mut record = [0; 16];
+/// record[13] = 3; // New, with a loss of 3
+/// let mut out = [0; 16];
+/// for sum in [3, 6, 6] {
+///     sheet.block(&record, &mut out).unwrap();
+///     assert_eq!(out[12..], [0, 0, 0, sum]);
+/// }
+/// assert_eq!(sheet.block(&record[1..], &mut out), Err(sirmjold::Refusal::InvalidBlock));
+/// ```
+#[derive(Debug)]
+pub struct Sheet<'a> {
+    state: raw::Sheet,
+    ring: &'a mut [u32],
+}
+
+impl<'a> Sheet<'a> {
+    /// No arrivals yet. The figures go over as many as the ring has words, 1 to 4,096.
+    pub fn start(ring: &'a mut [u32]) -> Result<Sheet<'a>, Refusal> {
+        // SAFETY: the pointer and the length are of one slice. So below.
+        let a = unsafe { raw::sirmjold_sheet_start(ring.len(), ring.as_mut_ptr(), ring.len()) };
+        Refusal::check(a.refusal)?;
+        Ok(Sheet {
+            state: a.sheet,
+            ring,
+        })
+    }
+
+    /// The figures of each record, 16 bytes of `out`: how many of the last `n` arrivals are New, Late and
+    /// Duplicate, and the sum of their loss counts, big-endian. A block that is refused is no arrival.
+    pub fn block(&mut self, block: &[u8], out: &mut [u8]) -> Result<(), Refusal> {
+        // SAFETY: as in `start`; the three slices are borrowed apart.
+        let a = unsafe {
+            raw::sirmjold_sheet_block(
+                self.state,
+                self.ring.as_mut_ptr(),
+                self.ring.len(),
+                block.as_ptr(),
+                block.len(),
+                out.as_mut_ptr(),
+                out.len(),
+            )
+        };
+        self.state = a.sheet;
+        Refusal::check(a.refusal)
+    }
+}
+
+/// A block of records by column: the first bytes of all, then their second.
+pub fn columns(block: &[u8], out: &mut [u8]) -> Result<(), Refusal> {
+    // SAFETY: each pointer and its length are of one slice.
+    Refusal::check(unsafe {
+        raw::sirmjold_sheet_columns(block.as_ptr(), block.len(), out.as_mut_ptr(), out.len())
+    })
+}
+
+/// The block of which `stored` holds the columns: the inverse of [`columns`].
+pub fn restore(stored: &[u8], out: &mut [u8]) -> Result<(), Refusal> {
+    // SAFETY: as in `columns`.
+    Refusal::check(unsafe {
+        raw::sirmjold_sheet_restore(stored.as_ptr(), stored.len(), out.as_mut_ptr(), out.len())
+    })
 }

@@ -171,6 +171,20 @@ pub struct Granted {
     pub refusal: u8,
 }
 
+#[repr(C)]
+#[derive(Debug, Clone, Copy)]
+pub struct Sheet {
+    pub n: usize,
+    pub head: usize,
+    pub len: usize,
+}
+
+#[repr(C)]
+pub struct SheetAnswer {
+    pub sheet: Sheet,
+    pub refusal: u8,
+}
+
 extern "C" {
     pub fn sirmjold_stream_new(
         s: *mut u64,
@@ -362,4 +376,26 @@ extern "C" {
         wants: *const u16,
         wants_len: usize,
     ) -> Granted;
+    pub fn sirmjold_sheet_start(n: usize, ring: *mut u32, ring_len: usize) -> SheetAnswer;
+    pub fn sirmjold_sheet_block(
+        sheet: Sheet,
+        ring: *mut u32,
+        ring_len: usize,
+        block: *const u8,
+        block_len: usize,
+        out: *mut u8,
+        out_len: usize,
+    ) -> SheetAnswer;
+    pub fn sirmjold_sheet_columns(
+        block: *const u8,
+        block_len: usize,
+        out: *mut u8,
+        out_len: usize,
+    ) -> u8;
+    pub fn sirmjold_sheet_restore(
+        stored: *const u8,
+        stored_len: usize,
+        out: *mut u8,
+        out_len: usize,
+    ) -> u8;
 }

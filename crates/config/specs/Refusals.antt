@@ -1,7 +1,7 @@
 -- 01, "Numbers of each operation": the number of each refusal. From 14 on the numbers are 02's.
 use Prim.Native.Nat.{ℕ}
 use Rattle.config.specs.declared.refusal.Refusal.{Refusal}
-use Rattle.config.specs.declared.refusal.Refusal.the-variants.{BadSignature, Overflow, TooLarge, InvalidValue, InvalidUmpData, Full, IdleInterval, IdleGrowth, CommandWords, Malformed, ReasonNotAllowed, SizeNotAllowed, InvalidState, DivisionsNotAllowed}
+use Rattle.config.specs.declared.refusal.Refusal.the-variants.{BadSignature, Overflow, TooLarge, InvalidValue, InvalidUmpData, Full, IdleInterval, IdleGrowth, CommandWords, Malformed, ReasonNotAllowed, SizeNotAllowed, InvalidState, InvalidBlock, InvalidRecord, DivisionsNotAllowed}
 
 abbrev pub numberOf : Refusal → ℕ
 numberOf BadSignature = 1
@@ -17,4 +17,6 @@ numberOf Malformed = 10
 numberOf ReasonNotAllowed = 11
 numberOf SizeNotAllowed = 12
 numberOf InvalidState = 13
+numberOf InvalidBlock = 16
+numberOf InvalidRecord = 17
 numberOf DivisionsNotAllowed = 18

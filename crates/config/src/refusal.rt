@@ -25,10 +25,14 @@ pub enum Refusal {
     Malformed,
     // A reason that is not in the table of its command.
     ReasonNotAllowed,
-    // A window, history or request ring of a size that is not taken.
+    // A window, history, request ring or loss sheet of a size that is not taken.
     SizeNotAllowed,
     // A state that no call has left.
     InvalidState,
+    // A block of a loss sheet that is not whole records, or longer than 65,536 bytes or its output.
+    InvalidBlock,
+    // A record of a loss sheet with a class above 2, or with a zero byte that is not zero.
+    InvalidRecord,
     // No divisions of an uplink, more than eight, or a turn that is not one of them.
     DivisionsNotAllowed,
 }
@@ -51,6 +55,8 @@ impl Refusal {
             Refusal::ReasonNotAllowed => 11,
             Refusal::SizeNotAllowed => 12,
             Refusal::InvalidState => 13,
+            Refusal::InvalidBlock => 16,
+            Refusal::InvalidRecord => 17,
             Refusal::DivisionsNotAllowed => 18,
         }
     }

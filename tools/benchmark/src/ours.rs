@@ -139,6 +139,7 @@ impl Side for Ours {
     type Window = [u64; 4];
     type Small = Ends<SMALL>;
     type Large = Ends<LARGE>;
+    type Sheet = (raw::Sheet, Vec<u32>);
 
     fn read(payload: &[u8]) -> u64 {
         commands(payload, |sum, seq, words, cut| messages(words, cut, fold(sum, seq.into())))
@@ -182,6 +183,21 @@ impl Side for Ours {
         };
         assert_eq!((r.refusal, r.steps), (0, steps));
         (r.handed, r.losses)
+    }
+
+    fn sheet(n: usize) -> Self::Sheet {
+        let mut ring = vec![0; n];
+        let started = unsafe { raw::sirmjold_sheet_start(n, ring.as_mut_ptr(), n) };
+        assert_eq!(started.refusal, 0);
+        (started.sheet, ring)
+    }
+
+    fn figures((sheet, ring): &mut Self::Sheet, block: &[u8], out: &mut [u8]) {
+        let a = unsafe {
+            raw::sirmjold_sheet_block(*sheet, ring.as_mut_ptr(), ring.len(), block.as_ptr(), block.len(), out.as_mut_ptr(), out.len())
+        };
+        assert_eq!(a.refusal, 0);
+        *sheet = a.sheet;
     }
 }
 

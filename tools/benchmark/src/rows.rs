@@ -23,6 +23,8 @@ pub struct Row {
 }
 
 const UNITS: u32 = 256;
+/// The records of a block, as many as a call takes.
+const RECORDS: u32 = 4096;
 
 /// A message of one word.
 fn note(n: u32) -> u32 {
@@ -398,6 +400,21 @@ fn link<S: Side>(figure: usize) -> Batch {
     })
 }
 
+/// The figures of a block of records over the last `n`.
+fn sheet<S: Side>(n: usize) -> Batch {
+    let mut sheet = S::sheet(n);
+    let mut block = vec![0; 16 * RECORDS as usize];
+    for (k, record) in block.chunks_exact_mut(16).enumerate() {
+        record[10] = (k % 7 % 3) as u8;
+        record[13] = (k % 11) as u8;
+    }
+    let mut out = vec![0; block.len()];
+    Box::new(move || {
+        S::figures(&mut sheet, black_box(&block[..]), &mut out);
+        out.chunks_exact(8).step_by(31).fold(0, |sum, b| fold(sum, u64::from_be_bytes(b.try_into().expect("8 bytes"))))
+    })
+}
+
 macro_rules! row {
     ($name:expr, $unit:literal, $series:expr, $make:ident, $size:expr) => {
         Row {
@@ -499,6 +516,11 @@ pub fn rows() -> Vec<Sized> {
     }
     for n in [1, 2, 4, 16, 256, 4096, 65535] {
         rows.push(row!(format!("a jump by draws, {n}"), "jump", Some(("draws", n)), draw, n));
+    }
+    for n in [1, 64, 4096] {
+        let mut figures = row!(format!("figures of a record by arrivals, {n}"), "record", Some(("arrivals", n)), sheet, n);
+        figures.row.units = RECORDS;
+        rows.push(figures);
     }
     rows
 }

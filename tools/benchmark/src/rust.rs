@@ -1,6 +1,7 @@
 //! The Rust's side. Each call is kept apart (`inline(never)`), as a program's calls are that come with packets and
 //! timers; what it calls is inlined into it as the compiler likes.
 use crate::side::{LARGE, LIMIT, PLACES, SMALL, Side, Stream, WINDOW, delivery, fold};
+use std::collections::VecDeque;
 use zmidi_net::command::{Command, Malformed, RetransmitError, RetransmitRequest, SeqNum, UmpData, UmpMessage, UmpMessages};
 use zmidi_net::packet::{CommandPackets, Header, MaxPayload, PacketItem, PayloadWriter, RawCommand, command_packets};
 use zmidi_net::stream::{Class, DataStream, Ignored, ReceiveWindow, RequestOutcome, SeqRange, StreamConfig, StreamEvent};
@@ -8,6 +9,13 @@ use zmidi_net::stream::{Class, DataStream, Ignored, ReceiveWindow, RequestOutcom
 const CFG: StreamConfig = StreamConfig::DEFAULT;
 
 pub struct Rust;
+
+/// A loss sheet as one would write it: the Rust has none.
+pub struct Sheet {
+    n: usize,
+    held: VecDeque<(u8, u16)>,
+    figures: [u32; 4],
+}
 
 pub struct Ends<const C: usize>(Box<DataStream<WINDOW, C, PLACES>>);
 
@@ -88,6 +96,7 @@ impl Side for Rust {
     type Window = ReceiveWindow<WINDOW>;
     type Small = Ends<SMALL>;
     type Large = Ends<LARGE>;
+    type Sheet = Sheet;
 
     #[inline(never)]
     fn read(payload: &[u8]) -> u64 {
@@ -157,6 +166,28 @@ impl Side for Rust {
             link.step(now.into(), load, line % 256 >= figure.into());
         }
         (link.handed, link.losses)
+    }
+
+    fn sheet(n: usize) -> Sheet {
+        Sheet { n, held: VecDeque::with_capacity(n), figures: [0; 4] }
+    }
+
+    #[inline(never)]
+    fn figures(sheet: &mut Sheet, block: &[u8], out: &mut [u8]) {
+        for (record, out) in block.chunks_exact(16).zip(out.chunks_exact_mut(16)) {
+            if sheet.held.len() == sheet.n {
+                let (class, lost) = sheet.held.pop_front().expect("n is not 0");
+                sheet.figures[usize::from(class)] -= 1;
+                sheet.figures[3] -= u32::from(lost);
+            }
+            let lost = u16::from_be_bytes([record[12], record[13]]);
+            sheet.held.push_back((record[10], lost));
+            sheet.figures[usize::from(record[10])] += 1;
+            sheet.figures[3] += u32::from(lost);
+            for (figure, to) in sheet.figures.iter().zip(out.chunks_exact_mut(4)) {
+                to.copy_from_slice(&figure.to_be_bytes());
+            }
+        }
     }
 }
 

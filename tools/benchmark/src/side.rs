@@ -20,6 +20,7 @@ pub trait Side: 'static {
     type Window: 'static;
     type Small: Stream + 'static;
     type Large: Stream + 'static;
+    type Sheet: 'static;
     /// The kinds of a payload's commands, the messages and their words.
     fn read(payload: &[u8]) -> u64;
     /// The same with each step a call that is kept apart, as the library's C functions are.
@@ -34,6 +35,9 @@ pub trait Side: 'static {
     fn drawn(seed: u32, n: u16) -> u32;
     /// A run of so many steps on the pretend link (02's 7/14), seeds 1 and 2: commands handed on and losses.
     fn link(figure: u16, steps: u32) -> (u32, u32);
+    /// The loss sheet (02's 10/14) over the last `n` arrivals, and the figures of a block of records.
+    fn sheet(n: usize) -> Self::Sheet;
+    fn figures(sheet: &mut Self::Sheet, block: &[u8], out: &mut [u8]);
 }
 
 pub const WINDOW: usize = 64;
