@@ -1,4 +1,5 @@
-/* Sirmjold: the data stream of Network MIDI 2.0 over UDP, with repeats and retransmits.
+/* Sirmjold: the data stream of Network MIDI 2.0 over UDP, with repeats and retransmits. Link with
+ * -lsirmjold: tools/library makes the archive, and a folder where CMake and pkg-config find it.
  *
  * All memory is the caller's. A stream is an array of SIRMJOLD_STREAM_WORDS words that only these
  * functions write; the send history is a second array, of 65 to 32768 words; a payload that is being
@@ -20,6 +21,13 @@
 #ifdef __cplusplus
 extern "C" {
 #endif
+
+/* While the first number is 0, a new second one can ask callers to change something, a new third one
+ * not. docs/CHANGELOG.md says what each brought. */
+#define SIRMJOLD_VERSION_MAJOR 0
+#define SIRMJOLD_VERSION_MINOR 1
+#define SIRMJOLD_VERSION_PATCH 0
+#define SIRMJOLD_VERSION "0.1.0"
 
 /* The words of a stream, of a payload, of a window alone, and of the settings. */
 #define SIRMJOLD_STREAM_WORDS 35
@@ -375,8 +383,8 @@ uint8_t sirmjold_window_mark_all(uint64_t *w, size_t w_len);
 struct sirmjold_span sirmjold_window_mark_range(uint64_t *w, size_t w_len, uint16_t first,
                                                 uint16_t count);
 
-/* ---- a load that can be made again (archive libc_load.a): values drawn from a seed, and what each of
- * them asks to send. Nothing is lent and nothing refused: any `last` is a seed. */
+/* ---- a load that can be made again: values drawn from a seed, and what each of them asks to send.
+ * Nothing is lent and nothing refused: any `last` is a seed. */
 
 struct sirmjold_load {
     uint32_t last; /* the last value drawn, at first the seed */
@@ -404,8 +412,8 @@ struct sirmjold_jumped sirmjold_load_jump(struct sirmjold_load load, uint16_t n)
  * its next three bits say. */
 struct sirmjold_asked sirmjold_load_words(struct sirmjold_load load);
 
-/* ---- a pretend link (archive libc_link.a), to try settings before a hire: a console, a line and a chamber in
- * steps of 1 ms. docs/LINK.md says what such a line is not. */
+/* ---- a pretend link, to try settings before a hire: a console, a line and a chamber in steps of 1 ms.
+ * docs/LINK.md says what such a line is not. */
 
 struct sirmjold_report {
     uint32_t steps;  /* done: the budget */
@@ -425,9 +433,9 @@ struct sirmjold_report sirmjold_link_run(const uint32_t *cfg, size_t cfg_len, ui
                                          uint32_t seed, uint32_t drop, uint16_t figure, uint32_t budget,
                                          uint32_t *ring, size_t ring_len, uint32_t *other, size_t other_len);
 
-/* ---- held notes (archive libc_held_notes.a): which notes of one group a chamber sounds, by the rule above.
- * A state is a value that only these functions make: give each call what the last one left. 12 in any call
- * when the group is above 15; then nothing is changed and no note given. */
+/* ---- held notes: which notes of one group a chamber sounds, by the rule above. A state is a value that
+ * only these functions make: give each call what the last one left. 12 in any call when the group is above
+ * 15; then nothing is changed and no note given. */
 
 struct sirmjold_held {
     uint8_t group;     /* 0 to 15 */
@@ -462,8 +470,8 @@ struct sirmjold_given sirmjold_held_told(struct sirmjold_held state, uint8_t kin
 /* The stream was started again. */
 struct sirmjold_given sirmjold_held_restarted(struct sirmjold_held state);
 
-/* ---- one uplink for up to eight divisions (archive libc_uplink.a): how many words of a step each of
- * them is granted. No state but the turn, which the caller keeps, at first 0. */
+/* ---- one uplink for up to eight divisions: how many words of a step each of them is granted. No state
+ * but the turn, which the caller keeps, at first 0. */
 
 #define SIRMJOLD_DIVISIONS_MAX 8
 
@@ -482,10 +490,10 @@ struct sirmjold_grants {
 struct sirmjold_grants sirmjold_uplink_grant(uint16_t words, uint16_t turn, const uint16_t *wants,
                                              size_t wants_len);
 
-/* ---- the loss sheet (archive libc_sheet.a): figures over the last `n` arrivals of a file, and its blocks
- * stored by column. A file is records of 16 bytes, big-endian: time (8), number (2), class (1: 0 New,
- * 1 Late, 2 Duplicate), a zero, loss count (2), loss first (2). A block is whole records, at most
- * SIRMJOLD_SHEET_BLOCK bytes. A call that is refused changes nothing. */
+/* ---- the loss sheet: figures over the last `n` arrivals of a file, and its blocks stored by column. A
+ * file is records of 16 bytes, big-endian: time (8), number (2), class (1: 0 New, 1 Late, 2 Duplicate), a
+ * zero, loss count (2), loss first (2). A block is whole records, at most SIRMJOLD_SHEET_BLOCK bytes. A
+ * call that is refused changes nothing. */
 
 #define SIRMJOLD_SHEET_RECORD 16
 #define SIRMJOLD_SHEET_BLOCK 65536

@@ -1,14 +1,21 @@
-//! Links `libcapi.a` and the products' archives, `libc_load.a`, `libc_link.a`, `libc_held_notes.a`, `libc_uplink.a`
-//! and `libc_sheet.a`, which `rt staticlib` writes to the repository's `target/staticlib`; `SIRMJOLD_LIB` names
-//! another folder.
+//! Links `libsirmjold.a`, which `tools/library` makes in the repository's `target/library/lib`; `SIRMJOLD_LIB` names
+//! another folder that has it.
+use std::env;
+use std::path::PathBuf;
+use std::process::exit;
+
 fn main() {
-    let here = std::env::var("CARGO_MANIFEST_DIR").unwrap();
-    let folder =
-        std::env::var("SIRMJOLD_LIB").unwrap_or_else(|_| format!("{here}/../../target/staticlib"));
     println!("cargo:rerun-if-env-changed=SIRMJOLD_LIB");
-    println!("cargo:rustc-link-search=native={folder}");
-    for archive in ["capi", "c_load", "c_link", "c_held_notes", "c_uplink", "c_sheet"] {
-        println!("cargo:rerun-if-changed={folder}/lib{archive}.a");
-        println!("cargo:rustc-link-lib=static={archive}");
+    let here = PathBuf::from(env::var_os("CARGO_MANIFEST_DIR").unwrap());
+    let named = env::var_os("SIRMJOLD_LIB");
+    let folder = here.join(named.unwrap_or_else(|| "../../target/library/lib".into()));
+    let archive = folder.join("libsirmjold.a");
+    println!("cargo:rerun-if-changed={}", archive.display());
+    if !archive.is_file() {
+        eprintln!("there is no {}", archive.display());
+        eprintln!("run tools/library, or set SIRMJOLD_LIB to the folder that has libsirmjold.a");
+        exit(1);
     }
+    println!("cargo:rustc-link-search=native={}", folder.display());
+    println!("cargo:rustc-link-lib=static=sirmjold");
 }

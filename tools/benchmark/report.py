@@ -88,7 +88,8 @@ def page(machine, rounds, rows, ours, same, rust):
     text = open(here + "/page.md").read()
     return text.format(
         machine=machine, rounds=rounds, table=table(plain), past=past(plain), growth=growth([r for r in rows if r["series"]]),
-        ours=sum(ours.values()), same=same, exports=sum(1 for n in ours if n.startswith("sirmjold_")), rust=sum(rust.values()),
+        ours=sum(sum(functions.values()) for functions in ours), same=same,
+        exports=sum(n.startswith("sirmjold_") for functions in ours for n in functions), rust=sum(rust.values()),
         stacks=stacks([r for r in plain if not r["name"].startswith("the same")]))
 
 

@@ -8,8 +8,8 @@
 //!
 //! Built and run by tools/run_rust_example; takes the generator's seed as an argument.
 use sirmjold::{
-    commands, Class, Command, HeldNotes, Payload, Read, Reader, RequestOutcome, SeqRange, Stream,
-    StreamConfig, StreamEvent,
+    Class, HeldNotes, Payload, Read, Reader, RequestOutcome, SeqRange, Stream, StreamConfig,
+    StreamEvent,
 };
 
 /// Note-ons and note-offs by turns.
@@ -20,6 +20,9 @@ const LIMIT: usize = 1400;
 const RING: usize = 65;
 /// When the line is dead, in ms.
 const OUT: std::ops::Range<u64> = 700..1000;
+
+/// A stream that holds its own history.
+type End = Stream<[u32; RING]>;
 
 /// A generator of 32 bits (xorshift).
 struct Random(u32);
@@ -132,10 +135,9 @@ impl Book {
 }
 
 /// Writes what an end has to write, payload by payload.
-fn flush(end: &mut Stream, cfg: &StreamConfig, to_chamber: bool, now: u64, line: &mut Line) {
+fn flush(end: &mut End, cfg: &StreamConfig, to_chamber: bool, now: u64, line: &mut Line) {
     while end.wants_write(now).unwrap() {
-        let mut buf = [0; LIMIT];
-        let mut payload = Payload::new(LIMIT, &mut buf).unwrap();
+        let mut payload = Payload::new(LIMIT, [0; LIMIT]).unwrap();
         let written = end.write_data(cfg, now, &mut payload).unwrap();
         if written.commands > 0 {
             line.put(to_chamber, now, payload.bytes());
@@ -146,61 +148,29 @@ fn flush(end: &mut Stream, cfg: &StreamConfig, to_chamber: bool, now: u64, line:
     }
 }
 
-/// Both ways of reading a payload find the same commands.
-fn read_both_ways(payload: &[u8]) {
-    let mut reader = Reader::default();
-    let mut steps = commands(payload).unwrap();
-    let mut place = Some(0);
-    while let Some(at) = place {
-        let Some((read, next)) = reader.next(payload, at).unwrap() else {
-            break;
-        };
-        match (read, steps.next()) {
-            (
-                Read::UmpData {
-                    seq,
-                    words,
-                    lens,
-                    cut: false,
-                },
-                Some(Command::UmpData(number, messages)),
-            ) => {
-                assert_eq!(seq, number);
-                let one_by_one: Vec<u32> = messages.flat_map(|m| m.words().to_vec()).collect();
-                assert_eq!(words, one_by_one);
-                assert_eq!(lens.len(), messages.count());
-            }
-            (Read::RetransmitRequest(a), Some(Command::RetransmitRequest(b))) => assert_eq!(a, b),
-            (Read::RetransmitError(a), Some(Command::RetransmitError(b))) => assert_eq!(a, b),
-            (a, b) => panic!("read as {a:?} and as {b:?}"),
-        }
-        place = next;
-    }
-    assert_eq!(steps.next(), None);
-}
-
 fn arrive(
-    end: &mut Stream,
+    end: &mut End,
     cfg: &StreamConfig,
     f: &Flying,
     now: u64,
     line: &mut Line,
     book: &mut Book,
 ) {
-    read_both_ways(&f.bytes);
-    for command in commands(&f.bytes).unwrap() {
+    let mut reader = Reader::new();
+    let mut commands = reader.read(&f.bytes);
+    while let Some(command) = commands.next_command().unwrap() {
         match command {
-            Command::UmpData(seq, messages) => {
-                let delivery = end.on_ump_data(cfg, now, seq).unwrap();
-                book.let_go += book.held.delivered(&delivery, &messages).notes().count();
+            Read::UmpData(data) => {
+                let delivery = end.on_ump_data(cfg, now, data.seq).unwrap();
+                book.let_go += book.held.delivered(&delivery, &data).notes().count();
                 if let Some(range) = delivery.lost {
                     book.report(range);
                 }
                 if delivery.class != Class::Duplicate {
-                    for m in messages {
-                        let n = usize::from(seq);
+                    for message in data.messages() {
+                        let n = usize::from(data.seq);
                         assert_eq!(
-                            m.words(),
+                            message,
                             [change(n)],
                             "a change in another command than its own"
                         );
@@ -208,15 +178,14 @@ fn arrive(
                     }
                 }
             }
-            Command::RetransmitRequest(req) => {
+            Read::RetransmitRequest(req) => {
                 if let RequestOutcome::Error(err) = end.on_retransmit_request(cfg, req).unwrap() {
-                    let mut buf = [0; LIMIT];
-                    let mut payload = Payload::new(LIMIT, &mut buf).unwrap();
+                    let mut payload = Payload::new(LIMIT, [0; LIMIT]).unwrap();
                     payload.retransmit_error(err).unwrap();
                     line.put(true, now, payload.bytes());
                 }
             }
-            Command::RetransmitError(err) => book.told(&end.on_retransmit_error(err).unwrap()),
+            Read::RetransmitError(err) => book.told(&end.on_retransmit_error(err).unwrap()),
             other => panic!("a command that nobody wrote: {other:?}"),
         }
     }
@@ -228,9 +197,8 @@ fn main() {
         .map_or(2463534242, |s| s.parse().expect("a seed"));
     println!("seed {seed}");
     let cfg = StreamConfig::default();
-    let (mut there, mut here) = ([0; RING], [0; RING]);
-    let mut console = Stream::new(&cfg, 64, 16, &mut there).unwrap();
-    let mut chamber = Stream::new(&cfg, 64, 16, &mut here).unwrap();
+    let mut console = Stream::new(&cfg, 64, 16, [0; RING]).unwrap();
+    let mut chamber = Stream::new(&cfg, 64, 16, [0; RING]).unwrap();
     let mut line = Line {
         random: Random(if seed == 0 { 1 } else { seed }),
         flying: Vec::new(),

@@ -361,15 +361,15 @@ extern "C" {
     ) -> Report;
     pub fn sirmjold_held_start(group: u8) -> Given;
     pub fn sirmjold_held_delivered(
-        held: Held,
+        state: Held,
         refusal: u8,
         class: u8,
-        lost_count: u16,
+        lost: u16,
         body: *const u8,
         body_len: usize,
     ) -> Given;
-    pub fn sirmjold_held_told(held: Held, kind: u8) -> Given;
-    pub fn sirmjold_held_restarted(held: Held) -> Given;
+    pub fn sirmjold_held_told(state: Held, kind: u8) -> Given;
+    pub fn sirmjold_held_restarted(state: Held) -> Given;
     pub fn sirmjold_uplink_grant(
         words: u16,
         turn: u16,

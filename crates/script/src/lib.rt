@@ -1,6 +1,6 @@
 // The call script: a list of calls on a stream and a payload, one to a line, each answered with one
 // line. `run` reads it from standard input and writes the answers to standard output, in fixed memory
-// whatever its length.
+// whatever its length. docs/CALLS.md has every call with its answers, and an example of each.
 //
 //   input blocks -> lines -> fields -> call on the session -> answer -> output block
 //
@@ -27,7 +27,8 @@
 //
 // Figures are decimal, WORD, BYTES, CODE, CSD1 and CSD2 hexadecimal. Empty lines and those that begin
 // with # answer nothing. A line that is no call answers `bad`, a refusal `refused N` by its number; in
-// both cases nothing changes but what 01 says.
+// both cases nothing changes but what 01 says. One more exception: a refused cfg keeps its settings all
+// the same, and the calls that are given settings answer its refusal.
 //
 // calls names them and reads their fields; codec and streams run them; answers, items and state say what
 // is printed, and show puts the line together (windows: that of window). Lines, fields and output are the crate `text`'s.
