@@ -51,6 +51,44 @@ def growth(rows):
     return "\n".join(lines)
 
 
+# Rows by their beginnings, and what this library does there that the Rust does not. How much it is stands in the table.
+CAUSES = (
+    ("read a payload", "one call for each command, which leaves words and lengths in the caller's arrays; the Rust's loop has no call"),
+    ("write a command", "opening and writing are two calls over a payload in lent words; in the Rust they are one function"),
+    ("the same steps apart, a command", "a payload is tested, loaded from words and stored again by each call"),
+    ("the same steps apart", "each step is tested by itself"),
+    ("accept a number", "the window's words are tested, loaded and stored; its size is a value, not a constant of the type, so that masks are computed at each arrival"),
+    ("hear a command", "the receiver's words and the settings are tested, loaded and stored; the window's size is a value"),
+    ("poll", "the receiver's words and the settings are tested; in the Rust one comparison is all"),
+    ("queue and write", "each of the two calls walks the history's headers to test its state"),
+    ("serve a request", "three walks over the history's headers, two of them tests; the Rust has one"),
+    ("serve the newest", "three walks over the history's headers, two of them tests; the Rust has one"),
+    ("resend", "each of the two calls walks the history's headers to test its state, however short the command"),
+    ("a whole round", "each call tests its state, and those of the sender walk the history's headers for it"),
+    ("a step of the pretend link", "each call of a stream tests its state; what that is in a step is not measured apart"),
+    ("ask whether to write", "the state test, which walks the history's headers, and nothing else; in the Rust one comparison"),
+    ("a jump", "a multiplication for each binary digit of n; single draws are made some dozens at a time by the compiler"),
+    ("figures of a record", "records are tested, and the words of the ring once in a call; the sheet in Rust tests nothing"),
+)
+
+
+def cause(name):
+    return next((words for start, words in CAUSES if name.startswith(start)), "not looked into")
+
+
+def slower(rows):
+    """The rows that take more time than the Rust's, with what their instructions say."""
+    lines = ["| row | time | instructions | more than the Rust's | the tests alone | what is done here |", "|---|--:|--:|--:|--:|---|"]
+    for r in rows:
+        if r["ours"][0] <= r["rust"][0]:
+            continue
+        more = r["ours_count"] - r["rust_count"]
+        lines.append("| %s | %s | %s | %s | %s | %s |" % (
+            r["name"], ratio(r["ours"][0], r["rust"][0]), ratio(r["ours_count"], r["rust_count"]),
+            figure(more) if more > 0 else "none", figure(r.get("tests_count")), cause(r["name"])))
+    return "\n".join(lines)
+
+
 BEFORE, PAST = ", before the end", ", past the end"
 
 
@@ -87,7 +125,7 @@ def page(machine, rounds, rows, ours, same, rust):
     plain = [r for r in rows if not r["series"]]
     text = open(here + "/page.md").read()
     return text.format(
-        machine=machine, rounds=rounds, table=table(plain), past=past(plain), growth=growth([r for r in rows if r["series"]]),
+        machine=machine, rounds=rounds, table=table(plain), slower=slower(rows), past=past(plain), growth=growth([r for r in rows if r["series"]]),
         ours=sum(sum(functions.values()) for functions in ours), same=same,
         exports=sum(n.startswith("sirmjold_") for functions in ours for n in functions), rust=sum(rust.values()),
         stacks=stacks([r for r in plain if not r["name"].startswith("the same")]))
