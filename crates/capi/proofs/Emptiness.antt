@@ -15,8 +15,9 @@ use Rattle.packet.specs.declared.writer.PayloadWriter.{PayloadWriter}
 use Rattle.packet.specs.declared.writer.Wrote.{Wrote as CommandWrote}
 use Rattle.packet.proofs.Outcomes.{outcome}
 use Rattle.history.specs.Queue.{request, popped}
+use Rattle.rows.specs.Rows.{oneMore, rowOf, fitAll}
 use Rattle.sender.specs.Requests.{writtenCount, withQueue}
-use Rattle.sender.specs.Writing.{Served, oneMore, rowOf, commandsAt, answerTo, servedIn, servedOf, idledOf, fitAll, newBy, newOf, writtenBy}
+use Rattle.sender.specs.Writing.{Served, commandsAt, answerTo, servedIn, servedOf, idledOf, newBy, newOf, writtenBy}
 use Rattle.sender.specs.declared.sender.Sender.{Sender}
 use Rattle.sender.specs.declared.sender.Written.{Written as Count}
 use Rattle.sender.specs.declared.sender.Writing.{Writing}

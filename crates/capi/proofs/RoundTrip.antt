@@ -10,8 +10,8 @@ use lib.Seq.{drop-cons}
 use lib.Dec.{eqb}
 use Rattle.command.specs.declared.retransmit.RetransmitRequest.{RetransmitRequest}
 use Rattle.history.specs.Queue.{blank}
-use Rattle.sender.specs.declared.sender.IdleTimer.{IdleTimer}
-use Rattle.sender.specs.declared.sender.IdleTimer.the-variants.{Off, Waiting}
+use Rattle.idle.specs.declared.idle.IdleTimer.{IdleTimer}
+use Rattle.idle.specs.declared.idle.IdleTimer.the-variants.{Off, Waiting}
 use Rattle.receiver.specs.declared.receiver.Timer.{Timer}
 use Rattle.receiver.specs.declared.receiver.Timer.the-variants.{Stopped, Running}
 use Rattle.receiver.specs.declared.receiver.Asked.{Asked}

@@ -15,12 +15,12 @@ use Rattle.history.specs.Queue.{blank}
 use Rattle.history.specs.declared.history.SendHistory.{SendHistory}
 use Rattle.history.specs.declared.queue.RetransmitQueue.{RetransmitQueue}
 use Rattle.window.specs.declared.window.ReceiveWindow.{ReceiveWindow}
+use Rattle.idle.specs.declared.idle.IdleTimer.{IdleTimer}
 use Rattle.sender.specs.declared.sender.Sender.{Sender}
 use Rattle.receiver.specs.declared.receiver.Receiver.{Receiver}
 use Rattle.capi.specs.declared.state.IdleWords.{IdleWords}
 use Rattle.capi.specs.declared.state.TimerWords.{TimerWords}
 use Rattle.capi.specs.declared.state.AskedWords.{AskedWords}
-use Rattle.sender.specs.declared.sender.IdleTimer.{IdleTimer}
 use Rattle.receiver.specs.declared.receiver.Timer.{Timer}
 use Rattle.receiver.specs.declared.receiver.Asked.{Asked}
 use Rattle.stream.specs.declared.stream.DataStream.{DataStream}

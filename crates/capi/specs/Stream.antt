@@ -5,14 +5,13 @@ use mathlib.Core.Bool.{Bool, cond, _&&_}
 use mathlib.Core.List.{List, [], _∷_, _++_}
 use lib.ListN.{length, getD, take, drop}
 use lib.Dec.{eqb}
+use Rattle.config.specs.Time.{lastTime}
 use Rattle.command.specs.declared.retransmit.RetransmitRequest.{RetransmitRequest}
 use Rattle.history.specs.Queue.{blank}
 use Rattle.history.specs.declared.history.SendHistory.{SendHistory}
 use Rattle.history.specs.declared.queue.RetransmitQueue.{RetransmitQueue}
 use Rattle.window.specs.declared.window.ReceiveWindow.{ReceiveWindow}
 use Rattle.sender.specs.declared.sender.Sender.{Sender}
-use Rattle.sender.specs.declared.sender.IdleTimer.{IdleTimer}
-use Rattle.sender.specs.declared.sender.IdleTimer.the-variants.{Off, Waiting}
 use Rattle.receiver.specs.declared.receiver.Receiver.{Receiver}
 use Rattle.receiver.specs.declared.receiver.Timer.{Timer}
 use Rattle.receiver.specs.declared.receiver.Timer.the-variants.{Stopped, Running}
@@ -20,6 +19,8 @@ use Rattle.receiver.specs.declared.receiver.Asked.{Asked}
 use Rattle.receiver.specs.declared.receiver.Asked.the-variants.{Nothing, Request}
 use Rattle.stream.specs.declared.stream.DataStream.{DataStream}
 use Rattle.packet.specs.Bytes.{spliced}
+use Rattle.idle.specs.declared.idle.IdleTimer.{IdleTimer}
+use Rattle.idle.specs.declared.idle.IdleTimer.the-variants.{Off, Waiting}
 use Rattle.c_answers.specs.Answers.{bit}
 use Rattle.capi.specs.Limits.{within}
 use Rattle.capi.specs.declared.state.IdleWords.{IdleWords}
@@ -41,10 +42,10 @@ ofFlag ws k most = cond (eqb (at ws k) 0) 0 most
 abbrev pub receiverLimits : List ℕ → List (ℕ × ℕ)
 receiverLimits ws =
     (0, 4294967295) ∷ (1, half) ∷ (4, 1) ∷ (7, 1) ∷ (8, 1) ∷ (9, 1)
-    ∷ (5, ofFlag ws 4 18446744073709551615) ∷ (6, ofFlag ws 4 255) ∷ (10, ofFlag ws 9 half) ∷ (11, ofFlag ws 9 half) ∷ []
+    ∷ (5, ofFlag ws 4 lastTime) ∷ (6, ofFlag ws 4 255) ∷ (10, ofFlag ws 9 half) ∷ (11, ofFlag ws 9 half) ∷ []
 
 abbrev pub senderLimits : List ℕ → List (ℕ × ℕ)
-senderLimits ws = (16, half) ∷ (23, 1) ∷ (24, ofFlag ws 23 18446744073709551615) ∷ (25, ofFlag ws 23 half) ∷ (26, ofFlag ws 23 18446744073709551615) ∷ []
+senderLimits ws = (16, half) ∷ (23, 1) ∷ (24, ofFlag ws 23 lastTime) ∷ (25, ofFlag ws 23 half) ∷ (26, ofFlag ws 23 lastTime) ∷ []
 
 unfoldable pub receiverFits : List ℕ → Bool
 receiverFits ws = eqb (length ws) 35 && within (receiverLimits ws) ws

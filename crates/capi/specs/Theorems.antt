@@ -12,11 +12,11 @@ use Rattle.packet.specs.Write.{writtenOf}
 use Rattle.command.specs.Write.{dataWritten, requestPacket, errorWritten}
 use Rattle.reading.specs.Next.{readAt}
 use Rattle.window.specs.Answers.{resetAnswer, markAllAnswer, markAnswer}
+use Rattle.idle.specs.declared.idle.Idle.{Idle}
+use Rattle.idle.specs.declared.idle.IdleTimer.the-variants.{Waiting}
 use Rattle.receiver.specs.declared.receiver.RequestTimer.{RequestTimer}
 use Rattle.receiver.specs.declared.receiver.Timer.the-variants.{Running}
 use Rattle.receiver.specs.declared.receiver.Asked.the-variants.{Request}
-use Rattle.sender.specs.declared.sender.Idle.{Idle}
-use Rattle.sender.specs.declared.sender.IdleTimer.the-variants.{Waiting}
 use Rattle.stream.specs.Ends.{sendAnswer, requestAnswer, dataAnswer, errorAnswer, nakAnswer, pollAnswer, takeAnswer}
 use Rattle.stream.specs.declared.stream.DataStream.{DataStream}
 use Rattle.c_answers.specs.Answers.{sendNumber, outcomeOf, deliveryOf, eventOf, requestOf}

@@ -27,10 +27,13 @@ use Rattle.history.specs.Headers.{headerAt, wordsFrom, numbered}
 use Rattle.history.specs.State.{stateOk, walkOk}
 use Rattle.history.specs.Push.{popOne, popped, grown, pushed, longer, appended}
 use Rattle.history.specs.Written.{entryPacket}
+use Rattle.idle.specs.Schedule.{idleNext}
+use Rattle.rows.specs.Rows.{rowOf, packetsFrom, sizesOf, anyWords}
+use Rattle.rows.specs.Choice.{repeatsOf}
 use Rattle.sender.specs.Commands.{fitting, front, behind, commandsIn, commandsOf, longer as longMessage, above}
 use Rattle.sender.specs.State.{validOf as senderValid}
 use Rattle.sender.specs.Queueing.{roomOf, needOf, joinedTo, pushedAll, queuedTo, queuedOf, wordsCheck, placedOf, sentOf}
-use Rattle.sender.specs.Writing.{rowOf, packetsFrom, servedIn, servedOf, idleNext, idledOf, sizesOf, repeatsOf, anyWords, writtenOff, newOf as newSent, writtenBy}
+use Rattle.sender.specs.Writing.{servedIn, servedOf, idledOf, writtenOff, newOf as newSent, writtenBy}
 use Rattle.sender.specs.Answers.{sendAnswer, writeAnswer}
 use Rattle.cases.specs.Cases.{range, Table, duesFrom, IdleTimes}
 

@@ -4,3 +4,4 @@ pub mod Range
 pub mod Refusals
 pub mod Sequence
 pub mod Settings
+pub mod Time

@@ -1,7 +1,8 @@
-// What every layer of the data stream shares: sequence numbers, the reasons of a refusal, and the
-// settings.
+// What every layer of the data stream shares: sequence numbers, times, the reasons of a refusal, and
+// the settings.
 //
 //   sequence   16-bit numbers that go round: 65,535 is followed by 0
+//   time       64-bit ms that do not go round: a sum stops at the last one
 //   refusal    one case for each reason, and the number that the papers give it
 //   settings   `StreamConfig`, its `DEFAULT` and its `check`
 //
@@ -10,3 +11,4 @@ pub mod range;
 pub mod refusal;
 pub mod sequence;
 pub mod settings;
+pub mod time;

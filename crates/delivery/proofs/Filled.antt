@@ -16,7 +16,8 @@ use Rattle.packet.specs.Write.{limitOf, startOf, validOf as payloadValid}
 use Rattle.packet.specs.declared.writer.PayloadWriter.{PayloadWriter}
 use Rattle.command.specs.declared.retransmit.RetransmitRequest.{RetransmitRequest}
 use Rattle.history.specs.Written.{dataPacket}
-use Rattle.sender.specs.Writing.{rowOf, sizesOf, fitAll, repeatsOf}
+use Rattle.rows.specs.Rows.{rowOf, sizesOf, fitAll}
+use Rattle.rows.specs.Choice.{repeatsOf}
 use Rattle.sender_log.specs.Book.{Book, oldestIn, withWaiting}
 use Rattle.sender_log.specs.Writes.{dataFrom, writtenFrom, newIn, servedIn, idledIn, againIn, WriteIn, newBy, newWritten, writtenIn, writeIn}
 use Rattle.sender_log.proofs.Rows.{row-all, sizes-append}

@@ -13,7 +13,7 @@ use Rattle.packet.specs.declared.writer.Wrote.{Wrote}
 use Rattle.packet.proofs.RoundTrip.{items-payload, length-encoded}
 use Rattle.packet.proofs.Outcomes.{outcome, written-grows, written-length}
 use Rattle.command.specs.Calls.{accepts}
-use Rattle.sender.specs.Writing.{Row, oneMore, rowOf}
+use Rattle.rows.specs.Rows.{Row, oneMore, rowOf}
 use Rattle.receiver_log.proofs.Choices.{by-cond}
 use Rattle.delivery.specs.Commands.{Command, isData, dataIn, wholesIn, dataOf}
 use Rattle.delivery.proofs.Lists.{All, all-append}

@@ -22,12 +22,15 @@ use Rattle.sender.specs.Commands.{fitting, front, behind, commandsIn, commandsO
 use Rattle.sender.specs.State.{validOf}
 use Rattle.sender.specs.Queueing.{roomOf, needOf, joinedTo, pushedAll, queuedTo, queuedOf, wordsCheck, placedOf, sentOf}
 use Rattle.sender.specs.Requests.{requestedOf}
-use Rattle.sender.specs.Writing.{rowOf, packetsFrom, servedIn, servedOf, idleNext, idledOf, sizesOf, repeatsOf, anyWords, writtenOff, newOf, writtenBy}
+use Rattle.sender.specs.Writing.{servedIn, servedOf, idledOf, writtenOff, newOf, writtenBy}
 use Rattle.sender.specs.declared.sender.Send.the-variants.{Accepted}
 use Rattle.sender.specs.declared.sender.Start.the-variants.{Done}
 use Rattle.window.specs.declared.window.Class.{Class}
 use Rattle.window.specs.declared.window.Class.the-variants.{New, Duplicate}
 use Rattle.window.specs.declared.window.Span.the-variants.{Nothing}
+use Rattle.idle.specs.Schedule.{idleNext}
+use Rattle.rows.specs.Rows.{rowOf, packetsFrom, sizesOf, anyWords}
+use Rattle.rows.specs.Choice.{repeatsOf}
 use Rattle.receiver.specs.Receiver.{dueAfter}
 use Rattle.receiver.specs.declared.receiver.Hearing.the-variants.{Delivery as Delivered}
 use Rattle.receiver.specs.declared.receiver.StreamEvent.the-variants.{Nothing as NoEvent}

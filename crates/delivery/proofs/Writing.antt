@@ -19,10 +19,11 @@ use Rattle.command.specs.declared.retransmit.RetransmitRequest.{RetransmitReque
 use Rattle.history.specs.Entries.{size}
 use Rattle.history.proofs.Flat.{size-append}
 use Rattle.command.specs.Messages.{wordsIn}
-use Rattle.sender.specs.Writing.{rowOf, fitAll, repeatsOf}
-use Rattle.sender.specs.declared.sender.IdleTimer.{IdleTimer}
-use Rattle.sender.specs.declared.sender.IdleTimer.the-variants.{Off, Waiting}
 use Rattle.command.proofs.Messages.{words-append}
+use Rattle.idle.specs.declared.idle.IdleTimer.{IdleTimer}
+use Rattle.idle.specs.declared.idle.IdleTimer.the-variants.{Off, Waiting}
+use Rattle.rows.specs.Rows.{rowOf, fitAll}
+use Rattle.rows.specs.Choice.{repeatsOf}
 use Rattle.sender_log.specs.Book.{Book, oldestIn, indexIn, absentIn, withWaiting}
 use Rattle.sender_log.specs.Writes.{writtenFrom, newIn, reachIn, answerIn, ServedIn, servedIn, isEmpty, idledBy, idledIn, againIn, writtenOn, WriteIn, newBy, newWritten, writtenIn, writeIn}
 use Rattle.sender_log.proofs.Packets.{take-data}

@@ -28,11 +28,14 @@ use Rattle.sender.specs.Answers.{newAnswer, sendAnswer, writeAnswer}
 use Rattle.sender.specs.Commands.{fitting, front, behind, commandsIn, commandsOf, longer as longMessage, above}
 use Rattle.sender.specs.State.{validOf}
 use Rattle.sender.specs.Queueing.{roomOf, needOf, joinedTo, pushedAll, queuedTo, queuedOf, wordsCheck, placedOf, sentOf}
-use Rattle.sender.specs.Writing.{rowOf, packetsFrom, servedIn, servedOf, idleNext, idledOf, sizesOf, repeatsOf, anyWords, writtenOff, newOf, writtenBy}
+use Rattle.sender.specs.Writing.{servedIn, servedOf, idledOf, writtenOff, newOf, writtenBy}
 use Rattle.sender.specs.declared.sender.Send.the-variants.{Accepted}
 use Rattle.sender.specs.declared.sender.Start.the-variants.{Done}
 use Rattle.window.specs.declared.window.Class.the-variants.{New, Late}
 use Rattle.window.specs.declared.window.Span.the-variants.{Nothing, Of}
+use Rattle.idle.specs.Schedule.{idleNext}
+use Rattle.rows.specs.Rows.{rowOf, packetsFrom, sizesOf, anyWords}
+use Rattle.rows.specs.Choice.{repeatsOf}
 use Rattle.receiver.specs.Receiver.{dueAfter}
 use Rattle.receiver.specs.declared.receiver.Hearing.the-variants.{Delivery as Delivered}
 use Rattle.receiver_log.specs.Calls.{data-command, Entry as Heard, data-entry, AllTyped}

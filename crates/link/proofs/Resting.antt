@@ -29,11 +29,8 @@ use Rattle.command.specs.declared.retransmit.RetransmitError.{RetransmitError}
 use Rattle.sender.specs.Answers as sender
 use Rattle.sender.specs.Queueing.{unsent, sentOf}
 use Rattle.sender.specs.State.{validOf as senderValid}
-use Rattle.sender.specs.Writing.{Served, packetsFrom, servedIn, servedOf, idledBy, idledOf, newBy, newOf, wrote, writtenBy, commandsAt}
+use Rattle.sender.specs.Writing.{Served, servedIn, servedOf, idledBy, idledOf, newBy, newOf, wrote, writtenBy, commandsAt}
 use Rattle.sender.specs.Requests.{writtenCount}
-use Rattle.sender.specs.declared.sender.Idle.{Idle}
-use Rattle.sender.specs.declared.sender.IdleTimer.{IdleTimer}
-use Rattle.sender.specs.declared.sender.IdleTimer.the-variants.{Off, Waiting}
 use Rattle.sender.specs.declared.sender.Sender.{Sender}
 use Rattle.sender.specs.declared.sender.Sent.{Sent}
 use Rattle.sender.specs.declared.sender.Wrote.{Wrote as SenderWrote}
@@ -48,6 +45,10 @@ use Rattle.load.specs.declared.load.Load.{Load}
 use Rattle.load.specs.declared.load.Words.{Words}
 use Rattle.load.specs.Load as load
 use Rattle.packet.specs.Read.{Item, itemsOf, signed}
+use Rattle.idle.specs.declared.idle.Idle.{Idle}
+use Rattle.idle.specs.declared.idle.IdleTimer.{IdleTimer}
+use Rattle.idle.specs.declared.idle.IdleTimer.the-variants.{Off, Waiting}
+use Rattle.rows.specs.Rows.{packetsFrom}
 use Rattle.link_rules.specs.Arriving.{arrivedOf, eventLoss}
 use Rattle.link_rules.specs.Link.{empty, blank, carried}
 use Rattle.link_rules.specs.declared.run.Waiting.{Waiting as ErrorWaiting}

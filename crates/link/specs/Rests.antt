@@ -2,10 +2,10 @@
 use Prim.Native.Nat.{ℕ}
 use mathlib.Core.Bool.{Bool, true, false, not, _&&_}
 use lib.Dec.{eqb, ltb}
+use Rattle.idle.specs.declared.idle.IdleTimer.{IdleTimer}
+use Rattle.idle.specs.declared.idle.IdleTimer.the-variants.{Off, Waiting}
 use Rattle.receiver.specs.declared.receiver.Timer.{Timer}
 use Rattle.receiver.specs.declared.receiver.Timer.the-variants.{Stopped, Running}
-use Rattle.sender.specs.declared.sender.IdleTimer.{IdleTimer}
-use Rattle.sender.specs.declared.sender.IdleTimer.the-variants.{Off, Waiting}
 use Rattle.stream.specs.declared.stream.DataStream.{DataStream}
 use Rattle.load.specs.Load.{countOf}
 use Rattle.link_rules.specs.declared.run.Waiting.{Waiting as ErrorWaiting}

@@ -1,10 +1,10 @@
 // Whether an end rests in a step: it has nothing to queue, to write or to poll for, and is left as it is, untested.
 ghost use mathlib.Core.Path.{_≡_};
 ghost use Rattle.link.specs.Rests.{idleRests, timerRests, quietOf, noError, consoleRests, chamberRests};
+use idle::idle::IdleTimer;
 use link_rules::run::Waiting;
 use load::load::Load;
 use receiver::receiver::Timer;
-use sender::sender::IdleTimer;
 use stream::stream::DataStream;
 
 // No idle command is due.

@@ -12,10 +12,10 @@ use Rattle.config.specs.Sequence.{turn}
 use Rattle.config.specs.declared.settings.Check.the-variants.{Passed}
 use Rattle.config.specs.declared.settings.StreamConfig.{StreamConfig}
 use Rattle.config.specs.inner.Tests.{split}
+use Rattle.config.specs.Time.{lastTime}
 use Rattle.window.specs.Set.{maxWindow}
 use Rattle.window.proofs.Ranges.{within-range}
 use Rattle.window.proofs.Preserved.{valid-fresh}
-use Rattle.receiver.specs.Receiver.{lastTime}
 use Rattle.link_rules.specs.Arriving.{gapIn}
 use Rattle.link_rules.specs.Link.{Ends, startOf, callsOf, stepOf, runOf, mostSteps}
 use Rattle.link_rules.specs.Cleared.{newGap, noneMissing, boundOf, Cleared}

@@ -18,6 +18,9 @@ use Rattle.window.specs.Set.{val, setOf, topIn, topOf, bottomOf}
 use Rattle.window.specs.Window.{validOf as windowValid, processed, missingOf, spanOf, requestOf}
 use Rattle.window.specs.Arrival.{classOf, movedOf, lostOf, newOf, acceptOf}
 use Rattle.window.specs.Marking.{hitAt, hitsOf, markOf}
+use Rattle.idle.specs.Schedule.{idleNext}
+use Rattle.rows.specs.Rows.{rowOf, packetsFrom, sizesOf, anyWords}
+use Rattle.rows.specs.Choice.{repeatsOf}
 use Rattle.receiver.specs.Receiver.{validOf as receiverValid, dueAfter, settledOf, heardOf, gaveUp, polledOf, erroredOf, offeredOf, takenOf}
 use Rattle.receiver.specs.Answers as receiver
 use Rattle.sender.specs.Answers as sender
@@ -25,7 +28,7 @@ use Rattle.sender.specs.Commands.{fitting, front, behind, commandsIn, commandsO
 use Rattle.sender.specs.State.{validOf as senderValid}
 use Rattle.sender.specs.Queueing.{roomOf, needOf, joinedTo, pushedAll, queuedTo, queuedOf, wordsCheck, placedOf, sentOf}
 use Rattle.sender.specs.Requests.{requestedOf}
-use Rattle.sender.specs.Writing.{rowOf, packetsFrom, servedIn, servedOf, idleNext, idledOf, sizesOf, repeatsOf, anyWords, writtenOff, newOf as newWritten, writtenBy}
+use Rattle.sender.specs.Writing.{servedIn, servedOf, idledOf, writtenOff, newOf as newWritten, writtenBy}
 use Rattle.stream.specs.State.{validOf as streamValid}
 use Rattle.stream.specs.Ends.{sendAnswer, requestAnswer, dataAnswer, errorAnswer, pollAnswer}
 use Rattle.stream.specs.Writing.{sentAfter, dataWritten, writeAnswer}

@@ -19,9 +19,10 @@ use Rattle.packet.specs.declared.writer.PayloadWriter.{PayloadWriter}
 use Rattle.command.specs.declared.retransmit.RetransmitRequest.{RetransmitRequest}
 use Rattle.history.specs.Entries.{Short, size}
 use Rattle.history.proofs.Flat.{size-append}
-use Rattle.sender.specs.Writing.{Row, rowOf, sizesOf, fitAll, repeatsOf}
-use Rattle.sender.specs.declared.sender.IdleTimer.{IdleTimer}
-use Rattle.sender.specs.declared.sender.IdleTimer.the-variants.{Off, Waiting}
+use Rattle.idle.specs.declared.idle.IdleTimer.{IdleTimer}
+use Rattle.idle.specs.declared.idle.IdleTimer.the-variants.{Off, Waiting}
+use Rattle.rows.specs.Rows.{Row, rowOf, sizesOf, fitAll}
+use Rattle.rows.specs.Choice.{repeatsOf}
 use Rattle.sender_log.specs.Book.{Book, oldestIn, indexIn, absentIn, withWaiting, pushedIn, freed}
 use Rattle.sender_log.specs.Promise.{NoRoom}
 use Rattle.sender_log.specs.Writes.{dataFrom, writtenFrom, newIn, reachIn, answerIn, ServedIn, servedIn, isEmpty, idledBy, idledIn, againIn, writtenOn, WriteIn, wrote, newBy, newWritten, writtenIn, writeIn}

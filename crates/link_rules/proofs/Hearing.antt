@@ -4,13 +4,14 @@ use mathlib.Core.Bool.{Bool, true, false, _||_}
 use mathlib.Core.List.{List, [], _∷_, _++_}
 use Prim.Native.Nat.{ℕ, _+_, _≤_, _<_}
 use Rattle.config.specs.Settings.{checkOf}
+use Rattle.config.specs.Time.{lastTime}
 use Rattle.config.specs.declared.settings.Check.the-variants.{Passed}
 use Rattle.config.specs.declared.settings.StreamConfig.{StreamConfig}
 use Rattle.packet.specs.Read.{Item, whole, cut}
 use Rattle.command.specs.declared.parse.Command.{Command}
 use Rattle.command.specs.declared.parse.Command.the-variants.{UmpData, RetransmitRequest, RetransmitError, Raw, Refused}
 use Rattle.command.specs.declared.retransmit.RetransmitError.{RetransmitError as ErrorCommand}
-use Rattle.receiver.specs.Receiver.{validOf, lastTime, heardOf, erroredOf}
+use Rattle.receiver.specs.Receiver.{validOf, heardOf, erroredOf}
 use Rattle.receiver.specs.Answers as receiver
 use Rattle.receiver.specs.declared.receiver.Heard.{Heard}
 use Rattle.receiver.specs.declared.receiver.Told.{Told}

@@ -13,7 +13,7 @@ use Rattle.packet.specs.declared.writer.Write.{Write}
 use Rattle.packet.specs.declared.writer.Write.the-variants.{Done as Put, Refused as NotPut}
 use Rattle.packet.specs.declared.writer.Wrote.{Wrote as Putting}
 use Rattle.packet.proofs.Outcomes.{outcome, written-valid, written-length}
-use Rattle.sender.specs.Writing.{Row, oneMore, rowOf}
+use Rattle.rows.specs.Rows.{Row, oneMore, rowOf}
 
 -- a payload of 1,400 bytes in a buffer of as many
 pub record Room (p : PayloadWriter) (b : List ℕ) : Type 0 where

@@ -36,6 +36,7 @@ use Rattle.window.specs.Marking.{markOf}
 use Rattle.window.specs.declared.window.Span.{Span}
 use Rattle.window.specs.declared.window.Span.the-variants.{Nothing as NoSpan, Of}
 use Rattle.window.proofs.Preserved.{valid-accept, valid-mark, valid-all}
+use Rattle.rows.specs.Rows.{rowOf, fitAll, sizesOf}
 use Rattle.receiver.specs.Receiver.{validOf as receiverValid, enabledOf, nothingMissing, isGap, restarts, settledOf, heardOf, lossOf, gaveUp, polledAt, polledOf, errorEvent, erroredBy, erroredOf, notDue, withAsked, offeredOf, takenSpan, takenOf}
 use Rattle.receiver.specs.Answers as receiver
 use Rattle.receiver.specs.declared.receiver.Asked.{Asked}
@@ -54,7 +55,7 @@ use Rattle.sender.specs.Commands.{front, behind, commandsIn, commandsOf, longer
 use Rattle.sender.specs.Queueing.{roomOf, needOf, queuedOf, wordsCheck, placedOf as queuePlaced, sentOf}
 use Rattle.sender.specs.Requests.{notWritten, outcomeOf, requestedOf}
 use Rattle.sender.specs.State.{validOf as senderValid}
-use Rattle.sender.specs.Writing.{rowOf, fitAll, sizesOf, writtenBy}
+use Rattle.sender.specs.Writing.{writtenBy}
 use Rattle.sender.specs.declared.sender.Requested.{Requested as SenderRequested}
 use Rattle.sender.specs.declared.sender.Send.the-variants.{Accepted}
 use Rattle.sender.specs.declared.sender.Sender.{Sender}

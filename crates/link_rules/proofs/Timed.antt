@@ -7,6 +7,7 @@ use native.Mathlib.Nat.{le-trans}
 use native.Mathlib.Omega.{arith}
 use lib.Dec.{ltb}
 use Rattle.config.specs.inner.Tests.{tests, and-left}
+use Rattle.config.specs.Time.{lastTime}
 use Rattle.config.specs.declared.settings.StreamConfig.{StreamConfig}
 use Rattle.packet.specs.Write.{writtenOf}
 use Rattle.packet.specs.declared.writer.PayloadWriter.{PayloadWriter}
@@ -22,7 +23,7 @@ use Rattle.window.specs.declared.window.ReceiveWindow.{ReceiveWindow}
 use Rattle.window.specs.declared.window.Span.{Span}
 use Rattle.window.specs.declared.window.Span.the-variants.{Nothing as NoSpan, Of}
 use Rattle.window.proofs.Preserved.{valid-accept, valid-mark, valid-all}
-use Rattle.receiver.specs.Receiver.{quietOf, restOf, enabledOf, nothingMissing, dueAfter, lastTime, isGap, restarts, settledOf, gaveUp, polledAt, polledOf, erroredBy, erroredOf, takenBy, offeredOf, takenSpan, takenOf, notDue, withAsked}
+use Rattle.receiver.specs.Receiver.{quietOf, restOf, enabledOf, nothingMissing, dueAfter, isGap, restarts, settledOf, gaveUp, polledAt, polledOf, erroredBy, erroredOf, takenBy, offeredOf, takenSpan, takenOf, notDue, withAsked}
 use Rattle.receiver.specs.declared.receiver.RequestTimer.{RequestTimer}
 use Rattle.receiver.specs.declared.receiver.Timer.{Timer}
 use Rattle.receiver.specs.declared.receiver.Timer.the-variants.{Stopped, Running}

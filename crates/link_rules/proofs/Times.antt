@@ -4,7 +4,8 @@ use Prim.Native.Nat.{ℕ, _+_, _-_, _*_, _^_, _≤_, _<_, min}
 use native.Mathlib.Nat.{mul-add, mul-pos, mul-le-mul-left, min-le-left}
 use native.Mathlib.Omega.{arith}
 use lib.Pow.{pow-pos, pow-mono, pow-add}
-use Rattle.receiver.specs.Receiver.{dueAfter, lastTime}
+use Rattle.config.specs.Time.{lastTime}
+use Rattle.receiver.specs.Receiver.{dueAfter}
 
 -- D, 2D, 4D and on up to so many doublings
 abbrev pub sum : ℕ → ℕ → ℕ

@@ -1,10 +1,11 @@
 -- Delays and due times.
 use mathlib.Core.Path.{_≡_, ap, _∙_}
-use Prim.Native.Nat.{ℕ, _+_, _-_, _*_, _%_, _^_, _≤_, _<_, min}
+use Prim.Native.Nat.{ℕ, _*_, _%_, _^_, _≤_, _<_, min}
 use native.Mathlib.Nat.{le-of-lt, lt-of-le-of-lt, one-mul, mod-eq-of-lt, min-eq-left, min-eq-right, mul-le-mul}
 use native.Mathlib.Omega.{arith}
 use lib.Pow.{pow-lt}
-use Rattle.receiver.specs.Receiver.{lastTime, dueAfter}
+use Rattle.config.specs.Time.{later}
+use Rattle.receiver.specs.Receiver.{dueAfter}
 
 -- ---- the power, capped at 2^32
 pub doubled-below : (sent : ℕ) → sent < 32 → ((1 * 2 ^ sent) % 18446744073709551616 ≡ 2 ^ min sent 32) × ((1 * 2 ^ sent) % 18446744073709551616 ≤ 4294967296)
@@ -23,17 +24,6 @@ delay-fits {delay} {power} d p =
     let m : delay * power ≤ 4294967295 * 4294967296 = mul-le-mul most p in
     lt-of-le-of-lt m (omega arith)
 
-capped : (now wait : ℕ) → lastTime - now < wait → lastTime ≡ min (now + wait) lastTime
-capped now wait h = omega arith
-
-added : (now wait : ℕ) → now ≤ lastTime → wait ≤ lastTime - now → now + wait ≡ min (now + wait) lastTime
-added now wait h k = omega arith
-
-module _ (delay sent now power : ℕ) (e : power ≡ 2 ^ min sent 32) where
-  pub due-last : lastTime - now < delay * power → lastTime ≡ dueAfter delay sent now
-  unfolding dueAfter
-  due-last h = capped now (delay * power) h ∙ ap (λ (n : ℕ). min (now + delay * n) lastTime) e
-
-  pub due-sum : now ≤ lastTime → delay * power ≤ lastTime - now → now + delay * power ≡ dueAfter delay sent now
-  unfolding dueAfter
-  due-sum h k = added now (delay * power) h k ∙ ap (λ (n : ℕ). min (now + delay * n) lastTime) e
+pub due-later : (delay sent now power due : ℕ) → power ≡ 2 ^ min sent 32 → due ≡ later now (delay * power) → due ≡ dueAfter delay sent now
+unfolding dueAfter
+due-later delay sent now power due e f = f ∙ ap (λ (n : ℕ). later now (delay * n)) e

@@ -4,6 +4,7 @@ use mathlib.Core.Bool.{Bool, true, false, cond, not, _&&_}
 use mathlib.Core.List.{List}
 use lib.Dec.{ltb, eqb}
 use Rattle.config.specs.Sequence.{after}
+use Rattle.config.specs.Time.{later}
 use Rattle.config.specs.declared.refusal.Refusal.the-variants.{TooLarge}
 use Rattle.config.specs.declared.settings.StreamConfig.{StreamConfig}
 use Rattle.packet.specs.Write.{writtenOf}
@@ -56,12 +57,9 @@ abbrev pub nothingMissing : ReceiveWindow → Bool
 nothingMissing w = eqb (missingOf w) 0
 
 -- ---- times
-abbrev pub lastTime : ℕ
-lastTime = 18446744073709551615
-
--- the due time: D, 2D, 4D and on after so many requests, the power capped at 2^32; times add with saturation
+-- the due time: D, 2D, 4D and on after so many requests, the power capped at 2^32
 unfoldable pub dueAfter : ℕ → ℕ → ℕ → ℕ
-dueAfter delay sent now = min (now + delay * 2 ^ min sent 32) lastTime
+dueAfter delay sent now = later now (delay * 2 ^ min sent 32)
 
 -- ---- a data command
 -- the skipped numbers, from the one after the old highest on

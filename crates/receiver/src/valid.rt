@@ -28,6 +28,7 @@ use config::refusal::Refusal;
 use config::sequence;
 use config::sequence::SeqNum;
 use config::settings::StreamConfig;
+use config::time::later_by;
 use packet::writer::PayloadWriter;
 use packet::writer::Write;
 use window::window::Class;
@@ -89,11 +90,7 @@ fn doubled(sent: u8) -> u64
 fn due_after(delay: u32, sent: u8, now: u64) -> u64
     ensures { λ r. ⌜ r ≡ dueAfter delay sent now ⌝ }
 {
-    let wait = (delay as u64) * doubled(sent);
-    if u64::MAX - now < wait {
-        return u64::MAX;
-    }
-    now + wait
+    later_by(now, (delay as u64) * doubled(sent))
 }
 
 // The numbers skipped between the old highest and a new one.

@@ -5,10 +5,11 @@ use mathlib.Core.Path.{_≡_}
 use mathlib.Core.Bool.{Bool, true, false}
 use mathlib.Core.List.{List, [], _∷_}
 use Rattle.config.specs.Sequence.{turn}
+use Rattle.config.specs.Time.{later}
 use Rattle.config.specs.declared.settings.StreamConfig.{StreamConfig}
 use Rattle.window.specs.Set.{maxWindow}
 use Rattle.window.specs.declared.window.Class.the-variants.{New}
-use Rattle.receiver.specs.Receiver.{lastTime, lossOf, restarts}
+use Rattle.receiver.specs.Receiver.{lossOf, restarts}
 use Rattle.receiver.specs.Answers.{dataAnswer, pollAnswer}
 use Rattle.receiver.specs.declared.receiver.Delivery.{Delivery}
 use Rattle.receiver.specs.declared.receiver.Hearing.the-variants.{Delivery as Delivered}
@@ -49,7 +50,7 @@ pollsOf (suc f) cfg r =
 
 -- the i-th delay: D, 2D, 4D and on
 abbrev pub delayed : ℕ → ℕ → ℕ → ℕ
-delayed D i time = min (time + D * 2 ^ min i 32) lastTime
+delayed D i time = later time (D * 2 ^ min i 32)
 
 -- k requests, the first one the i-th delay after `time`, each one delay after the last; and then the report
 unfoldable pub requestsFrom : ℕ → ℕ → ℕ → ℕ → StreamEvent → List Poll

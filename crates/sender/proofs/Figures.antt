@@ -6,8 +6,8 @@ use lib.ListN.{replicate}
 use Rattle.history.specs.Headers.{headerAt, wordsFrom, numbered}
 use Rattle.history.specs.State.{fresh as noneHeld, stateOk, walkOk}
 use Rattle.history.specs.Queue.{noneWait}
+use Rattle.idle.specs.declared.idle.IdleTimer.the-variants.{Waiting}
 use Rattle.sender.specs.State.{validOf}
-use Rattle.sender.specs.declared.sender.IdleTimer.the-variants.{Waiting}
 use Rattle.sender.specs.declared.sender.Sender.{Sender}
 
 -- a sender that holds nothing, at an idle step

@@ -1,73 +1,33 @@
--- The idle schedule: its times, its next step, the command that is queued, and the state that this leaves.
+-- The idle command: when one is queued, and the state that this leaves.
 use mathlib.Core.Path.{_≡_, refl, sym, ap, subst, _∙_}
-use mathlib.Core.Bool.{Bool, true, false, cond, _||_}
+use mathlib.Core.Bool.{Bool, true, false, _||_}
 use mathlib.Core.Logic.{inl, inr}
 use mathlib.Core.List.{List, []}
-use Prim.Native.Nat.{ℕ, _+_, _-_, _*_, _/_, _≤_, _<_, min}
-use native.Mathlib.Nat.{le-div-iff-mul-le, div-lt-iff-lt-mul}
+use Prim.Native.Nat.{ℕ, _-_, _≤_, _<_}
 use native.Mathlib.Omega.{arith}
 use lib.ListN.{length, drop}
 use lib.Seq.{drop-length}
-use lib.Dec.{leb, ltb, eqb}
-use borrow.Author.Tests.{lt-ltb, le-ltb, le-leb, lt-leb, leb-true, ltb-false}
-use Rattle.config.specs.inner.Tests.{split, tests, lifts}
-use Rattle.config.specs.Range.{outside}
+use lib.Dec.{ltb}
+use borrow.Author.Tests.{lt-ltb, le-ltb, ltb-false}
+use Rattle.config.specs.inner.Tests.{split, tests}
 use Rattle.config.specs.Sequence.{turn}
-use Rattle.config.specs.Settings.{checkOf}
-use Rattle.config.specs.declared.refusal.Refusal.the-variants.{IdleInterval, IdleGrowth, CommandWords}
 use Rattle.config.specs.declared.settings.StreamConfig.{StreamConfig}
-use Rattle.config.specs.declared.settings.Check.the-variants.{Passed, Refused}
 use Rattle.history.specs.Push.{pushed}
 use Rattle.history.specs.Entries.{size, entriesOf}
 use Rattle.history.specs.declared.history.SendHistory.{SendHistory}
 use Rattle.history.proofs.Reached.{pushed-state}
 use Rattle.history.proofs.States.{state-unwritten}
-use Rattle.sender.specs.State.{idleOk, validOf}
+use Rattle.idle.specs.Schedule.{idleNext}
+use Rattle.idle.specs.declared.idle.Idle.{Idle}
+use Rattle.idle.specs.declared.idle.IdleTimer.{IdleTimer}
+use Rattle.idle.specs.declared.idle.IdleTimer.the-variants.{Off, Waiting}
+use Rattle.idle.proofs.Steps.{next-ok}
+use Rattle.sender.specs.State.{validOf}
 use Rattle.sender.specs.Queueing.{holding}
-use Rattle.sender.specs.Writing.{lastTime, later, withIdle, idleNext, idledBy, idledOf, AgainAt}
-use Rattle.sender.specs.declared.sender.Idle.{Idle}
-use Rattle.sender.specs.declared.sender.IdleTimer.{IdleTimer}
-use Rattle.sender.specs.declared.sender.IdleTimer.the-variants.{Off, Waiting}
+use Rattle.sender.specs.Writing.{withIdle, idledBy, idledOf, AgainAt}
 use Rattle.sender.specs.declared.sender.Sender.{Sender}
 use Rattle.sender.proofs.Queued.{pushed-good}
 use Rattle.sender.proofs.Validity.{passes, valid-history, valid-queue, valid-good}
-
--- ---- an interval that grows
-module _ (i g : ℕ) (some : 0 < g) where
-  pub grown-last : lastTime / g < i → lastTime ≡ min (i * g) lastTime
-  grown-last h = let l : lastTime < i * g = div-lt-iff-lt-mul {k = g} {x = lastTime} {y = i} some .0 h in omega arith
-
-  pub grown-fits : i ≤ lastTime / g → i * g ≤ lastTime
-  grown-fits h = le-div-iff-mul-le {k = g} {x = i} {y = lastTime} some .0 h
-
-  pub grown-product : i ≤ lastTime / g → i * g ≡ min (i * g) lastTime
-  grown-product h = let l = grown-fits h in omega arith
-
-pub settings-growth : (cfg : StreamConfig) → checkOf cfg ≡ Passed → 0 < cfg .«idle_growth»
-unfolding checkOf
-settings-growth cfg e = by (outside 1 64 (cfg .«max_command_words»)) (outside 1 300 (cfg .«idle_interval_ms»)) (eqb (cfg .«idle_growth») 0) refl e
-  where
-    by : (a b t : Bool) → eqb (cfg .«idle_growth») 0 ≡ t → cond a (Refused CommandWords) (cond b (Refused IdleInterval) (cond t (Refused IdleGrowth) Passed)) ≡ Passed → 0 < cfg .«idle_growth»
-    by true b t f h = absurd (let z : _≡_ {A = ℕ} 0 1 = cc in omega arith)
-    by false true t f h = absurd (let z : _≡_ {A = ℕ} 0 1 = cc in omega arith)
-    by false false true f h = absurd (let z : _≡_ {A = ℕ} 0 1 = cc in omega arith)
-    by false false false f h = omega (arith, tests)
-
--- ---- the next step
-module _ (cfg : StreamConfig) (now : ℕ) (i : Idle) where
-  pub next-repeat : (due : ℕ) → i .step + 1 ≤ cfg .«fec_repeats» → due ≡ later now (i .interval) → Waiting record { due = due; step = i .step + 1; interval = i .interval } ≡ idleNext cfg now i
-  unfolding idleNext
-  next-repeat due h e = rw (le-leb _ _ h, e)
-
-  module _ (h : cfg .«fec_repeats» < i .step + 1) where
-    pub next-further : (due interval : ℕ) → i .step + 1 < 1 + cfg .«fec_repeats» + cfg .«idle_further» → interval ≡ min (i .interval * cfg .«idle_growth») lastTime → due ≡ later now interval
-        → Waiting record { due = due; step = i .step + 1; interval = interval } ≡ idleNext cfg now i
-    unfolding idleNext
-    next-further due interval l e f = rw (lt-leb _ _ h, lt-ltb _ _ l, f, e)
-
-    pub next-off : 1 + cfg .«fec_repeats» + cfg .«idle_further» ≤ i .step + 1 → Off ≡ idleNext cfg now i
-    unfolding idleNext
-    next-off l = rw (lt-leb _ _ h, le-ltb _ _ l)
 
 -- ---- the command that is queued
 module _ (s : Sender) (cfg : StreamConfig) (now : ℕ) (ring : List ℕ) where
@@ -94,9 +54,6 @@ module _ (s : Sender) (cfg : StreamConfig) (now : ℕ) (ring : List ℕ) where
       unfolding idledOf
       idled-queued h next t l p f = sym (ap (idledBy s cfg now ring) e ∙ rw (le-ltb _ _ none, le-ltb _ _ l, ← p, f))
 
-pub idle-step : (t : IdleTimer) (i : Idle) → idleOk t ≡ true → t ≡ Waiting i → i .step ≤ 510
-idle-step t i ok e = leb-true _ _ (rw e at ok)
-
 or-left : (a b : Bool) → (a || b) ≡ false → a ≡ false
 or-left true b e = e
 or-left false b e = refl
@@ -110,16 +67,6 @@ valid-none s ring v e =
     let u : size (drop (length es - s .unsent) es) ≡ s .«unsent_words» = state-unwritten (s .history) ring (s .unsent) (s .«unsent_words») (valid-history s ring v) .take in
     let z : length es - s .unsent ≡ length es = omega arith in
     sym u ∙ rw (z, drop-length es)
-
-next-ok : (cfg : StreamConfig) (now : ℕ) (i : Idle) → cfg .«fec_repeats» ≤ 255 → cfg .«idle_further» ≤ 255 → idleOk (idleNext cfg now i) ≡ true
-unfolding idleNext
-next-ok cfg now i r k = elim (split (leb (i .step + 1) (cfg .«fec_repeats»))) [
-  | inl a ↦ rw a (omega (arith, tests, lifts))
-  | inr a ↦ elim (split (ltb (i .step + 1) (1 + cfg .«fec_repeats» + cfg .«idle_further»))) [
-    | inl b ↦ rw (a, b) (omega (arith, tests, lifts))
-    | inr b ↦ rw (a, b)
-  ]
-]
 
 module _ (s : Sender) (cfg : StreamConfig) (now : ℕ) (ring : List ℕ) (v : validOf s ring ≡ true) (o : s .history .oldest < turn) (few : cfg .«fec_repeats» ≤ 255) (less : cfg .«idle_further» ≤ 255) where
   queued-kept : (i : Idle) → s .unsent ≡ 0 → validOf (withIdle (holding s (pushed (s .history) ring [] .0) 1 1) (idleNext cfg now i)) (pushed (s .history) ring [] .1) ≡ true

@@ -30,22 +30,24 @@ use Rattle.history.proofs.Effects.{popped-size}
 use Rattle.history.proofs.Queues.{queue-fit, fit-queue}
 use Rattle.history.proofs.Reached.{fresh-state, pushed-state, written-state}
 use Rattle.history.proofs.States.{state-good}
-use Rattle.sender.specs.State.{idleOk, validOf, fresh, startOf, resetOf}
+use Rattle.idle.specs.Schedule.{idleOk, idleStart}
+use Rattle.rows.specs.Rows.{rowOf, packetsFrom, fitAll, anyWords}
+use Rattle.rows.specs.Choice.{repeatsOf}
+use Rattle.rows.proofs.Packets.{length-packets, header-add}
+use Rattle.rows.proofs.Filling.{row-few, row-length, row-valid}
+use Rattle.sender.specs.State.{validOf, fresh, startOf, resetOf}
 use Rattle.sender.specs.Requests.{writtenCount, notWritten, withQueue, told, notInBuffer, queuedBy, requestedOf}
 use Rattle.sender.specs.Commands.{front, behind}
 use Rattle.sender.specs.Queueing.{roomOf, joining, further, needOf, joinedTo, pushedAll, queuedTo, sent, unsent, queuedOf, wordsCheck, placedOf, sentOf}
-use Rattle.sender.specs.Writing.{rowOf, packetsFrom, commandsAt, later, idledOf, fitAll, repeatsOf, anyWords, writtenOff, wrote, refused, newRow, newBy, newOf, servedOf, writtenBy}
-use Rattle.sender.specs.declared.sender.IdleTimer.the-variants.{Waiting}
+use Rattle.sender.specs.Writing.{commandsAt, idledOf, writtenOff, wrote, refused, newRow, newBy, newOf, servedOf, writtenBy}
 use Rattle.sender.specs.declared.sender.Send.the-variants.{Accepted}
 use Rattle.sender.specs.declared.sender.Wrote.{Wrote}
 use Rattle.sender.specs.declared.sender.Sender.{Sender}
 use Rattle.sender.specs.declared.sender.RequestOutcome.the-variants.{Error, NotSupported}
-use Rattle.sender.proofs.Packets.{length-packets, header-add}
 use Rattle.sender.proofs.Validity.{passes, valid-history, valid-queue, valid-idle, valid-good, valid-fit, valid-unsent, valid-words}
 use Rattle.sender.proofs.Queued.{pushed-good, check-divides, join-some, joined-state, joined-number}
 use Rattle.sender.proofs.Fronts.{Divides, part-of, divides-behind}
 use Rattle.sender.proofs.Parts.{commands-parts}
-use Rattle.sender.proofs.Rows.{row-few, row-length, row-valid}
 use Rattle.sender.proofs.Serving.{served-sound}
 use Rattle.sender.proofs.Idling.{idled-kept, idled-number}
 
@@ -204,7 +206,7 @@ off-kept s cfg now ring n v o l =
     passes _ ring (off-state n (s .history) ring (s .unsent) (s .«unsent_words») o l (valid-unsent s ring v) (valid-history s ring v)) (valid-queue s ring v)
     (by (anyWords (packetsFrom n ring (headerAt (writtenCount s) ring (s .history .head)))))
   where
-    by : (t : Bool) → idleOk (cond t (Waiting record { due = later now (cfg .«idle_interval_ms»); step = 0; interval = cfg .«idle_interval_ms» }) (s .idle)) ≡ true
+    by : (t : Bool) → idleOk (cond t (idleStart cfg now) (s .idle)) ≡ true
     by true = refl
     by false = valid-idle s ring v
 

@@ -6,8 +6,6 @@ mod Questions
 mod Answers
 pub mod Parts
 pub mod Kept
-pub mod Packets
-pub mod Rows
 pub mod Serving
 pub mod Idling
 pub mod Repeating

@@ -1,12 +1,11 @@
 -- The answers of the calls that queue nothing, each from the tests that lead to it.
-use mathlib.Core.Path.{_≡_, refl, sym, ap, _∙_}
-use mathlib.Core.Bool.{Bool, true, false}
+use mathlib.Core.Path.{_≡_, ap}
+use mathlib.Core.Bool.{true, false}
 use mathlib.Core.List.{List}
-use Prim.Native.Nat.{ℕ, _+_, _-_, _%_, _≤_, _<_}
+use Prim.Native.Nat.{ℕ, _-_, _%_, _≤_, _<_}
 use native.Mathlib.Omega.{arith}
-use lib.ListN.{length}
 use borrow.Author.Tests.{lt-ltb, le-ltb, le-leb, lt-leb, eq-eqb, ne-eqb}
-use Rattle.config.specs.Sequence.{turn, after, ahead}
+use Rattle.config.specs.Sequence.{after, ahead}
 use Rattle.config.specs.declared.settings.StreamConfig.{StreamConfig}
 use Rattle.command.specs.declared.retransmit.RetransmitRequest.{RetransmitRequest}
 use Rattle.history.specs.State.{cleared}
@@ -14,13 +13,13 @@ use Rattle.history.specs.Queue.{noneWait, pushAnswer}
 use Rattle.history.specs.declared.history.SendHistory.{SendHistory}
 use Rattle.history.specs.declared.queue.RetransmitQueue.{RetransmitQueue}
 use Rattle.history.specs.declared.queue.Pushed.{Pushed}
+use Rattle.idle.specs.Schedule.{isDue}
+use Rattle.idle.specs.declared.idle.IdleTimer.the-variants.{Off}
 use Rattle.sender.specs.State.{startOf}
-use Rattle.sender.specs.Requests.{writtenCount, notInBuffer, withQueue, told, outcomeOf, requestedOf, dueAt, deadlineOf, isDue, wantsOf, nextOf}
-use Rattle.sender.specs.declared.sender.IdleTimer.the-variants.{Off}
+use Rattle.sender.specs.Requests.{writtenCount, notInBuffer, withQueue, told, outcomeOf, requestedOf, dueAt, deadlineOf, wantsOf, nextOf}
 use Rattle.sender.specs.declared.sender.Sender.{Sender}
 use Rattle.sender.specs.declared.sender.RequestOutcome.{RequestOutcome}
 use Rattle.sender.specs.declared.sender.RequestOutcome.the-variants.{Error, NotSupported}
-use Rattle.sender.specs.declared.sender.Deadline.{Deadline}
 use Rattle.sender.specs.declared.sender.Deadline.the-variants.{Nothing}
 
 -- ---- a start

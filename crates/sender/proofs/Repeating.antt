@@ -1,140 +1,47 @@
--- Repeats and new commands: the repeats that fit, the row of both, and the sender after it.
-use mathlib.Core.Path.{_≡_, refl, sym, ap, _∙_}
+-- Repeats and new commands: the row of both, and the sender after it.
+use mathlib.Core.Path.{_≡_, sym, ap, _∙_}
 use mathlib.Core.Bool.{Bool, true, false, cond, not}
-use mathlib.Core.Logic.{inl, inr}
-use mathlib.Core.List.{List, [], _∷_, _++_}
-use Prim.Native.Nat.{ℕ, zero, suc, _+_, _-_, _*_, _≤_, _<_, min}
+use mathlib.Core.List.{List, _∷_, _++_}
+use Prim.Native.Nat.{ℕ, _+_, _-_, _≤_, _<_, min}
 use native.Mathlib.Omega.{arith}
-use lib.ListN.{length, take, drop}
+use lib.ListN.{length, drop}
 use lib.Dec.{ltb}
-use borrow.Author.Tests.{lt-ltb, le-ltb, le-leb, lt-leb, eq-eqb, ne-eqb}
-use Rattle.config.specs.inner.Tests.{split, tests}
+use borrow.Author.Tests.{lt-ltb, le-ltb, eq-eqb, ne-eqb}
 use Rattle.config.specs.declared.settings.StreamConfig.{StreamConfig}
-use Rattle.packet.specs.Layout.{Packet, sizeOf}
-use Rattle.packet.specs.Write.{validOf as payloadValid, limitOf, startOf, freeOf, doneOf, placedOf, writtenOf, Outcome, done}
+use Rattle.packet.specs.Write.{validOf as payloadValid, freeOf}
 use Rattle.packet.specs.declared.writer.PayloadWriter.{PayloadWriter}
-use Rattle.packet.proofs.Outcomes.{written-valid, written-length}
-use Rattle.history.specs.Headers.{lengthAt, nextAt, headerAt, wordsFrom, entriesFrom}
-use Rattle.history.specs.Entries.{Short, size, entriesOf}
+use Rattle.history.specs.Headers.{lengthAt, nextAt, headerAt, wordsFrom}
+use Rattle.history.specs.Entries.{size, entriesOf}
 use Rattle.history.specs.Written.{entryPacket}
-use Rattle.history.proofs.Entries.{length-read, length-entries, drop-entries, size-entries}
-use Rattle.history.proofs.Room.{good-header}
+use Rattle.history.proofs.Entries.{length-entries, drop-entries, size-entries}
 use Rattle.history.proofs.States.{state-unwritten}
 use Rattle.history.proofs.Walk.{words-add, words-prefix}
+use Rattle.idle.specs.Schedule.{idleStart}
+use Rattle.idle.specs.declared.idle.IdleTimer.{IdleTimer}
+use Rattle.rows.specs.Rows.{rowOf, packetsFrom, Standing}
+use Rattle.rows.specs.Choice.{repeatsOf}
+use Rattle.rows.proofs.Filling.{rowWith}
+use Rattle.rows.proofs.Packets.{packets-first, length-packets, packets-add, header-add, short-prefix, good-standing, any-words}
+use Rattle.rows.proofs.Choice.{first-fits, first-none, entries-all, took-few, took-less, took-words}
 use Rattle.sender.specs.State.{validOf}
 use Rattle.sender.specs.Requests.{writtenCount}
-use Rattle.sender.specs.Writing.{rowOf, packetsFrom, sizesOf, fitAll, repeatsOf, later, writtenOff, wrote, refused, newRow, newBy, newOf}
-use Rattle.sender.specs.declared.sender.IdleTimer.{IdleTimer}
-use Rattle.sender.specs.declared.sender.IdleTimer.the-variants.{Waiting}
+use Rattle.sender.specs.Writing.{takenOff, writtenOff, wrote, refused, newRow, newBy, newOf}
 use Rattle.sender.specs.declared.sender.Sender.{Sender}
 use Rattle.sender.specs.declared.sender.Wrote.{Wrote}
-use Rattle.sender.proofs.Rows.{rowWith, start-done, out-length, row-size, row-fits, out-few}
 use Rattle.sender.proofs.Validity.{valid-history, valid-good, valid-unsent}
-use Rattle.sender.proofs.Packets.{packets-first, length-packets, take-packets, packets-add, header-add, short-prefix, good-short, entry-size, entry-few, sizes-packets, any-words}
 
--- ---- what fits beside the first new command
-module _ (p : PayloadWriter) (b ring : List ℕ) (first : ℕ) where
-  -- the test, over words
-  fits : (cs : List Packet) (w : ℕ) → sizesOf cs ≡ 4 * w → fitAll p b (entryPacket ring first ∷ cs) ≡ ltb (lengthAt ring first + w) (freeOf p (length b))
-  unfolding sizesOf
-  fits cs w e =
-      let need : ℕ = startOf p + (sizeOf (entryPacket ring first) + sizesOf cs) in
-      let z = entry-size ring first in
-      elim (split (ltb (lengthAt ring first + w) (freeOf p (length b)))) [
-        | inl k ↦ rw k (le-leb need (limitOf p (length b)) (omega (arith, tests)))
-        | inr k ↦ rw k (lt-leb need (limitOf p (length b)) (omega (arith, tests)))
-      ]
-
-  pub first-fits : lengthAt ring first < freeOf p (length b) → fitAll p b (entryPacket ring first ∷ []) ≡ true
-  unfolding sizesOf
-  first-fits h = fits [] 0 refl ∙ lt-ltb (lengthAt ring first + 0) (freeOf p (length b)) (omega arith)
-
-  pub first-none : freeOf p (length b) ≤ lengthAt ring first → fitAll p b (entryPacket ring first ∷ []) ≡ false
-  unfolding sizesOf
-  first-none h = fits [] 0 refl ∙ le-ltb (lengthAt ring first + 0) (freeOf p (length b)) (omega arith)
-
-  -- all of the repeats fit
-  pub repeats-stay : (k : ℕ) (i : ℕ) → lengthAt ring first + wordsFrom k ring i < freeOf p (length b)
-      → repeatsOf p b (entryPacket ring first) (packetsFrom k ring i) ≡ packetsFrom k ring i
-  unfolding repeatsOf packetsFrom
-  repeats-stay zero i h = refl
-  repeats-stay (suc k) i h =
-      let t = fits (packetsFrom (suc k) ring i) (wordsFrom (suc k) ring i) (sizes-packets (suc k) ring i) ∙ lt-ltb _ _ h in
-      rw t
-
-  -- the oldest is dropped
-  pub repeats-drop : (k : ℕ) (i : ℕ) → 0 < k → freeOf p (length b) ≤ lengthAt ring first + wordsFrom k ring i
-      → repeatsOf p b (entryPacket ring first) (packetsFrom k ring i) ≡ repeatsOf p b (entryPacket ring first) (packetsFrom (k - 1) ring (nextAt ring i))
-  unfolding repeatsOf packetsFrom
-  repeats-drop zero i s h = absurd (omega arith)
-  repeats-drop (suc k) i s h =
-      let z : suc k - 1 ≡ k = omega arith in
-      let t = fits (packetsFrom (suc k) ring i) (wordsFrom (suc k) ring i) (sizes-packets (suc k) ring i) ∙ le-ltb _ _ h in
-      rw (z, t)
-
--- ---- the row of repeats and new commands
-written-fits : (p : PayloadWriter) (b : List ℕ) (c : Packet) → payloadValid p (length b) ≡ true → startOf p + sizeOf c ≤ limitOf p (length b) → length (c .words) ≤ 255
-    → writtenOf p b c ≡ (doneOf p c, placedOf p b c)
-unfolding writtenOf
-written-fits p b c v f l = rw (v, le-ltb _ _ f, le-ltb _ _ l)
-
--- entries that fit are written
-pub entries-all : (k m : ℕ) (ring : List ℕ) (i : ℕ) (p : PayloadWriter) (b : List ℕ) → k ≤ m → payloadValid p (length b) ≡ true → Short (entriesFrom k ring i)
-    → startOf p + 4 * wordsFrom k ring i ≤ limitOf p (length b)
-    → k ≤ rowOf p b (packetsFrom m ring i) .written
-unfolding rowOf packetsFrom wordsFrom entriesFrom Short
-entries-all zero m ring i p b l v s f = omega arith
-entries-all (suc k) zero ring i p b l v s f = absurd (omega arith)
-entries-all (suc k) (suc m) ring i p b l v s f =
-    let c = entryPacket ring i in
-    let z = entry-size ring i in
-    let g : startOf p + sizeOf c ≤ limitOf p (length b) = omega arith in
-    let few : length (c .words) ≤ 255 = omega (arith, entry-few ring i (rw length-read at (s .0))) in
-    let o : Outcome p b c (doneOf p c, placedOf p b c) = done g few in
-    let e = written-length p b c _ o in
-    let d = start-done p c in
-    rw (written-fits p b c v g few)
-    (omega (arith, entries-all k m ring (nextAt ring i) (doneOf p c .payload) (placedOf p b c) (omega arith) (rw e (written-valid p b c _ o v)) (s .1) (rw e (omega arith))))
-
--- what the payload has less of free words is what the entries take
-module _ (k : ℕ) (ring : List ℕ) (i : ℕ) (p : PayloadWriter) (b : List ℕ) (q : PayloadWriter) (bytes : List ℕ) (n : ℕ) (whole : Bool) (out : rowOf p b (packetsFrom k ring i) ≡ rowWith q bytes n whole) where
-  pub took-few : n ≤ k
-  took-few = rw length-packets at (out-few (packetsFrom k ring i) p b q bytes n whole out)
-
-  took-size : startOf q ≡ startOf p + 4 * wordsFrom n ring i
-  took-size =
-      let r : startOf q ≡ startOf p + sizesOf (take n (packetsFrom k ring i)) = rw out at (row-size (packetsFrom k ring i) p b) in
-      rw (take-packets n k ring i took-few, sizes-packets n ring i) at r
-
-  pub took-less : freeOf q (length bytes) ≤ freeOf p (length b)
-  took-less =
-      let f = rw out at (row-fits (packetsFrom k ring i) p b) in
-      let l = out-length (packetsFrom k ring i) p b q bytes n whole out in
-      rw (l, f .0) (omega (arith, took-size))
-
-  pub took-words : 0 < freeOf p (length b) → freeOf p (length b) - freeOf q (length bytes) ≡ wordsFrom n ring i
-  took-words h =
-      let f = rw out at (row-fits (packetsFrom k ring i) p b) in
-      let l = out-length (packetsFrom k ring i) p b q bytes n whole out in
-      let m = f .1 (omega arith) in
-      rw (l, f .0) (omega (arith, took-size))
-
--- n commands and their words are off the unwritten ones
-abbrev pub offWith : Sender → ℕ → ℕ → IdleTimer → Sender
-offWith s n words idle = record { history = s .history; queue = s .queue; unsent = s .unsent - n; «unsent_words» = s .«unsent_words» - words; idle = idle }
-
+-- ---- what a row takes off the unwritten commands
 abbrev pub startsIdle : Sender → StreamConfig → ℕ → ℕ → ℕ → IdleTimer
-startsIdle s cfg now n words = cond (ltb n words) (Waiting record { due = later now (cfg .«idle_interval_ms»); step = 0; interval = cfg .«idle_interval_ms» }) (s .idle)
+startsIdle s cfg now n words = cond (ltb n words) (idleStart cfg now) (s .idle)
 
 module _ (s : Sender) (cfg : StreamConfig) (now n words : ℕ) where
-  pub off-starts : (due : ℕ) → n < words → due ≡ later now (cfg .«idle_interval_ms»)
-      → offWith s n words (Waiting record { due = due; step = 0; interval = cfg .«idle_interval_ms» }) ≡ offWith s n words (startsIdle s cfg now n words)
-  off-starts due h e = rw (lt-ltb _ _ h, e)
+  pub off-starts : (t : IdleTimer) → n < words → t ≡ idleStart cfg now → takenOff s n words t ≡ takenOff s n words (startsIdle s cfg now n words)
+  off-starts t h e = rw (lt-ltb _ _ h, e)
 
-  pub off-stays : words ≤ n → offWith s n words (s .idle) ≡ offWith s n words (startsIdle s cfg now n words)
+  pub off-stays : words ≤ n → takenOff s n words (s .idle) ≡ takenOff s n words (startsIdle s cfg now n words)
   off-stays h = rw (le-ltb _ _ h)
 
-  pub off-is : (ring : List ℕ) → words ≡ wordsFrom n ring (headerAt (writtenCount s) ring (s .history .head)) → offWith s n words (startsIdle s cfg now n words) ≡ writtenOff s cfg now ring n
+  pub off-is : (ring : List ℕ) → words ≡ wordsFrom n ring (headerAt (writtenCount s) ring (s .history .head)) → takenOff s n words (startsIdle s cfg now n words) ≡ writtenOff s cfg now ring n
   unfolding writtenOff
   off-is ring e = rw (any-words n ring (headerAt (writtenCount s) ring (s .history .head)), e)
 
@@ -153,8 +60,8 @@ pub least-few : (a b k : ℕ) → k ≡ min a b → k ≤ b
 least-few a b k e = omega arith
 
 module _ (s : Sender) (ring : List ℕ) (v : validOf s ring ≡ true) (k at : ℕ) (few : k ≤ writtenCount s) (place : at ≡ headerAt (writtenCount s - k) ring (s .history .head)) where
-  pub last-short : Short (entriesFrom k ring at)
-  last-short = rw place (good-short (s .history) ring (valid-good s ring v) (writtenCount s - k) k (omega arith))
+  pub last-standing : Standing k ring at
+  last-standing = rw place (good-standing (s .history) ring (valid-good s ring v) (writtenCount s - k) k (omega arith))
 
   pub last-words : wordsFrom k ring at ≤ 32768
   last-words =
@@ -177,16 +84,13 @@ module _ (s : Sender) (ring : List ℕ) (v : validOf s ring ≡ true) (k at : �
 -- ---- the row
 module _ (s : Sender) (ring : List ℕ) (v : validOf s ring ≡ true) (p : PayloadWriter) (b : List ℕ) (valid : payloadValid p (length b) ≡ true) (count at words : ℕ)
     (few : count ≤ writtenCount s) (place : at ≡ headerAt (writtenCount s - count) ring (s .history .head)) (sum : words ≡ wordsFrom count ring at) (room : words < freeOf p (length b)) where
-  pub row-short : Short (entriesFrom (count + s .unsent) ring at)
-  row-short = rw place (good-short (s .history) ring (valid-good s ring v) (writtenCount s - count) (count + s .unsent) (omega (arith, valid-unsent s ring v)))
-
-  pub row-place : at < length ring
-  row-place = rw place (good-header (s .history) ring (valid-good s ring v) (writtenCount s - count) (omega arith))
+  pub row-standing : Standing (count + s .unsent) ring at
+  row-standing = rw place (good-standing (s .history) ring (valid-good s ring v) (writtenCount s - count) (count + s .unsent) (omega (arith, valid-unsent s ring v)))
 
   module _ (q : PayloadWriter) (bytes : List ℕ) (m : ℕ) (whole : Bool) (out : rowOf p b (packetsFrom (count + s .unsent) ring at) ≡ rowWith q bytes m whole) where
     pub row-again : count ≤ m
     row-again =
-        let l : count ≤ rowOf p b (packetsFrom (count + s .unsent) ring at) .written = entries-all count (count + s .unsent) ring at p b (omega arith) valid (short-prefix count (count + s .unsent) ring at (omega arith) row-short) (omega (arith, sum)) in
+        let l : count ≤ rowOf p b (packetsFrom (count + s .unsent) ring at) .written = entries-all count (count + s .unsent) ring at p b (omega arith) valid (short-prefix count (count + s .unsent) ring at (omega arith) (row-standing .short)) (omega (arith, sum)) in
         rw out at l
 
     pub row-most : m ≤ count + s .unsent
@@ -213,7 +117,7 @@ module _ (s : Sender) (ring : List ℕ) (v : validOf s ring ≡ true) (p : Paylo
       pub row-words : (words ≤ free - left) × (free - left - words ≤ s .«unsent_words»)
       row-words = let t = took in let n = new-most in (omega arith, omega arith)
 
-      pub row-wrote : (cfg : StreamConfig) (now before : ℕ) (next : Sender) → next ≡ offWith s (m - count) (free - left - words) (startsIdle s cfg now (m - count) (free - left - words))
+      pub row-wrote : (cfg : StreamConfig) (now before : ℕ) (next : Sender) → next ≡ takenOff s (m - count) (free - left - words) (startsIdle s cfg now (m - count) (free - left - words))
           → (wrote next q (before + m) (not whole), bytes) ≡ newRow s cfg now before ring count (rowOf p b (packetsFrom (count + s .unsent) ring at))
       row-wrote cfg now before next e =
           let o : free - left - words ≡ new = let t = took in omega arith in

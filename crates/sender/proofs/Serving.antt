@@ -1,60 +1,38 @@
 -- Serving requests: the answer to one, what of it is left, and a turn of the loop over those that wait.
 use mathlib.Core.Path.{_≡_, refl, sym, ap, _∙_}
 use mathlib.Core.Bool.{Bool, true, false, cond, _||_}
-use mathlib.Core.Logic.{inl, inr}
 use mathlib.Core.List.{List, [], _∷_}
-use Prim.Native.Nat.{ℕ, zero, suc, _+_, _-_, _*_, _≤_, _<_, min}
+use Prim.Native.Nat.{ℕ, zero, suc, _+_, _-_, _*_, _≤_, _<_}
 use native.Mathlib.Omega.{arith}
 use lib.ListN.{length, getD}
 use lib.Dec.{eqb}
-use borrow.Author.Tests.{le-leb, lt-leb, eq-eqb, ne-eqb}
-use Rattle.config.specs.inner.Tests.{split}
+use borrow.Author.Tests.{le-leb, lt-leb, ne-eqb}
 use Rattle.config.specs.Sequence.{after}
 use Rattle.config.specs.declared.settings.StreamConfig.{StreamConfig}
-use Rattle.packet.specs.Write.{validOf as payloadValid, startOf, writtenOf}
+use Rattle.packet.specs.Write.{validOf as payloadValid, startOf}
 use Rattle.packet.specs.declared.writer.PayloadWriter.{PayloadWriter}
-use Rattle.command.specs.Write.{errorPacket, errorWritten}
-use Rattle.command.specs.declared.retransmit.RetransmitError.{RetransmitError}
+use Rattle.command.specs.Write.{errorPacket}
 use Rattle.command.specs.declared.retransmit.RetransmitRequest.{RetransmitRequest}
-use Rattle.history.specs.Headers.{headerAt, entriesFrom}
-use Rattle.history.specs.Entries.{Short}
+use Rattle.history.specs.Headers.{headerAt}
 use Rattle.history.specs.Queue.{Fit, queueOk, blank, request, popped, inFront, popOf, setFrontOf}
 use Rattle.history.specs.declared.queue.RetransmitQueue.{RetransmitQueue}
 use Rattle.history.specs.declared.queue.Popped.{Popped}
 use Rattle.history.proofs.Queues.{fit-queue}
 use Rattle.history.proofs.Slots.{slot-zero, slot-in}
+use Rattle.rows.specs.Rows.{Row, rowOf, packetsFrom, Standing}
+use Rattle.rows.specs.Choice.{reached}
+use Rattle.rows.proofs.Packets.{length-packets, good-standing}
+use Rattle.rows.proofs.Filling.{rowWith, row-length, row-valid, row-grows, out-few}
+use Rattle.rows.proofs.Choice.{reach-most}
 use Rattle.sender.specs.State.{validOf}
 use Rattle.sender.specs.Requests.{writtenCount, indexOf, notWritten, notInBuffer, withQueue}
-use Rattle.sender.specs.Writing.{Row, rowOf, packetsFrom, reachOf, answerTo, restOf, Served, servedAlso, servedIn, servedOf, idledOf, wrote, newOf, writtenBy}
+use Rattle.sender.specs.Writing.{reachOf, answerTo, restOf, Served, servedAlso, servedIn, servedOf, idledOf, wrote, newOf, writtenBy}
 use Rattle.sender.specs.declared.sender.Sender.{Sender}
 use Rattle.sender.specs.declared.sender.Wrote.{Wrote}
-use Rattle.sender.proofs.Packets.{length-packets, good-short}
-use Rattle.sender.proofs.Rows.{rowWith, row-length, row-valid, row-grows, out-few}
 use Rattle.sender.proofs.Validity.{passes, valid-history, valid-queue, valid-idle, valid-good, valid-fit}
 
 pub or-right : (a b : Bool) → a ≡ false → b ≡ (a || b)
 or-right a b e = rw e
-
--- ---- how far a request reaches
-abbrev reaching : ℕ → ℕ → ℕ
-reaching count left = cond (eqb count 0) left (min count left)
-
-pub reach-all : (count left : ℕ) → count ≡ 0 → left ≡ reaching count left
-reach-all count left e = rw (eq-eqb _ _ e)
-
-pub reach-some : (count left n : ℕ) → (count ≡ 0 → ⊥) → n ≡ min count left → n ≡ reaching count left
-reach-some count left n e f = rw (ne-eqb _ _ e) f
-
-pub reach-most : (count left : ℕ) → reaching count left ≤ left
-reach-most count left = elim (split (eqb count 0)) [
-  | inl k ↦ rw k (omega arith)
-  | inr k ↦ rw k (omega arith)
-]
-
--- ---- the error
-pub error-written : (e : RetransmitError) (p : PayloadWriter) (b : List ℕ) → payloadValid p (length b) ≡ true → e .reason ≤ 1 → errorWritten e p b ≡ writtenOf p b (errorPacket e)
-unfolding errorWritten
-error-written e p b v l = rw (v, le-leb _ _ l)
 
 -- ---- the answer to a request
 module _ (s : Sender) (r : RetransmitRequest) (k : ℕ) (e : k ≡ indexOf s (r .seq)) where
@@ -65,14 +43,14 @@ module _ (s : Sender) (r : RetransmitRequest) (k : ℕ) (e : k ≡ indexOf s (r 
     pub rest-error : (n : ℕ) → s ≡ restOf s r n
     rest-error n = rw (← e, le-leb _ _ gone)
 
-  module _ (held : k < writtenCount s) (left : ℕ) (f : left ≡ reaching (r .count) (writtenCount s - k)) where
+  module _ (held : k < writtenCount s) (left : ℕ) (f : left ≡ reached (r .count) (writtenCount s - k)) where
     pub answer-entries : (ring : List ℕ) (at : ℕ) → at ≡ headerAt k ring (s .history .head) → answerTo s ring r ≡ packetsFrom left ring at
     answer-entries ring at g = rw (← e, lt-leb _ _ held, ← f, g)
 
-    -- its entries are short
-    pub answer-short : (ring : List ℕ) (at : ℕ) → validOf s ring ≡ true → at ≡ headerAt k ring (s .history .head) → Short (entriesFrom left ring at)
-    answer-short ring at v g =
-        rw g (good-short (s .history) ring (valid-good s ring v) k left (omega (arith, reach-most (r .count) (writtenCount s - k))))
+    -- its entries stand in the history
+    pub answer-standing : (ring : List ℕ) (at : ℕ) → validOf s ring ≡ true → at ≡ headerAt k ring (s .history .head) → Standing left ring at
+    answer-standing ring at v g =
+        rw g (good-standing (s .history) ring (valid-good s ring v) k left (omega (arith, reach-most (r .count) (writtenCount s - k))))
 
     pub rest-left : (n seq : ℕ) (q : RetransmitQueue) → 0 < s .queue .len → seq ≡ after (r .seq) n → q ≡ setFrontOf (s .queue) record { seq = seq; count = left - n }
         → withQueue s q ≡ restOf s r n

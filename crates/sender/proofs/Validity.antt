@@ -14,7 +14,8 @@ use Rattle.history.proofs.Flat.{size-append}
 use Rattle.history.proofs.Queues.{queue-fit}
 use Rattle.history.proofs.Room.{good-few, good-last}
 use Rattle.history.proofs.States.{state-good, state-unwritten}
-use Rattle.sender.specs.State.{idleOk, validOf}
+use Rattle.idle.specs.Schedule.{idleOk}
+use Rattle.sender.specs.State.{validOf}
 use Rattle.sender.specs.declared.sender.Sender.{Sender}
 
 module _ (s : Sender) (ring : List ℕ) where

@@ -1,7 +1,6 @@
 -- 01, "History, repeats, idle": a received Retransmit Request, and what a caller asks of a sender; over settings and a state that were tested.
 use Prim.Native.Nat.{ℕ, _-_}
-use mathlib.Core.Bool.{Bool, false, cond, not, _||_}
-use mathlib.Core.List.{List}
+use mathlib.Core.Bool.{Bool, cond, not, _||_}
 use lib.Dec.{leb, ltb, eqb}
 use Rattle.config.specs.Sequence.{after, ahead}
 use Rattle.config.specs.declared.settings.StreamConfig.{StreamConfig}
@@ -12,8 +11,9 @@ use Rattle.history.specs.declared.queue.RetransmitQueue.{RetransmitQueue}
 use Rattle.history.specs.declared.queue.Push.{Push}
 use Rattle.history.specs.declared.queue.Push.the-variants.{Queued as PushQueued, Ignored as PushIgnored}
 use Rattle.history.specs.declared.queue.Pushed.{Pushed}
-use Rattle.sender.specs.declared.sender.IdleTimer.{IdleTimer}
-use Rattle.sender.specs.declared.sender.IdleTimer.the-variants.{Off, Waiting}
+use Rattle.idle.specs.Schedule.{isDue}
+use Rattle.idle.specs.declared.idle.IdleTimer.{IdleTimer}
+use Rattle.idle.specs.declared.idle.IdleTimer.the-variants.{Off, Waiting}
 use Rattle.sender.specs.declared.sender.Sender.{Sender}
 use Rattle.sender.specs.declared.sender.RequestOutcome.{RequestOutcome}
 use Rattle.sender.specs.declared.sender.RequestOutcome.the-variants.{Queued, Ignored, Error, NotSupported}
@@ -65,10 +65,6 @@ dueAt (Waiting i) = At (i .due)
 -- no idle command is queued while a command is unwritten
 unfoldable pub deadlineOf : Sender → Deadline
 deadlineOf s = cond (eqb (s .unsent) 0) (dueAt (s .idle)) Nothing
-
-abbrev pub isDue : IdleTimer → ℕ → Bool
-isDue Off now = false
-isDue (Waiting i) now = leb (i .due) now
 
 -- an unwritten command, a request that waits, or an idle command that is due
 unfoldable pub wantsOf : Sender → ℕ → Bool

@@ -1,19 +1,13 @@
 -- 01, "State test": the sender's part of number 13; "Start": a start and a reset.
 use Prim.Native.Nat.{ℕ}
-use mathlib.Core.Bool.{Bool, true, _&&_}
+use mathlib.Core.Bool.{Bool, _&&_}
 use mathlib.Core.List.{List}
 use lib.ListN.{length, replicate}
-use lib.Dec.{leb}
 use Rattle.history.specs.State.{fresh as noneHeld, stateOk}
 use Rattle.history.specs.Queue.{noneWait, queueOk}
-use Rattle.sender.specs.declared.sender.IdleTimer.{IdleTimer}
-use Rattle.sender.specs.declared.sender.IdleTimer.the-variants.{Off, Waiting}
+use Rattle.idle.specs.Schedule.{idleOk}
+use Rattle.idle.specs.declared.idle.IdleTimer.the-variants.{Off}
 use Rattle.sender.specs.declared.sender.Sender.{Sender}
-
--- the idle step doesn't exceed 510
-abbrev pub idleOk : IdleTimer → Bool
-idleOk Off = true
-idleOk (Waiting i) = leb (i .step) 510
 
 -- the state test: the history's, the request ring's and the idle schedule's part
 unfoldable pub validOf : Sender → List ℕ → Bool

@@ -1,68 +1,44 @@
 -- 01, "History, repeats, idle" and "Write the stream": a write, over settings, a state and a payload that were tested.
 -- Waiting retransmits come first, then a due idle command is queued, then up to R of the last written commands, then new ones.
-use Prim.Native.Nat.{ℕ, zero, suc, _+_, _-_, _*_, _<_, min}
+use Prim.Native.Nat.{ℕ, zero, suc, _+_, _-_, _≤_, _<_, min}
 use mathlib.Core.Path.{_≡_}
 use mathlib.Core.Bool.{Bool, true, false, cond, not, _||_}
 use mathlib.Core.List.{List, [], _∷_, _++_}
-use lib.ListN.{length, take}
-use lib.Dec.{leb, ltb, eqb}
+use lib.ListN.{length}
+use lib.Dec.{ltb, eqb}
 use Rattle.config.specs.Sequence.{after}
 use Rattle.config.specs.declared.refusal.Refusal.the-variants.{TooLarge}
 use Rattle.config.specs.declared.settings.StreamConfig.{StreamConfig}
-use Rattle.packet.specs.Layout.{Packet, sizeOf}
-use Rattle.packet.specs.Write.{limitOf, startOf, writtenOf}
+use Rattle.packet.specs.Layout.{Packet}
+use Rattle.packet.specs.Write.{freeOf}
 use Rattle.packet.specs.declared.writer.PayloadWriter.{PayloadWriter}
-use Rattle.packet.specs.declared.writer.Write.{Write}
-use Rattle.packet.specs.declared.writer.Write.the-variants.{Done, Refused as NotWritten}
 use Rattle.command.specs.Write.{errorPacket}
 use Rattle.command.specs.declared.retransmit.RetransmitRequest.{RetransmitRequest}
-use Rattle.history.specs.Headers.{nextAt, headerAt, wordsFrom}
+use Rattle.history.specs.Headers.{headerAt, wordsFrom}
 use Rattle.history.specs.Push.{pushed}
 use Rattle.history.specs.Queue.{request, popped, inFront}
-use Rattle.history.specs.Written.{entryPacket}
+use Rattle.idle.specs.Schedule.{idleStart, idleNext}
+use Rattle.idle.specs.declared.idle.IdleTimer.{IdleTimer}
+use Rattle.idle.specs.declared.idle.IdleTimer.the-variants.{Off, Waiting}
+use Rattle.rows.specs.Rows.{Row, rowOf, fitAll, anyWords, packetsFrom}
+use Rattle.rows.specs.Choice.{reached, repeatsOf}
+use Rattle.rows.specs.declared.rows.Repeated.{Repeated}
 use Rattle.sender.specs.Queueing.{holding}
 use Rattle.sender.specs.Requests.{writtenCount, indexOf, notWritten, notInBuffer, withQueue}
-use Rattle.sender.specs.declared.sender.Idle.{Idle}
-use Rattle.sender.specs.declared.sender.IdleTimer.{IdleTimer}
-use Rattle.sender.specs.declared.sender.IdleTimer.the-variants.{Off, Waiting}
 use Rattle.sender.specs.declared.sender.Sender.{Sender}
-use Rattle.sender.specs.declared.sender.Writing.{Writing}
 use Rattle.sender.specs.declared.sender.Writing.the-variants.{Written, Refused}
 use Rattle.sender.specs.declared.sender.Wrote.{Wrote}
+use Rattle.sender.specs.declared.writing.Served.{Served as Handed}
 
--- ---- commands one after the other
--- the payload and its bytes after commands were written up to the first that doesn't fit, how many were, and whether all
-pub record Row : Type 0 where
-  pub payload : PayloadWriter
-  pub bytes : List ℕ
-  pub written : ℕ
-  pub whole : Bool
-
-abbrev pub oneMore : Write → PayloadWriter → List ℕ → Row → Row
-oneMore Done p b r = record { payload = r .payload; bytes = r .bytes; written = 1 + r .written; whole = r .whole }
-oneMore (NotWritten why) p b r = record { payload = p; bytes = b; written = 0; whole = false }
-
-unfoldable pub rowOf : PayloadWriter → List ℕ → List Packet → Row
-rowOf p b [] = record { payload = p; bytes = b; written = 0; whole = true }
-rowOf p b (c ∷ cs) =
-    let w = writtenOf p b c in
-    oneMore (w .0 .answer) (w .0 .payload) (w .1) (rowOf (w .0 .payload) (w .1) cs)
-
--- k entries of the history from the header at place i on, as data commands
-unfoldable pub packetsFrom : ℕ → List ℕ → ℕ → List Packet
-packetsFrom zero ring i = []
-packetsFrom (suc k) ring i = entryPacket ring i ∷ packetsFrom k ring (nextAt ring i)
-
+-- ---- commands of the history
 -- k entries from entry j on, 0 the oldest
 abbrev pub commandsAt : Sender → List ℕ → ℕ → ℕ → List Packet
 commandsAt s ring j k = packetsFrom k ring (headerAt j ring (s .history .head))
 
 -- ---- retransmits
--- how many commands a request is answered with: count 0 reaches the newest written command, and no count reaches past it
+-- how many commands a request is answered with, of the written ones from its number on
 abbrev pub reachOf : Sender → RetransmitRequest → ℕ
-reachOf s r =
-    let left : ℕ = writtenCount s - indexOf s (r .seq) in
-    cond (eqb (r .count) 0) left (min (r .count) left)
+reachOf s r = reached (r .count) (writtenCount s - indexOf s (r .seq))
 
 -- the error if the number left while the request waited, with the oldest number at the time of the write
 abbrev pub answerTo : Sender → List ℕ → RetransmitRequest → List Packet
@@ -83,6 +59,10 @@ pub record Served : Type 0 where
   pub written : ℕ
   pub more : Bool
 
+-- what the code hands back, which changes the request ring alone, and the bytes that it leaves
+abbrev pub servedBy : Sender → Handed → List ℕ → Served
+servedBy s r b = record { sender = withQueue s (r .queue); payload = r .payload; bytes = b; written = r .written; more = r .more }
+
 abbrev pub servedAlso : ℕ → Served → Served
 servedAlso n s = record { sender = s .sender; payload = s .payload; bytes = s .bytes; written = n + s .written; more = s .more }
 
@@ -100,24 +80,8 @@ unfoldable pub servedOf : Sender → List ℕ → PayloadWriter → List ℕ →
 servedOf s ring p b = servedIn (s .queue .len) s ring p b
 
 -- ---- idle commands
-abbrev pub lastTime : ℕ
-lastTime = 18446744073709551615
-
--- times add and grow with saturation
-abbrev pub later : ℕ → ℕ → ℕ
-later now wait = min (now + wait) lastTime
-
 abbrev pub withIdle : Sender → IdleTimer → Sender
 withIdle s i = record { history = s .history; queue = s .queue; unsent = s .unsent; «unsent_words» = s .«unsent_words»; idle = i }
-
--- 1 + R Zero Length Commands at steps of T1, then K more, each step G times the one before, each due one step after the last was queued
-unfoldable pub idleNext : StreamConfig → ℕ → Idle → IdleTimer
-idleNext cfg now i =
-    let step : ℕ = i .step + 1 in
-    let grown : ℕ = min (i .interval * cfg .«idle_growth») lastTime in
-    cond (leb step (cfg .«fec_repeats»)) (Waiting record { due = later now (i .interval); step = step; interval = i .interval })
-    (cond (ltb step (1 + cfg .«fec_repeats» + cfg .«idle_further»)) (Waiting record { due = later now grown; step = step; interval = grown })
-    Off)
 
 -- none is queued while a command is unwritten
 abbrev pub idledBy : Sender → StreamConfig → ℕ → List ℕ → IdleTimer → Sender × List ℕ
@@ -131,44 +95,31 @@ unfoldable pub idledOf : Sender → StreamConfig → ℕ → List ℕ → Sender
 idledOf s cfg now ring = idledBy s cfg now ring (s .idle)
 
 -- ---- repeats and new commands
-unfoldable pub sizesOf : List Packet → ℕ
-sizesOf [] = 0
-sizesOf (c ∷ cs) = sizeOf c + sizesOf cs
-
--- the commands fit together
-abbrev pub fitAll : PayloadWriter → List ℕ → List Packet → Bool
-fitAll p b cs = leb (startOf p + sizesOf cs) (limitOf p (length b))
-
 -- the first of up to r written commands to repeat stands at the place
 abbrev pub AgainAt : Sender → List ℕ → ℕ → ℕ → Type 0
 AgainAt s ring r place = (place ≡ headerAt (writtenCount s - min r (writtenCount s)) ring (s .history .head)) × (place < length ring)
 
--- the oldest dropped first if they don't fit beside the first new one
-unfoldable pub repeatsOf : PayloadWriter → List ℕ → Packet → List Packet → List Packet
-repeatsOf p b first [] = []
-repeatsOf p b first (c ∷ cs) = cond (fitAll p b (first ∷ c ∷ cs)) (c ∷ cs) (repeatsOf p b first cs)
-
--- a command with words is among them
-unfoldable pub anyWords : List Packet → Bool
-anyWords [] = false
-anyWords (c ∷ cs) = ltb 0 (length (c .words)) || anyWords cs
+-- the last written commands that are repeated, their words counted, for which there is space
+pub record Again (s : Sender) (ring : List ℕ) (p : PayloadWriter) (b : List ℕ) (r : Repeated) : Type 0 where
+  pub few : r .count ≤ writtenCount s
+  pub place : r .at ≡ headerAt (writtenCount s - r .count) ring (s .history .head)
+  pub words : r .words ≡ wordsFrom (r .count) ring (r .at)
+  pub room : r .words < freeOf p (length b)
 
 -- writing a new command with words starts the idle schedule
 abbrev pub idleAfter : StreamConfig → ℕ → List Packet → IdleTimer → IdleTimer
 idleAfter cfg now cs old =
-    cond (anyWords cs) (Waiting record { due = later now (cfg .«idle_interval_ms»); step = 0; interval = cfg .«idle_interval_ms» }) old
+    cond (anyWords cs) (idleStart cfg now) old
+
+-- n commands and their words are off the unwritten ones
+abbrev pub takenOff : Sender → ℕ → ℕ → IdleTimer → Sender
+takenOff s n words idle = record { history = s .history; queue = s .queue; unsent = s .unsent - n; «unsent_words» = s .«unsent_words» - words; idle = idle }
 
 -- the sender after n of its unwritten commands were written
 unfoldable pub writtenOff : Sender → StreamConfig → ℕ → List ℕ → ℕ → Sender
 writtenOff s cfg now ring n =
     let i : ℕ = headerAt (writtenCount s) ring (s .history .head) in
-    record {
-      history = s .history;
-      queue = s .queue;
-      unsent = s .unsent - n;
-      «unsent_words» = s .«unsent_words» - wordsFrom n ring i;
-      idle = idleAfter cfg now (packetsFrom n ring i) (s .idle);
-    }
+    takenOff s n (wordsFrom n ring i) (idleAfter cfg now (packetsFrom n ring i) (s .idle))
 
 abbrev pub wrote : Sender → PayloadWriter → ℕ → Bool → Wrote
 wrote s p n more = record { sender = s; payload = p; answer = Written record { commands = n; more = more } }

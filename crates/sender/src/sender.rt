@@ -17,21 +17,8 @@ use history::history::SendHistory;
 use history::queue::Ignored;
 use history::queue::PLACES;
 use history::queue::RetransmitQueue;
+use idle::idle::IdleTimer;
 use packet::writer::PayloadWriter;
-
-pub struct Idle {
-    // When the next idle command is due, in ms.
-    pub due: u64,
-    // Idle commands queued since the last command with words, at most 510.
-    pub step: u16,
-    // The step's length, in ms.
-    pub interval: u64,
-}
-
-pub enum IdleTimer {
-    Off,
-    Waiting(Idle),
-}
 
 //   history:  | written .. | unsent .. |      newest
 pub struct Sender {

@@ -11,14 +11,13 @@ ghost use Rattle.command.specs.Messages.{wholeOf};
 ghost use Rattle.history.specs.State.{Good, Answers};
 ghost use Rattle.history.specs.Headers.{lengthAt};
 ghost use Rattle.history.specs.Queue.{Fit};
-ghost use Rattle.sender.specs.State.{idleOk, validOf, startOf, resetOf};
+ghost use Rattle.sender.specs.State.{validOf, startOf, resetOf};
 ghost use Rattle.sender.specs.Commands.{commandsOf, above};
 ghost use Rattle.sender.specs.Queueing.{roomOf, joinedTo, pushedAll, wordsCheck, placedOf, sentOf};
-ghost use Rattle.sender.specs.Requests.{outcomeOf, requestedOf, dueAt, isDue, deadlineOf, wantsOf, nextOf};
+ghost use Rattle.sender.specs.Requests.{outcomeOf, requestedOf, dueAt, deadlineOf, wantsOf, nextOf};
 ghost use Rattle.sender.specs.Answers.{notStarted};
 use super::messages;
 use super::sender::Deadline;
-use super::sender::IdleTimer;
 use super::sender::RequestOutcome;
 use super::sender::Requested;
 use super::sender::Send;
@@ -39,18 +38,7 @@ use history::history::SendHistory;
 use history::history::Tested;
 use history::queue::Push;
 use history::queue::RetransmitQueue;
-
-// The most idle commands after one command with words: 1 + R + K.
-pub const MAX_STEP: u16 = 510;
-
-fn idle_ok(idle: IdleTimer) -> bool
-    ensures { λ r. ⌜ r ≡ idleOk idle ⌝ }
-{
-    match idle {
-        IdleTimer::Off => true,
-        IdleTimer::Waiting(i) => i.step <= MAX_STEP,
-    }
-}
+use idle::idle::IdleTimer;
 
 // The state test: the history's part, the request ring's, and the idle step.
 pub fn is_valid(s: Sender, ring: &[u32]) -> bool
@@ -61,7 +49,7 @@ pub fn is_valid(s: Sender, ring: &[u32]) -> bool
     if history.state_ok(ring, s.unsent, s.unsent_words) {
         if queue.state_ok() {
             let idle = s.idle;
-            return idle_ok(idle);
+            return idle.state_ok();
         }
         return false;
     }
@@ -80,7 +68,7 @@ pub fn test(s: Sender, ring: &[u32], back: usize) -> Tested
         if queue.state_ok() {
             let idle = s.idle;
             return Tested {
-                ok: idle_ok(idle),
+                ok: idle.state_ok(),
                 at: tested.at,
             };
         }
@@ -317,15 +305,6 @@ fn due_at(idle: IdleTimer) -> Deadline
     }
 }
 
-fn is_due(idle: IdleTimer, time: u64) -> bool
-    ensures { λ r. ⌜ r ≡ isDue idle time ⌝ }
-{
-    match idle {
-        IdleTimer::Off => false,
-        IdleTimer::Waiting(i) => i.due <= time,
-    }
-}
-
 // An unwritten command, a request that waits, or an idle command that is due.
 pub fn wants_write(s: Sender, time: u64) -> bool
     ensures { λ r. ⌜ r ≡ wantsOf s time ⌝ }
@@ -338,7 +317,7 @@ pub fn wants_write(s: Sender, time: u64) -> bool
         return true;
     }
     let idle = s.idle;
-    is_due(idle, time)
+    idle.is_due(time)
 }
 
 // The number of the oldest unwritten command, or of the next one.

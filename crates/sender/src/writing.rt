@@ -6,25 +6,20 @@
 // command is queued, and up to R of the last written commands are repeated before the new ones.
 ghost use mathlib.Core.Path.{_≡_};
 ghost use mathlib.Core.Bool.{true, false, cond, _||_};
-ghost use mathlib.Core.List.{[], _∷_};
-ghost use Prim.Native.Nat.{_+_, _-_, _*_, _≤_, _<_, min};
+ghost use Prim.Native.Nat.{_+_, _-_, _≤_, _<_};
 ghost use lib.ListN.{length};
 ghost use lib.Dec.{eqb, ltb};
 ghost use Rattle.config.specs.Settings.{checkOf};
 ghost use Rattle.config.specs.declared.settings.Check.the-variants.{Passed};
-ghost use Rattle.packet.specs.Write.{validOf as payloadValid, freeOf};
-ghost use Rattle.command.specs.Write.{errorPacket};
-ghost use Rattle.history.specs.Headers.{lengthAt, headerAt, wordsFrom, entriesFrom};
+ghost use Rattle.packet.specs.Write.{validOf as payloadValid};
+ghost use Rattle.history.specs.Headers.{headerAt};
 ghost use Rattle.history.specs.State.{Good};
-ghost use Rattle.history.specs.Entries.{Short};
 ghost use Rattle.history.specs.Queue.{Fit};
-ghost use Rattle.history.specs.Written.{entryPacket};
+ghost use Rattle.idle.specs.Schedule.{idleStart};
+ghost use Rattle.rows.specs.Rows.{rowOf, leaving, packetsFrom};
 ghost use Rattle.sender.specs.State.{validOf};
-ghost use Rattle.sender.specs.Requests.{writtenCount, notWritten, withQueue};
-ghost use Rattle.sender.specs.Writing.{rowOf, packetsFrom, reachOf, answerTo, restOf, servedOf, lastTime, later, idleNext, idledOf, AgainAt, repeatsOf, newRow, newOf, writtenBy};
-ghost use Rattle.sender.specs.declared.sender.IdleTimer.the-variants.{Waiting};
-use super::sender::Idle;
-use super::sender::IdleTimer;
+ghost use Rattle.sender.specs.Requests.{notWritten, withQueue};
+ghost use Rattle.sender.specs.Writing.{reachOf, answerTo, restOf, servedBy, servedOf, idledOf, AgainAt, Again, takenOff, newRow, newOf, writtenBy};
 use super::sender::Sender;
 use super::sender::Writing;
 use super::sender::Written;
@@ -38,93 +33,22 @@ use config::sequence;
 use config::settings::StreamConfig;
 use history::history::SendHistory;
 use history::queue::RetransmitQueue;
+use idle::idle::IdleTimer;
 use packet::writer::PayloadWriter;
-use packet::writer::Write;
-
-// Commands written one after the other, up to the first that does not fit.
-pub struct Row {
-    pub payload: PayloadWriter,
-    pub written: usize,
-    // Whether all were.
-    pub whole: bool,
-}
-
-// Writes `k` entries of the history from the header at `at` on.
-fn write_entries(p: PayloadWriter, buf: &mut [u8], ring: &[u32], at: usize, k: usize) -> Row
-    requires { ⌜ (payloadValid p (length (now buf)) ≡ true) × (at < length (now ring)) × (65 ≤ length (now ring)) × (length (now ring) ≤ 32768) × Short (entriesFrom k (now ring) at) ⌝ }
-    ensures { λ r. ⌜ rowOf p (now (buf .entry)) (packetsFrom k (now (ring .entry)) at) ≡ record { payload = r .payload; bytes = now (buf .exit); written = r .written; whole = r .whole } ⌝ }
-{
-    let mut q = p;
-    let mut i = at;
-    let mut n = 0;
-    while n < k {
-        let wrote = history::valid::write_entry(q, buf, ring, i);
-        let answer = wrote.answer;
-        q = wrote.payload;
-        match answer {
-            Write::Refused(_) => {
-                return Row {
-                    payload: q,
-                    written: n,
-                    whole: false,
-                };
-            }
-            Write::Done => {
-                i = history::valid::next_index(ring, i);
-                n += 1;
-            }
-        }
-    }
-    Row {
-        payload: q,
-        written: n,
-        whole: true,
-    }
-}
-
-// Writes an error as the only command of a row.
-fn write_error(err: RetransmitError, p: PayloadWriter, buf: &mut [u8]) -> Row
-    requires { ⌜ (payloadValid p (length (now buf)) ≡ true) × (err .reason ≤ 1) ⌝ }
-    ensures { λ r. ⌜ rowOf p (now (buf .entry)) (errorPacket err ∷ []) ≡ record { payload = r .payload; bytes = now (buf .exit); written = r .written; whole = r .whole } ⌝ }
-{
-    let wrote = command::valid::write_error(err, p, buf);
-    let payload = wrote.payload;
-    let answer = wrote.answer;
-    match answer {
-        Write::Done => Row {
-            payload,
-            written: 1,
-            whole: true,
-        },
-        Write::Refused(_) => Row {
-            payload,
-            written: 0,
-            whole: false,
-        },
-    }
-}
-
-// How many commands a request is answered with, of the `left` ones from its number on; count 0 asks
-// for all of them.
-fn reach(count: usize, left: usize) -> usize
-    ensures { λ r. ⌜ r ≡ cond (eqb count 0) left (min count left) ⌝ }
-{
-    if count == 0 {
-        return left;
-    }
-    least(count, left)
-}
+use rows::rows::Repeated;
+use rows::rows::Row;
+use rows::rows::reach;
 
 // Answers a request with its commands, or with the error if its number left while it waited.
 fn answer(s: Sender, req: RetransmitRequest, p: PayloadWriter, buf: &mut [u8], ring: &[u32]) -> Row
     requires { ⌜ (validOf s (now ring) ≡ true) × (payloadValid p (length (now buf)) ≡ true) ⌝ }
-    ensures { λ r. ⌜ rowOf p (now (buf .entry)) (answerTo s (now (ring .entry)) req) ≡ record { payload = r .payload; bytes = now (buf .exit); written = r .written; whole = r .whole } ⌝ }
+    ensures { λ r. ⌜ rowOf p (now (buf .entry)) (answerTo s (now (ring .entry)) req) ≡ leaving r (now (buf .exit)) ⌝ }
 {
     let history = s.history;
     let written = history.count - s.unsent;
     let k = sequence::distance(history.oldest, req.seq) as usize;
     if written <= k {
-        return write_error(
+        return rows::valid::write_error(
             RetransmitError {
                 reason: NOT_IN_BUFFER,
                 seq: history.oldest,
@@ -134,7 +58,7 @@ fn answer(s: Sender, req: RetransmitRequest, p: PayloadWriter, buf: &mut [u8], r
         );
     }
     let at = history::valid::index_of(history, ring, k);
-    write_entries(p, buf, ring, at, reach(req.count as usize, written - k))
+    rows::valid::write_entries(p, buf, ring, at, reach(req.count as usize, written - k))
 }
 
 // What of a request is left in front after `n` of its commands.
@@ -171,19 +95,19 @@ fn leaves(out: Row) -> bool
 }
 
 // What serving the waiting requests has come to.
-pub struct Served {
+struct Served {
     // The requests that wait still.
-    pub queue: RetransmitQueue,
-    pub payload: PayloadWriter,
-    pub written: usize,
+    queue: RetransmitQueue,
+    payload: PayloadWriter,
+    written: usize,
     // A request waits for which the payload has no space.
-    pub more: bool,
+    more: bool,
 }
 
 // Serves the waiting requests, the oldest first.
 fn serve(s: Sender, p: PayloadWriter, buf: &mut [u8], ring: &[u32]) -> Served
     requires { ⌜ (validOf s (now ring) ≡ true) × (payloadValid p (length (now buf)) ≡ true) ⌝ }
-    ensures { λ r. ⌜ servedOf s (now (ring .entry)) p (now (buf .entry)) ≡ record { sender = withQueue s (r .queue); payload = r .payload; bytes = now (buf .exit); written = r .written; more = r .more } ⌝ }
+    ensures { λ r. ⌜ servedOf s (now (ring .entry)) p (now (buf .entry)) ≡ servedBy s r (now (buf .exit)) ⌝ }
 {
     let mut waiting = s.queue;
     let mut left = waiting.len;
@@ -216,55 +140,6 @@ fn serve(s: Sender, p: PayloadWriter, buf: &mut [u8], ring: &[u32]) -> Served
     }
 }
 
-// The time `wait` after `time`, at most the last one.
-fn later_by(time: u64, wait: u64) -> u64
-    ensures { λ r. ⌜ r ≡ later time wait ⌝ }
-{
-    if u64::MAX - time < wait {
-        return u64::MAX;
-    }
-    time + wait
-}
-
-// The interval times the growth, at most the last time.
-fn grown(interval: u64, growth: u32) -> u64
-    requires { ⌜ 0 < growth ⌝ }
-    ensures { λ r. ⌜ r ≡ min (interval * growth) lastTime ⌝ }
-{
-    let times = growth as u64;
-    if u64::MAX / times < interval {
-        return u64::MAX;
-    }
-    interval * times
-}
-
-// The schedule after an idle command is queued: 1 + R at steps of T1, then K more, each step G times
-// the one before.
-fn idle_next(cfg: StreamConfig, time: u64, i: Idle) -> IdleTimer
-    requires { ⌜ (checkOf cfg ≡ Passed) × (i .step ≤ 510) ⌝ }
-    ensures { λ r. ⌜ r ≡ idleNext cfg time i ⌝ }
-{
-    let step = i.step + 1;
-    let repeats = cfg.fec_repeats as u16;
-    let further = cfg.idle_further as u16;
-    if step <= repeats {
-        return IdleTimer::Waiting(Idle {
-            due: later_by(time, i.interval),
-            step,
-            interval: i.interval,
-        });
-    }
-    if step < 1 + repeats + further {
-        let interval = grown(i.interval, cfg.idle_growth);
-        return IdleTimer::Waiting(Idle {
-            due: later_by(time, interval),
-            step,
-            interval,
-        });
-    }
-    IdleTimer::Off
-}
-
 // Queues an idle command if one is due and no command is unwritten.
 fn queue_idle(s: Sender, cfg: StreamConfig, time: u64, ring: &mut [u32]) -> Sender
     requires { ⌜ (checkOf cfg ≡ Passed) × (validOf s (now ring) ≡ true) ⌝ }
@@ -287,69 +162,9 @@ fn queue_idle(s: Sender, cfg: StreamConfig, time: u64, ring: &mut [u32]) -> Send
                 queue,
                 unsent: s.unsent + 1,
                 unsent_words: s.unsent_words + 1,
-                idle: idle_next(cfg, time, i),
+                idle: idle::valid::next(cfg, time, i),
             }
         }
-    }
-}
-
-// Where a walk over entries has come to, and the words that they take.
-pub struct Walked {
-    pub at: usize,
-    pub words: usize,
-}
-
-// Walks over `k` entries from the header at `at` on.
-fn walk(ring: &[u32], at: usize, k: usize) -> Walked
-    requires { ⌜ (at < length (now ring)) × (65 ≤ length (now ring)) × (length (now ring) ≤ 32768) × Short (entriesFrom k (now ring) at) × (wordsFrom k (now ring) at ≤ 32768) ⌝ }
-    ensures { λ r. ⌜ (r .at ≡ headerAt k (now (ring .entry)) at) × (r .at < length (now (ring .entry))) × (r .words ≡ wordsFrom k (now (ring .entry)) at) ⌝ }
-{
-    let mut i = at;
-    let mut words = 0;
-    let mut left = k;
-    while 0 < left {
-        words += 1 + history::valid::pl(ring, i);
-        i = history::valid::next_index(ring, i);
-        left -= 1;
-    }
-    Walked { at: i, words }
-}
-
-// The commands that are repeated: the first one's header, how many, and the words that they take.
-pub struct Repeated {
-    pub at: usize,
-    pub count: usize,
-    pub words: usize,
-}
-
-// Of `k` entries from the header at `at` on, which take `words` words, those that fit beside the one
-// at `first`; the oldest are dropped first.
-fn repeats(
-    p: PayloadWriter,
-    buf: &[u8],
-    ring: &[u32],
-    at: usize,
-    k: usize,
-    words: usize,
-    first: usize,
-) -> Repeated
-    requires { ⌜ (at < length (now ring)) × (65 ≤ length (now ring)) × (length (now ring) ≤ 32768) × Short (entriesFrom k (now ring) at) × (words ≡ wordsFrom k (now ring) at) × (first < length (now ring)) × (lengthAt (now ring) first < freeOf p (length (now buf))) ⌝ }
-    ensures { λ r. ⌜ (packetsFrom (r .count) (now (ring .entry)) (r .at) ≡ repeatsOf p (now (buf .entry)) (entryPacket (now (ring .entry)) first) (packetsFrom k (now (ring .entry)) at)) × (r .count ≤ k) × (r .at ≡ headerAt (k - r .count) (now (ring .entry)) at) × (r .words ≡ wordsFrom (r .count) (now (ring .entry)) (r .at)) × (r .words < freeOf p (length (now (buf .entry)))) ⌝ }
-{
-    let free = packet::valid::free_words(p, buf.len());
-    let room = free - (1 + history::valid::pl(ring, first));
-    let mut i = at;
-    let mut count = k;
-    let mut left = words;
-    while room < left {
-        left -= 1 + history::valid::pl(ring, i);
-        i = history::valid::next_index(ring, i);
-        count -= 1;
-    }
-    Repeated {
-        at: i,
-        count,
-        words: left,
     }
 }
 
@@ -357,7 +172,7 @@ fn repeats(
 // words among them starts the idle schedule.
 fn written_off(s: Sender, cfg: StreamConfig, time: u64, n: usize, words: usize) -> Sender
     requires { ⌜ (n ≤ s .unsent) × (words ≤ s .«unsent_words») ⌝ }
-    ensures { λ r. ⌜ r ≡ record { history = s .history; queue = s .queue; unsent = s .unsent - n; «unsent_words» = s .«unsent_words» - words; idle = cond (ltb n words) (Waiting record { due = later time (cfg .«idle_interval_ms»); step = 0; interval = cfg .«idle_interval_ms» }) (s .idle) } ⌝ }
+    ensures { λ r. ⌜ r ≡ takenOff s n words (cond (ltb n words) (idleStart cfg time) (s .idle)) ⌝ }
 {
     let history = s.history;
     let queue = s.queue;
@@ -365,17 +180,12 @@ fn written_off(s: Sender, cfg: StreamConfig, time: u64, n: usize, words: usize) 
     let unsent = s.unsent - n;
     let unsent_words = s.unsent_words - words;
     if n < words {
-        let interval = cfg.idle_interval_ms as u64;
         return Sender {
             history,
             queue,
             unsent,
             unsent_words,
-            idle: IdleTimer::Waiting(Idle {
-                due: later_by(time, interval),
-                step: 0,
-                interval,
-            }),
+            idle: IdleTimer::start(cfg, time),
         };
     }
     Sender {
@@ -399,11 +209,11 @@ fn write_row(
     ring: &[u32],
     again: Repeated,
 ) -> Wrote
-    requires { ⌜ (validOf s (now ring) ≡ true) × (payloadValid p (length (now buf)) ≡ true) × (before ≤ 350) × (again .count ≤ writtenCount s) × (again .at ≡ headerAt (writtenCount s - again .count) (now ring) (s .history .head)) × (again .words ≡ wordsFrom (again .count) (now ring) (again .at)) × (again .words < freeOf p (length (now buf))) ⌝ }
+    requires { ⌜ (validOf s (now ring) ≡ true) × (payloadValid p (length (now buf)) ≡ true) × (before ≤ 350) × Again s (now ring) p (now buf) again ⌝ }
     ensures { λ r. ⌜ (r, now (buf .exit)) ≡ newRow s cfg time before (now (ring .entry)) (again .count) (rowOf p (now (buf .entry)) (packetsFrom (again .count + s .unsent) (now (ring .entry)) (again .at))) ⌝ }
 {
     let free = packet::valid::free_words(p, buf.len());
-    let out = write_entries(p, buf, ring, again.at, again.count + s.unsent);
+    let out = rows::valid::write_entries(p, buf, ring, again.at, again.count + s.unsent);
     let payload = out.payload;
     let took = free - packet::valid::free_words(payload, buf.len());
     let n = out.written - again.count;
@@ -459,7 +269,7 @@ fn write_new(
     let written = history.count - s.unsent;
     let k = least(cfg.fec_repeats as usize, written);
     let at = place_of(history, ring, written - k, known, place);
-    let last = walk(ring, at, k);
+    let last = rows::valid::walk(ring, at, k);
     let first = last.at;
     if packet::valid::free_words(p, buf.len()) <= history::valid::pl(ring, first) {
         if p.len == 0 {
@@ -478,7 +288,7 @@ fn write_new(
             }),
         };
     }
-    let again = repeats(p, &buf[..], ring, at, k, last.words, first);
+    let again = rows::valid::repeats(p, &buf[..], ring, at, k, last.words, first);
     write_row(s, cfg, time, before, p, buf, ring, again)
 }
 

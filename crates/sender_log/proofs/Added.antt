@@ -17,7 +17,7 @@ use Rattle.packet.specs.declared.writer.Wrote.{Wrote}
 use Rattle.packet.proofs.Splice.{take-spliced}
 use Rattle.packet.proofs.Outcomes.{outcome, written-length}
 use Rattle.packet.proofs.RoundTrip.{length-encoded, encodedAll-append, allEncodable-append, items-encoded, items-payload}
-use Rattle.sender.specs.Writing.{oneMore, rowOf}
+use Rattle.rows.specs.Rows.{oneMore, rowOf}
 use Rattle.sender_log.specs.Added.{itemsAdded, wholesIn, addedIn}
 
 -- what stands before the first command added

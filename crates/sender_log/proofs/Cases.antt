@@ -16,10 +16,11 @@ use Rattle.command.specs.declared.retransmit.RetransmitRequest.{RetransmitReque
 use Rattle.history.specs.Entries.{size, kept}
 use Rattle.history.specs.Queue.{asks}
 use Rattle.history.specs.Written.{dataPacket}
+use Rattle.idle.specs.declared.idle.IdleTimer.the-variants.{Off, Waiting}
+use Rattle.rows.specs.Rows.{rowOf, sizesOf, anyWords}
+use Rattle.rows.specs.Choice.{repeatsOf}
 use Rattle.sender.specs.Commands.{fitting, front, behind, commandsIn, commandsOf, longer, above}
 use Rattle.sender.specs.Queueing.{wordsCheck}
-use Rattle.sender.specs.Writing.{rowOf, sizesOf, repeatsOf, anyWords}
-use Rattle.sender.specs.declared.sender.IdleTimer.the-variants.{Off, Waiting}
 use Rattle.sender.specs.declared.sender.RequestOutcome.the-variants.{Queued as Waits, Error}
 use Rattle.sender.specs.declared.sender.Writing.{Writing}
 use Rattle.sender.specs.declared.sender.Writing.the-variants.{Written}

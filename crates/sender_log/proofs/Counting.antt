@@ -24,7 +24,8 @@ use Rattle.packet.proofs.Outcomes.{valid-length}
 use Rattle.packet.proofs.RoundTrip.{allEncodable-append}
 use Rattle.command.specs.declared.retransmit.RetransmitRequest.{RetransmitRequest}
 use Rattle.history.specs.Entries.{Short}
-use Rattle.sender.specs.Writing.{Row, rowOf, sizesOf, fitAll, repeatsOf}
+use Rattle.rows.specs.Rows.{Row, rowOf, sizesOf, fitAll}
+use Rattle.rows.specs.Choice.{repeatsOf}
 use Rattle.sender.specs.declared.sender.Writing.{Writing}
 use Rattle.sender.specs.declared.sender.Writing.the-variants.{Written, Refused}
 use Rattle.sender.specs.declared.sender.Written.{Written as Amount}

@@ -12,14 +12,14 @@ use Rattle.config.specs.declared.refusal.Refusal.the-variants.{SizeNotAllowed}
 use Rattle.config.specs.declared.settings.Check.the-variants.{Passed}
 use Rattle.config.specs.declared.settings.StreamConfig.{StreamConfig}
 use Rattle.config.specs.inner.Tests.{lifts}
+use Rattle.config.specs.Time.{later}
 use Rattle.packet.specs.Layout.{Words32}
 use Rattle.packet.specs.Write.{limitOf, startOf, validOf as payloadValid}
 use Rattle.packet.specs.declared.writer.PayloadWriter.{PayloadWriter}
 use Rattle.command.specs.declared.retransmit.RetransmitRequest.{RetransmitRequest}
 use Rattle.sender.specs.Answers.{newAnswer, writeAnswer}
 use Rattle.history.specs.Entries.{Short}
-use Rattle.sender.specs.Writing.{later}
-use Rattle.sender.specs.declared.sender.IdleTimer.the-variants.{Waiting}
+use Rattle.idle.specs.declared.idle.IdleTimer.the-variants.{Waiting}
 use Rattle.sender.specs.declared.sender.Sender.{Sender}
 use Rattle.sender_log.specs.Book.{Book}
 use Rattle.sender_log.specs.Idle.{stepsOf, timesAt, duesIn, IdleTimes}

@@ -8,6 +8,7 @@ use borrow.Author.Tests.{le-ltb, lt-ltb, le-leb, lt-leb, leb-true}
 use lib.ListN.{length, drop, replicate, length-append}
 use Rattle.config.specs.Sequence.{after}
 use Rattle.config.specs.Settings.{checkOf}
+use Rattle.config.specs.Time.{lastTime, later}
 use Rattle.config.specs.declared.settings.Check.the-variants.{Passed}
 use Rattle.config.specs.declared.settings.StreamConfig.{StreamConfig}
 use Rattle.packet.specs.Layout.{Packet}
@@ -17,10 +18,11 @@ use Rattle.command.specs.declared.retransmit.RetransmitRequest.{RetransmitReque
 use Rattle.history.specs.Entries.{size, Short, kept}
 use Rattle.history.specs.Written.{dataPacket}
 use Rattle.history.proofs.Flat.{kept-short, short-append, short-one}
-use Rattle.sender.specs.Writing.{rowOf, lastTime, later, idleNext, sizesOf, fitAll, anyWords}
-use Rattle.sender.specs.declared.sender.Idle.{Idle as Timer}
-use Rattle.sender.specs.declared.sender.IdleTimer.{IdleTimer}
-use Rattle.sender.specs.declared.sender.IdleTimer.the-variants.{Off, Waiting}
+use Rattle.idle.specs.Schedule.{idleNext}
+use Rattle.idle.specs.declared.idle.Idle.{Idle as Timer}
+use Rattle.idle.specs.declared.idle.IdleTimer.{IdleTimer}
+use Rattle.idle.specs.declared.idle.IdleTimer.the-variants.{Off, Waiting}
+use Rattle.rows.specs.Rows.{rowOf, sizesOf, fitAll, anyWords}
 use Rattle.sender_log.specs.Book.{Book, oldestIn, freed, pushedIn}
 use Rattle.sender_log.specs.Writes.{dataFrom, writtenFrom, servedIn, idledIn, againIn, writtenOn, newWritten, writtenIn, writeIn}
 use Rattle.sender_log.specs.Idle.{growing, stepsOf, timesAt, dueOf, atDue, duesIn, IdleTimes}

@@ -2,21 +2,22 @@
 use mathlib.Core.Path.{_≡_, refl, sym, ap, _∙_, subst}
 use mathlib.Core.Bool.{Bool, true, false, cond, not, _||_}
 use mathlib.Core.List.{List, [], _∷_}
-use Prim.Native.Nat.{ℕ, suc, _+_, _*_, min}
+use Prim.Native.Nat.{ℕ, suc}
 use native.Mathlib.Omega.{arith}
-use borrow.Author.Tests.{ltb-true, ltb-false, leb-true, lt-ltb, le-leb}
-use lib.Dec.{leb, ltb}
+use borrow.Author.Tests.{ltb-false, lt-ltb}
+use lib.Dec.{ltb}
 use lib.ListN.{length, length-append}
 use Rattle.config.specs.declared.settings.StreamConfig.{StreamConfig}
 use Rattle.history.specs.Entries.{size}
 use Rattle.history.specs.Push.{pushed}
 use Rattle.history.proofs.Flat.{size-append, size-one}
-use Rattle.sender.specs.State.{idleOk}
+use Rattle.idle.specs.Schedule.{idleNext}
+use Rattle.idle.specs.declared.idle.Idle.{Idle}
+use Rattle.idle.specs.declared.idle.IdleTimer.{IdleTimer}
+use Rattle.idle.specs.declared.idle.IdleTimer.the-variants.{Off, Waiting}
+use Rattle.idle.proofs.Steps.{next-ok}
 use Rattle.sender.specs.Queueing.{holding}
-use Rattle.sender.specs.Writing.{lastTime, later, withIdle, idleNext, idledBy, idledOf}
-use Rattle.sender.specs.declared.sender.Idle.{Idle}
-use Rattle.sender.specs.declared.sender.IdleTimer.{IdleTimer}
-use Rattle.sender.specs.declared.sender.IdleTimer.the-variants.{Off, Waiting}
+use Rattle.sender.specs.Writing.{withIdle, idledBy, idledOf}
 use Rattle.sender.specs.declared.sender.Sender.{Sender}
 use Rattle.sender_log.specs.Book.{Book, freed, pushedIn}
 use Rattle.sender_log.specs.Writes.{isEmpty, withIdle as withTimer, idledBy as idledByIn, idledIn}
@@ -32,21 +33,6 @@ pub size-none : (us : List (List ℕ)) → length us ≡ 0 → size us ≡ 0
 unfolding size
 size-none [] e = refl
 size-none (u ∷ us) e = absurd (let z : ⊥ = omega arith in z)
-
--- the step stays at most 1 + R + K, less 1
-next-ok : (cfg : StreamConfig) (now : ℕ) (i : Idle) → TypedConfig cfg → idleOk (idleNext cfg now i) ≡ true
-unfolding idleNext
-next-ok cfg now i t = on (leb (i .step + 1) (cfg .«fec_repeats»)) refl (ltb (i .step + 1) (1 + cfg .«fec_repeats» + cfg .«idle_further»)) refl
-  where
-    grown : ℕ
-    grown = min (i .interval * cfg .«idle_growth») lastTime
-
-    on : (x : Bool) → leb (i .step + 1) (cfg .«fec_repeats») ≡ x → (y : Bool) → ltb (i .step + 1) (1 + cfg .«fec_repeats» + cfg .«idle_further») ≡ y
-        → idleOk (cond x (Waiting record { due = later now (i .interval); step = i .step + 1; interval = i .interval })
-        (cond y (Waiting record { due = later now grown; step = i .step + 1; interval = grown }) Off)) ≡ true
-    on true e y g = le-leb (i .step + 1) 510 (omega (arith, leb-true (i .step + 1) (cfg .«fec_repeats») e))
-    on false e true g = le-leb (i .step + 1) 510 (omega (arith, ltb-true (i .step + 1) (1 + cfg .«fec_repeats» + cfg .«idle_further») g))
-    on false e false g = refl
 
 module _ (c q : ℕ) (s : Sender) (ring : List ℕ) (b : Book) (f : Follows c q s ring b) (cfg : StreamConfig) (typed : TypedConfig cfg) (now : ℕ) where
   -- an idle command comes in when nothing is unwritten
@@ -72,7 +58,7 @@ module _ (c q : ℕ) (s : Sender) (ring : List ℕ) (b : Book) (f : Follows c q 
         items = f .items;
         requests = f .requests;
         idle = refl;
-        step = next-ok cfg now i typed;
+        step = next-ok cfg now i (omega (arith, typed .0)) (omega (arith, typed .1));
       }
 
   abbrev Idles : Sender × List ℕ → Book → Type 0

@@ -26,9 +26,10 @@ use Rattle.history.specs.Entries.{size, Short}
 use Rattle.history.proofs.Entries.{holds-good}
 use Rattle.history.proofs.Room.{good-few}
 use Rattle.history.proofs.Flat.{kept-short, short-append, short-left, short-one}
-use Rattle.sender.specs.Writing.{Row, rowOf, sizesOf, fitAll, idleNext}
-use Rattle.sender.specs.declared.sender.IdleTimer.{IdleTimer}
-use Rattle.sender.specs.declared.sender.IdleTimer.the-variants.{Off, Waiting}
+use Rattle.idle.specs.Schedule.{idleNext}
+use Rattle.idle.specs.declared.idle.IdleTimer.{IdleTimer}
+use Rattle.idle.specs.declared.idle.IdleTimer.the-variants.{Off, Waiting}
+use Rattle.rows.specs.Rows.{Row, rowOf, sizesOf, fitAll}
 use Rattle.sender.specs.declared.sender.Sender.{Sender}
 use Rattle.sender_log.specs.Book.{Book, oldestIn, freed, pushedIn, indexIn, absentIn, errorIn, withWaiting}
 use Rattle.sender.specs.declared.sender.Written.{Written as Amount}

@@ -22,9 +22,10 @@ use Rattle.packet.proofs.RoundTrip.{allEncodable-append}
 use Rattle.command.specs.declared.retransmit.RetransmitRequest.{RetransmitRequest}
 use Rattle.history.specs.Entries.{Short}
 use Rattle.history.specs.Written.{dataPacket}
-use Rattle.sender.specs.Writing.{rowOf, fitAll, repeatsOf}
-use Rattle.sender.specs.declared.sender.IdleTimer.{IdleTimer}
-use Rattle.sender.specs.declared.sender.IdleTimer.the-variants.{Off, Waiting}
+use Rattle.idle.specs.declared.idle.IdleTimer.{IdleTimer}
+use Rattle.idle.specs.declared.idle.IdleTimer.the-variants.{Off, Waiting}
+use Rattle.rows.specs.Rows.{rowOf, fitAll}
+use Rattle.rows.specs.Choice.{repeatsOf}
 use Rattle.sender_log.specs.Book.{Book, oldestIn, freed, pushedIn, indexIn, absentIn, withWaiting}
 use Rattle.sender_log.specs.Writes.{dataFrom, writtenFrom, newIn, reachIn, answerIn, servedIn, isEmpty, idledBy, idledIn, againIn, writtenOn, WriteIn, newBy, newWritten, refused, writtenIn, writeIn}
 use Rattle.sender_log.specs.Added.{itemsAdded, wholesIn, addedIn, opensNext, opensIn}

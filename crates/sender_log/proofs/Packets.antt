@@ -17,7 +17,7 @@ use Rattle.history.specs.Written.{dataPacket}
 use Rattle.history.specs.declared.history.SendHistory.{SendHistory}
 use Rattle.history.proofs.Entries.{take-entries, drop-entries, size-entries, holds-entries}
 use Rattle.history.proofs.Written.{holds-packet-at}
-use Rattle.sender.specs.Writing.{oneMore, rowOf, packetsFrom}
+use Rattle.rows.specs.Rows.{oneMore, rowOf, packetsFrom}
 use Rattle.sender_log.specs.Writes.{dataFrom}
 
 -- ---- commands as data commands

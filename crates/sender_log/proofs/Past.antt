@@ -18,6 +18,7 @@ use Rattle.config.specs.declared.settings.Check.{Check}
 use Rattle.config.specs.declared.settings.Check.the-variants.{Passed, Refused as CheckRefused}
 use Rattle.config.specs.declared.settings.StreamConfig.{StreamConfig}
 use Rattle.config.specs.inner.Tests.{split, tests, lifts, and-left, ltb-not-leb}
+use Rattle.config.specs.Time.{later}
 use Rattle.packet.specs.Layout.{Packet}
 use Rattle.packet.specs.Write.{validOf as payloadValid}
 use Rattle.packet.specs.declared.writer.PayloadWriter.{PayloadWriter}
@@ -26,14 +27,15 @@ use Rattle.command.specs.declared.retransmit.RetransmitRequest.{RetransmitReque
 use Rattle.history.specs.Entries.{size, kept}
 use Rattle.history.specs.Queue.{asks}
 use Rattle.history.proofs.Flat.{size-append, size-one, size-first}
+use Rattle.idle.specs.Schedule.{idleNext}
+use Rattle.idle.specs.declared.idle.IdleTimer.{IdleTimer}
+use Rattle.idle.specs.declared.idle.IdleTimer.the-variants.{Waiting}
+use Rattle.rows.specs.Rows.{rowOf, fitAll, anyWords}
 use Rattle.sender.specs.Commands.{front, behind, commandsOf}
 use Rattle.sender.specs.Queueing.{wordsCheck}
-use Rattle.sender.specs.Writing.{rowOf, fitAll, anyWords, idleNext, later}
 use Rattle.sender.specs.Answers.{newAnswer}
 use Rattle.sender.specs.declared.sender.Sender.{Sender}
 use Rattle.sender.specs.declared.sender.Send.the-variants.{Accepted}
-use Rattle.sender.specs.declared.sender.IdleTimer.{IdleTimer}
-use Rattle.sender.specs.declared.sender.IdleTimer.the-variants.{Waiting}
 use Rattle.sender.proofs.Fronts.{Divides, part-of, divides-behind, front-nil, commands-nil}
 use Rattle.sender.proofs.Parts.{front-behind, commands-parts}
 use Rattle.sender.proofs.Queued.{check-divides, settings-few}

@@ -13,7 +13,8 @@ use Rattle.packet.specs.Layout.{Packet, sizeOf}
 use Rattle.packet.specs.Write.{limitOf, startOf, noFit, validOf, refusedOf, doneOf, placedOf, writtenOf, done}
 use Rattle.packet.specs.declared.writer.PayloadWriter.{PayloadWriter}
 use Rattle.packet.proofs.Outcomes.{written-valid, written-length}
-use Rattle.sender.specs.Writing.{Row, rowOf, sizesOf, fitAll, repeatsOf}
+use Rattle.rows.specs.Rows.{Row, rowOf, sizesOf, fitAll}
+use Rattle.rows.specs.Choice.{repeatsOf}
 use Rattle.sender_log.specs.Promise.{NoRoom}
 
 -- each has at most 255 words

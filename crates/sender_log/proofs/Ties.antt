@@ -18,7 +18,8 @@ use Rattle.history.proofs.Flat.{unwritten-newest}
 use Rattle.history.proofs.Queues.{fit-queue, waiting-none}
 use Rattle.history.proofs.Reached.{fresh-holds}
 use Rattle.history.proofs.States.{holds-state}
-use Rattle.sender.specs.State.{idleOk, validOf, fresh}
+use Rattle.idle.specs.Schedule.{idleOk}
+use Rattle.sender.specs.State.{validOf, fresh}
 use Rattle.sender.specs.Requests.{writtenCount, notWritten, notInBuffer, withQueue}
 use Rattle.sender.specs.Answers.{notStarted, newAnswer}
 use Rattle.sender.specs.declared.sender.Sender.{Sender}

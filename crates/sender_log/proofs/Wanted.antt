@@ -15,7 +15,8 @@ use Rattle.packet.specs.Write.{limitOf, startOf}
 use Rattle.packet.specs.declared.writer.PayloadWriter.{PayloadWriter}
 use Rattle.packet.proofs.RoundTrip.{allEncodable-append}
 use Rattle.command.specs.declared.retransmit.RetransmitRequest.{RetransmitRequest}
-use Rattle.sender.specs.Writing.{sizesOf, fitAll, repeatsOf}
+use Rattle.rows.specs.Rows.{sizesOf, fitAll}
+use Rattle.rows.specs.Choice.{repeatsOf}
 use Rattle.sender_log.specs.Book.{Book, withWaiting}
 use Rattle.sender_log.specs.Writes.{writtenFrom, newIn, servedIn, isEmpty, idledIn, writeIn}
 use Rattle.sender_log.specs.Calls.{run}

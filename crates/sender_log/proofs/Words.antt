@@ -16,11 +16,11 @@ use Rattle.command.specs.Messages.{wholeOf}
 use Rattle.command.specs.declared.retransmit.RetransmitRequest.{RetransmitRequest}
 use Rattle.history.specs.Entries.{size, kept, Short}
 use Rattle.history.specs.Queue.{asks}
+use Rattle.idle.specs.declared.idle.IdleTimer.{IdleTimer}
+use Rattle.idle.specs.declared.idle.IdleTimer.the-variants.{Off, Waiting}
+use Rattle.rows.specs.Rows.{fitAll}
 use Rattle.sender.specs.Commands.{front, behind, commandsIn, commandsOf}
 use Rattle.sender.specs.Queueing.{wordsCheck}
-use Rattle.sender.specs.Writing.{fitAll}
-use Rattle.sender.specs.declared.sender.IdleTimer.{IdleTimer}
-use Rattle.sender.specs.declared.sender.IdleTimer.the-variants.{Off, Waiting}
 use Rattle.sender.proofs.Fronts.{Divides, part-of, divides-behind}
 use Rattle.sender.proofs.Queued.{check-divides}
 use Rattle.sender_log.specs.Book.{Book, nothing, freed, pushedIn, pushedAllIn, joinedLast, joinedIn, roomIn, needIn, queuedIn, QueueIn, sentIn, absentIn, RequestIn, requestedIn, withWaiting}

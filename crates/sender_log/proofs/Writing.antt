@@ -9,6 +9,7 @@ use lib.ListN.{length, take, drop, length-append, length-drop, take-append-drop}
 use lib.Seq.{drop-at, take-all}
 use Rattle.config.specs.Sequence.{after}
 use Rattle.config.specs.Settings.{checkOf, tested}
+use Rattle.config.specs.Time.{later}
 use Rattle.config.specs.declared.refusal.Refusal.the-variants.{TooLarge, InvalidState}
 use Rattle.config.specs.declared.settings.StreamConfig.{StreamConfig}
 use Rattle.config.specs.declared.settings.Check.{Check}
@@ -20,12 +21,13 @@ use Rattle.command.specs.declared.retransmit.RetransmitRequest.{RetransmitReque
 use Rattle.history.specs.Headers.{headerAt, wordsFrom}
 use Rattle.history.specs.Entries.{size, Holds}
 use Rattle.history.proofs.Flat.{size-append}
-use Rattle.sender.specs.State.{idleOk}
+use Rattle.idle.specs.Schedule.{idleOk}
+use Rattle.idle.specs.declared.idle.IdleTimer.{IdleTimer}
+use Rattle.idle.specs.declared.idle.IdleTimer.the-variants.{Waiting}
+use Rattle.rows.specs.Rows.{Row, rowOf, packetsFrom, fitAll, anyWords}
 use Rattle.sender.specs.Requests.{writtenCount}
-use Rattle.sender.specs.Writing.{Row, rowOf, packetsFrom, commandsAt, Served, servedIn, servedOf, idledOf, fitAll, anyWords, later, idleAfter, writtenOff, wrote, refused, newBy, newOf, writtenBy}
+use Rattle.sender.specs.Writing.{commandsAt, Served, servedIn, servedOf, idledOf, idleAfter, writtenOff, wrote, refused, newBy, newOf, writtenBy}
 use Rattle.sender.specs.Answers.{writeRefused, writeAnswer}
-use Rattle.sender.specs.declared.sender.IdleTimer.{IdleTimer}
-use Rattle.sender.specs.declared.sender.IdleTimer.the-variants.{Waiting}
 use Rattle.sender.specs.declared.sender.Sender.{Sender}
 use Rattle.sender.specs.declared.sender.Wrote.{Wrote}
 use Rattle.sender_log.specs.Book.{Book, oldestIn, withWaiting}

@@ -13,10 +13,10 @@ use Rattle.command.specs.declared.retransmit.RetransmitError.{RetransmitError}
 use Rattle.history.specs.Entries.{size, kept}
 use Rattle.history.specs.Queue.{asks}
 use Rattle.history.specs.declared.queue.Ignored.the-variants.{Pending, Full as NoPlace}
+use Rattle.idle.specs.declared.idle.IdleTimer.{IdleTimer}
+use Rattle.idle.specs.declared.idle.IdleTimer.the-variants.{Off}
 use Rattle.sender.specs.Commands.{front, behind, commandsOf}
 use Rattle.sender.specs.Queueing.{wordsCheck}
-use Rattle.sender.specs.declared.sender.IdleTimer.{IdleTimer}
-use Rattle.sender.specs.declared.sender.IdleTimer.the-variants.{Off}
 use Rattle.sender.specs.declared.sender.Send.{Send}
 use Rattle.sender.specs.declared.sender.Send.the-variants.{Accepted, Refused}
 use Rattle.sender.specs.declared.sender.RequestOutcome.{RequestOutcome}

@@ -11,7 +11,7 @@ use Rattle.packet.specs.Layout.{Packet, payloadOf, AllEncodable}
 use Rattle.packet.specs.Read.{itemsOf, placed}
 use Rattle.packet.specs.Write.{startOf, bytesIn}
 use Rattle.packet.specs.declared.writer.PayloadWriter.{PayloadWriter}
-use Rattle.sender.specs.Writing.{fitAll}
+use Rattle.rows.specs.Rows.{fitAll}
 use Rattle.sender.specs.Answers.{writeAnswer}
 use Rattle.sender.specs.declared.sender.Writing.{Writing}
 use Rattle.sender.specs.declared.sender.Writing.the-variants.{Written, Refused}

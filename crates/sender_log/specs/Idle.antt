@@ -6,14 +6,14 @@ use mathlib.Core.Bool.{true}
 use mathlib.Core.List.{List, [], _∷_, _++_}
 use lib.ListN.{length, replicate}
 use Rattle.config.specs.Settings.{checkOf}
+use Rattle.config.specs.Time.{lastTime, later}
 use Rattle.config.specs.declared.settings.Check.the-variants.{Passed}
 use Rattle.config.specs.declared.settings.StreamConfig.{StreamConfig}
 use Rattle.packet.specs.Write.{limitOf, startOf, validOf as payloadValid}
 use Rattle.packet.specs.declared.writer.PayloadWriter.{PayloadWriter}
 use Rattle.history.specs.Entries.{Short}
-use Rattle.sender.specs.Writing.{lastTime, later}
-use Rattle.sender.specs.declared.sender.IdleTimer.{IdleTimer}
-use Rattle.sender.specs.declared.sender.IdleTimer.the-variants.{Off, Waiting}
+use Rattle.idle.specs.declared.idle.IdleTimer.{IdleTimer}
+use Rattle.idle.specs.declared.idle.IdleTimer.the-variants.{Off, Waiting}
 use Rattle.sender_log.specs.Book.{Book}
 use Rattle.sender_log.specs.Writes.{writeIn}
 

@@ -4,10 +4,10 @@ use mathlib.Core.Bool.{Bool, false, cond}
 use mathlib.Core.List.{List, [], _∷_}
 use lib.ListN.{length}
 use lib.Dec.{ltb, leb}
+use Rattle.config.specs.Time.{lastTime, later}
 use Rattle.config.specs.declared.settings.StreamConfig.{StreamConfig}
-use Rattle.sender.specs.Writing.{lastTime, later}
-use Rattle.sender.specs.declared.sender.IdleTimer.{IdleTimer}
-use Rattle.sender.specs.declared.sender.IdleTimer.the-variants.{Off, Waiting}
+use Rattle.idle.specs.declared.idle.IdleTimer.{IdleTimer}
+use Rattle.idle.specs.declared.idle.IdleTimer.the-variants.{Off, Waiting}
 
 -- a write that queued an idle command
 pub record Queued : Type 0 where

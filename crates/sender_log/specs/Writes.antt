@@ -16,9 +16,12 @@ use Rattle.packet.specs.declared.writer.PayloadWriter.{PayloadWriter}
 use Rattle.command.specs.Write.{errorPacket}
 use Rattle.command.specs.declared.retransmit.RetransmitRequest.{RetransmitRequest}
 use Rattle.history.specs.Written.{dataPacket}
-use Rattle.sender.specs.Writing.{rowOf, fitAll, repeatsOf, idleNext, idleAfter}
-use Rattle.sender.specs.declared.sender.IdleTimer.{IdleTimer}
-use Rattle.sender.specs.declared.sender.IdleTimer.the-variants.{Off, Waiting}
+use Rattle.idle.specs.Schedule.{idleNext}
+use Rattle.idle.specs.declared.idle.IdleTimer.{IdleTimer}
+use Rattle.idle.specs.declared.idle.IdleTimer.the-variants.{Off, Waiting}
+use Rattle.rows.specs.Rows.{rowOf, fitAll}
+use Rattle.rows.specs.Choice.{repeatsOf}
+use Rattle.sender.specs.Writing.{idleAfter}
 use Rattle.sender.specs.declared.sender.Writing.{Writing}
 use Rattle.sender.specs.declared.sender.Writing.the-variants.{Written, Refused}
 use Rattle.sender_log.specs.Book.{Book, oldestIn, pushedIn, indexIn, absentIn, errorIn, withWaiting}

@@ -13,15 +13,16 @@ use Rattle.config.specs.declared.settings.StreamConfig.{StreamConfig}
 use Rattle.packet.specs.Layout.{Packet}
 use Rattle.packet.specs.Write.{validOf as payloadValid}
 use Rattle.packet.specs.declared.writer.PayloadWriter.{PayloadWriter}
+use Rattle.rows.specs.Rows.{rowOf, fitAll}
+use Rattle.rows.proofs.Filling.{row-valid, row-grows, start-most}
 use Rattle.sender.specs.State.{validOf as senderValid}
 use Rattle.sender.specs.Requests.{writtenCount}
-use Rattle.sender.specs.Writing.{rowOf, commandsAt, servedOf, idledOf, fitAll, newBy, newOf, writtenBy}
+use Rattle.sender.specs.Writing.{commandsAt, servedOf, idledOf, newBy, newOf, writtenBy}
 use Rattle.sender.specs.declared.sender.Sender.{Sender}
 use Rattle.sender.specs.declared.sender.Writing.{Writing}
 use Rattle.sender.specs.declared.sender.Writing.the-variants.{Written as Counted, Refused}
 use Rattle.sender.specs.declared.sender.Written.{Written}
 use Rattle.sender.specs.declared.sender.Wrote.{Wrote}
-use Rattle.sender.proofs.Rows.{row-valid, row-grows, start-most}
 use Rattle.sender.proofs.Serving.{served-sound}
 
 -- none where the write is refused

@@ -29,6 +29,9 @@ use Rattle.window.specs.declared.window.Class.{Class}
 use Rattle.window.specs.declared.window.Class.the-variants.{New, Late}
 use Rattle.window.specs.declared.window.Span.{Span}
 use Rattle.window.specs.declared.window.Span.the-variants.{Nothing, Of}
+use Rattle.idle.specs.Schedule.{idleNext}
+use Rattle.rows.specs.Rows.{rowOf, packetsFrom, sizesOf, anyWords}
+use Rattle.rows.specs.Choice.{repeatsOf}
 use Rattle.receiver.specs.Receiver.{dueAfter, takenOf}
 use Rattle.receiver.specs.Receiver as Receiver
 use Rattle.receiver.specs.Answers as receiver
@@ -49,7 +52,7 @@ use Rattle.sender.specs.Commands.{fitting, front, behind, commandsIn, commandsO
 use Rattle.sender.specs.State.{validOf}
 use Rattle.sender.specs.Queueing.{roomOf, needOf, joinedTo, pushedAll, queuedTo, queuedOf, wordsCheck, placedOf, sentOf}
 use Rattle.sender.specs.Requests.{requestedOf}
-use Rattle.sender.specs.Writing.{rowOf, packetsFrom, servedIn, servedOf, idleNext, idledOf, sizesOf, repeatsOf, anyWords, writtenOff, newOf, writtenBy}
+use Rattle.sender.specs.Writing.{servedIn, servedOf, idledOf, writtenOff, newOf, writtenBy}
 use Rattle.sender.specs.declared.sender.Send.the-variants.{Accepted}
 use Rattle.sender.specs.declared.sender.Writing.{Writing}
 use Rattle.sender.specs.declared.sender.Writing.the-variants.{Written}

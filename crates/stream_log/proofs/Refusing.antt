@@ -29,6 +29,9 @@ use Rattle.window.specs.declared.window.Span.the-variants.{Nothing as NoSpan, O
 use Rattle.history.specs.Entries.{size}
 use Rattle.history.specs.Queue.{asks as pending}
 use Rattle.history.specs.declared.queue.Ignored.the-variants.{Pending, Full as NoPlace}
+use Rattle.idle.specs.declared.idle.IdleTimer.{IdleTimer}
+use Rattle.idle.specs.declared.idle.IdleTimer.the-variants.{Off, Waiting}
+use Rattle.rows.specs.Rows.{fitAll}
 use Rattle.receiver.specs.Receiver.{lossOf, deadlineAt, errorEvent}
 use Rattle.receiver.specs.declared.receiver.Asked.{Asked}
 use Rattle.receiver.specs.declared.receiver.Asked.the-variants.{Nothing as Unasked, Request as AskedFor}
@@ -47,10 +50,7 @@ use Rattle.receiver_log.specs.Promise.{logOf}
 use Rattle.sender.specs.Commands.{above}
 use Rattle.sender.specs.Queueing.{wordsCheck}
 use Rattle.sender.specs.Requests.{dueAt}
-use Rattle.sender.specs.Writing.{fitAll}
 use Rattle.sender.specs.declared.sender.Deadline.the-variants.{Nothing as NoIdle}
-use Rattle.sender.specs.declared.sender.IdleTimer.{IdleTimer}
-use Rattle.sender.specs.declared.sender.IdleTimer.the-variants.{Off, Waiting}
 use Rattle.sender.specs.declared.sender.RequestOutcome.the-variants.{Queued, Ignored, Error, NotSupported}
 use Rattle.sender.specs.declared.sender.Writing.{Writing}
 use Rattle.sender.specs.declared.sender.Writing.the-variants.{Written, Refused as NotWritten}

@@ -15,6 +15,7 @@ use Rattle.packet.specs.declared.writer.PayloadWriter.{PayloadWriter}
 use Rattle.command.specs.Write.{requestPacket}
 use Rattle.window.specs.declared.window.Span.{Span}
 use Rattle.window.specs.declared.window.Span.the-variants.{Nothing as NoSpan, Of}
+use Rattle.idle.specs.Schedule.{isDue}
 use Rattle.receiver.specs.Receiver.{deadlineAt}
 use Rattle.receiver_log.specs.Calls as Receiver
 use Rattle.receiver_log.specs.Log.{reports}
@@ -22,7 +23,7 @@ use Rattle.receiver_log.specs.Spans.{requestIn}
 use Rattle.receiver_log.specs.Timing.{timerIn, dueIn, enabledIn}
 use Rattle.receiver_log.specs.Answers.{answerOf as receiverAnswer}
 use Rattle.receiver_log.specs.Promise.{logOf}
-use Rattle.sender.specs.Requests.{dueAt, isDue}
+use Rattle.sender.specs.Requests.{dueAt}
 use Rattle.sender.specs.declared.sender.Deadline.the-variants.{Nothing as NoIdle}
 use Rattle.sender.specs.declared.sender.Writing.{Writing}
 use Rattle.sender.specs.declared.sender.Writing.the-variants.{Written, Refused}

@@ -11,12 +11,12 @@ state-ok-requires c κs = search needs
 state-ok-requires-2 : tie.Need-state-ok-requires-2
 state-ok-requires-2 c κs = search needs
 
-idle-ok-requires : tie.Need-idle-ok-requires
-idle-ok-requires c κs = search needs
+state-ok-requires-3 : tie.Need-state-ok-requires-3
+state-ok-requires-3 c κs = search needs
 
 returns : tie.Need-returns
 returns c =
-    test-idle _ _ (sym (c .before .before .before .before .state-ok .ensures) ∙ c .before .before .before .if1 .taken) (sym (c .before .before .state-ok2 .ensures) ∙ c .before .if2 .taken) _ (c .idle-ok .ensures)
+    test-idle _ _ (sym (c .before .before .before .before .state-ok .ensures) ∙ c .before .before .before .if1 .taken) (sym (c .before .before .state-ok2 .ensures) ∙ c .before .if2 .taken) _ (c .state-ok3 .ensures)
 
 returns-2 : tie.Need-returns-2
 returns-2 c =
@@ -28,4 +28,4 @@ returns-3 c = test-history _ _ (sym (c .before .state-ok .ensures) ∙ c .if1 .l
 pub is-valid-spec : {M : Type 1} → statement M
 is-valid-spec =
     tie.close
-    (tie.spec state-ok-requires state-ok-requires-2 idle-ok-requires returns returns-2 returns-3)
+    (tie.spec state-ok-requires state-ok-requires-2 state-ok-requires-3 returns returns-2 returns-3)

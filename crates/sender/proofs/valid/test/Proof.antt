@@ -12,14 +12,14 @@ state-walk-requires c κs = search needs
 state-ok-requires : tie.Need-state-ok-requires
 state-ok-requires c κs = search needs
 
-idle-ok-requires : tie.Need-idle-ok-requires
-idle-ok-requires c κs = search needs
+state-ok-requires-2 : tie.Need-state-ok-requires-2
+state-ok-requires-2 c κs = search needs
 
 returns : tie.Need-returns
 returns c =
     record {
       answer =
-          test-idle (c .before .before .before .before .before .before .before .before .args .s) _ (sym (c .before .before .before .before .state-walk .ensures .answer) ∙ c .before .before .before .if1 .taken) (sym (c .before .before .state-ok .ensures) ∙ c .before .if2 .taken) _ (c .idle-ok .ensures);
+          test-idle (c .before .before .before .before .before .before .before .before .args .s) _ (sym (c .before .before .before .before .state-walk .ensures .answer) ∙ c .before .before .before .if1 .taken) (sym (c .before .before .state-ok .ensures) ∙ c .before .if2 .taken) _ (c .state-ok2 .ensures);
       place = λ _. c .before .before .before .before .state-walk .ensures .place (c .before .before .before .if1 .taken);
     }
 
@@ -33,4 +33,4 @@ returns-3 c = answers-no _ _ _ _ _ _ (c .if1 .left) (test-history (c .before .be
 pub test-spec : {M : Type 1} → statement M
 test-spec =
     tie.close
-    (tie.spec state-walk-requires state-ok-requires idle-ok-requires returns returns-2 returns-3)
+    (tie.spec state-walk-requires state-ok-requires state-ok-requires-2 returns returns-2 returns-3)

@@ -1,11 +1,10 @@
 -- The test is the definition's, and the entries are those from the request's number on.
 use mathlib.Core.Path.{ap, _∙_}
 use native.Mathlib.Omega.{arith}
-use Rattle.sender.specs.Writing.{rowOf}
-use Rattle.sender.proofs.Serving.{answer-error, answer-entries, answer-short}
+use Rattle.sender.proofs.Serving.{answer-error, answer-entries, answer-standing}
 use Rattle.sender.proofs.Validity.{valid-good, valid-unsent}
 use borrow.Author.Needs.{needs}
-use borrow.Author.Needs.{needs}
+use Rattle.rows.specs.Rows.{rowOf}
 use Rattle.sender.proofs.writing.answer.Statement.{statement}
 use Rattle.sender.proofs.writing.answer.Tie as tie
 
@@ -45,8 +44,7 @@ write-entries-requires : tie.Need-write-entries-requires
 write-entries-requires c κs =
     let start = c .before .before .before .before .before .before .before .before .before .before .before in
     let p = start .pre in
-    let g = valid-good _ _ (p .0) in
-    (p .1, c .before .before .before .index-of .ensures .1, omega (arith, g .ring, g .least), omega (arith, g .ring, g .most), answer-short (start .args .s) (start .args .req) _ (c .before .before .before .before .before .distance .ensures) (c .before .before .before .before .if1 .left) _ (c .reach .ensures) _ _ (p .0) (c .before .before .before .index-of .ensures .0))
+    (p .1, answer-standing (start .args .s) (start .args .req) _ (c .before .before .before .before .before .distance .ensures) (c .before .before .before .before .if1 .left) _ (c .reach .ensures) _ _ (p .0) (c .before .before .before .index-of .ensures .0))
 
 same-length-2 : tie.Need-same-length-2
 same-length-2 c = search needs

@@ -1,7 +1,6 @@
 -- Where not all is written, the payload decides.
 use Rattle.sender.proofs.Serving.{or-right}
 use borrow.Author.Needs.{needs}
-use borrow.Author.Needs.{needs}
 use Rattle.sender.proofs.writing.leaves.Statement.{statement}
 use Rattle.sender.proofs.writing.leaves.Tie as tie
 

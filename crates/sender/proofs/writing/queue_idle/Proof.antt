@@ -1,8 +1,8 @@
 -- The tests choose as the definition does, and the command has no words.
 use native.Mathlib.Omega.{arith}
-use Rattle.sender.proofs.Idling.{idled-off, idled-unsent, idled-early, idled-queued, idle-step}
+use Rattle.idle.proofs.Steps.{idle-step}
+use Rattle.sender.proofs.Idling.{idled-off, idled-unsent, idled-early, idled-queued}
 use Rattle.sender.proofs.Validity.{valid-good, valid-idle, valid-words, valid-small}
-use borrow.Author.Needs.{needs}
 use borrow.Author.Needs.{needs}
 use Rattle.sender.proofs.writing.queue_idle.Statement.{statement}
 use Rattle.sender.proofs.writing.queue_idle.Tie as tie
@@ -31,8 +31,8 @@ add-t17 c = search needs
 add-t18 : tie.Need-add-t18
 add-t18 c = omega (arith, valid-words _ _ (c .before .before .before .before .before .before .before .before .before .before .before .before .before .before .before .before .before .pre .1), valid-small _ _ (c .before .before .before .before .before .before .before .before .before .before .before .before .before .before .before .before .before .pre .1))
 
-idle-next-requires : tie.Need-idle-next-requires
-idle-next-requires c κs = (c .before .before .before .before .before .before .before .before .before .before .before .before .before .before .before .before .before .pre .0, idle-step _ _ (valid-idle _ _ (c .before .before .before .before .before .before .before .before .before .before .before .before .before .before .before .before .before .pre .1)) (c .before .before .before .before .before .before .before .before .before .before .before .before .idle .given .1))
+next-requires : tie.Need-next-requires
+next-requires c κs = (c .before .before .before .before .before .before .before .before .before .before .before .before .before .before .before .before .before .pre .0, idle-step _ _ (valid-idle _ _ (c .before .before .before .before .before .before .before .before .before .before .before .before .before .before .before .before .before .pre .1)) (c .before .before .before .before .before .before .before .before .before .before .before .before .idle .given .1))
 
 returns-3 : tie.Need-returns-3
 returns-3 c = idled-off _ _ _ _ (c .enum-told .given .1)
@@ -42,7 +42,7 @@ same-length c = search needs
 
 returns-4 : tie.Need-returns-4
 returns-4 c =
-    idled-queued _ _ _ _ _ (c .before .before .before .before .before .before .before .before .before .before .before .before .before .idle .given .1) (c .before .before .before .before .before .before .before .before .before .before .if1 .left) _ _ _ (c .before .before .before .before .before .before .before .before .if2 .left) (c .before .before .before .before .before .push .ensures) (c .idle-next .ensures)
+    idled-queued _ _ _ _ _ (c .before .before .before .before .before .before .before .before .before .before .before .before .before .idle .given .1) (c .before .before .before .before .before .before .before .before .before .before .if1 .left) _ _ _ (c .before .before .before .before .before .before .before .before .if2 .left) (c .before .before .before .before .before .push .ensures) (c .next .ensures)
 
 pub queue-idle-spec : {M : Type 1} → statement M
 queue-idle-spec =
@@ -56,7 +56,7 @@ queue-idle-spec =
     push-requires
     add-t17
     add-t18
-    idle-next-requires
+    next-requires
     returns-3
     same-length
     returns-4)

@@ -9,9 +9,9 @@ use Rattle.command.specs.declared.retransmit.RetransmitRequest.{RetransmitReque
 use Rattle.packet.specs.Write.{validOf as payloadValid, startOf}
 use Rattle.history.specs.Queue.{Fit, blank}
 use Rattle.history.specs.declared.queue.RetransmitQueue.{RetransmitQueue}
+use Rattle.rows.proofs.Filling.{start-most, out-valid, out-length, out-grows}
 use Rattle.sender.specs.Requests.{withQueue}
 use Rattle.sender.specs.Writing.{servedAlso, servedIn, servedOf}
-use Rattle.sender.proofs.Rows.{start-most, out-valid, out-length, out-grows}
 use Rattle.sender.proofs.Serving.{front-request, pop-made, popped-fit, served-start, served-few, served-popped, served-stays, served-end}
 use Rattle.sender.proofs.Validity.{valid-fit, valid-unsent, valid-few}
 use Rattle.sender.proofs.writing.serve.Statement.{statement}

@@ -2,10 +2,10 @@
 use native.Mathlib.Omega.{arith}
 use Prim.Native.Nat.{_≤_, _<_}
 use Rattle.config.specs.Sequence.{turn}
-use Rattle.sender.proofs.Rows.{start-most}
 use Rattle.sender.proofs.Serving.{out-sound, written-more, written-new}
 use Rattle.sender.proofs.Idling.{idled-next, again-kept}
 use borrow.Author.Needs.{needs}
+use Rattle.rows.proofs.Filling.{start-most}
 use Rattle.sender.proofs.writing.write.Statement.{statement}
 use Rattle.sender.proofs.writing.write.Tie as tie
 

@@ -1,9 +1,8 @@
 -- The walk ends at the first new command; where that fits, the repeats that fit beside it and the new ones are one row.
 use mathlib.Core.Path.{sym, _∙_}
 use native.Mathlib.Omega.{arith}
-use Rattle.sender.proofs.Repeating.{least-few, last-short, last-words, last-end, again-place, new-none, new-large, new-more, new-row}
+use Rattle.sender.proofs.Repeating.{least-few, last-standing, last-words, last-end, again-place, new-none, new-large, new-more, new-row}
 use Rattle.sender.proofs.Validity.{valid-good, valid-unsent}
-use borrow.Author.Needs.{needs}
 use borrow.Author.Needs.{needs}
 use Rattle.sender.proofs.writing.write_new.Statement.{statement}
 use Rattle.sender.proofs.writing.write_new.Tie as tie
@@ -31,10 +30,9 @@ place-of-requires c κs =
 walk-requires : tie.Need-walk-requires
 walk-requires c κs =
     let v = c .before .before .before .before .before .before .before .before .before .before .pre .0 in
-    let g = valid-good _ _ v in
     let few = least-few _ _ _ (c .before .least .ensures) in
-    let at = c .place-of .ensures in
-    (at .1, omega (arith, g .ring, g .least), omega (arith, g .ring, g .most), last-short _ _ v _ _ few (at .0), last-words _ _ v _ _ few (at .0))
+    let at = c .place-of .ensures .0 in
+    (last-standing _ _ v _ _ few at, last-words _ _ v _ _ few at)
 
 free-words-requires : tie.Need-free-words-requires
 free-words-requires c κs = search needs
@@ -59,18 +57,26 @@ returns-3 c =
 repeats-requires : tie.Need-repeats-requires
 repeats-requires c κs =
     let v = c .before .before .before .before .before .before .before .before .before .before .before .before .before .before .before .pre .0 in
-    let g = valid-good _ _ v in
     let few = least-few _ _ _ (c .before .before .before .before .before .before .least .ensures) in
-    let at = c .before .before .before .before .before .place-of .ensures in
+    let at = c .before .before .before .before .before .place-of .ensures .0 in
     let w = c .before .before .before .before .walk .ensures in
-    (at .1, omega (arith, g .ring, g .least), omega (arith, g .ring, g .most), last-short _ _ v _ _ few (at .0), w .2, w .1, omega (arith, c .before .if2 .left, c .before .before .pl .ensures, c .before .before .before .free-words .ensures))
+    (last-standing _ _ v _ _ few at, w .2, w .1, omega (arith, c .before .if2 .left, c .before .before .pl .ensures, c .before .before .before .free-words .ensures))
 
 write-row-requires : tie.Need-write-row-requires
 write-row-requires c κs =
     let p = c .before .before .before .before .before .before .before .before .before .before .before .before .before .before .before .before .before .pre in
     let few = least-few _ _ _ (c .before .before .before .before .before .before .before .before .least .ensures) in
-    let r = c .before .repeats .ensures in
-    (p .0, p .1, p .2, omega (arith, r .1, c .before .before .before .before .before .before .before .before .least .ensures), again-place _ _ (p .0) _ _ few (c .before .before .before .before .before .before .before .place-of .ensures .0) _ _ (r .1) (r .2), r .3, r .4)
+    let r = c .before .repeats .ensures in (
+      p .0,
+      p .1,
+      p .2,
+      record {
+        few = omega (arith, r .few, c .before .before .before .before .before .before .before .before .least .ensures);
+        place = again-place _ _ (p .0) _ _ few (c .before .before .before .before .before .before .before .place-of .ensures .0) _ _ (r .few) (r .place);
+        words = r .words;
+        room = r .room;
+      },
+    )
 
 same-length : tie.Need-same-length
 same-length c = search needs
@@ -83,8 +89,8 @@ returns-4 c =
     let at = c .before .before .before .before .before .before .before .before .before .before .place-of .ensures .0 in
     let r = c .before .before .before .before .repeats .ensures in
     let e = c .before .before .before .before .before .before .before .before .before .walk .ensures .0 ∙ last-end _ _ v _ _ few at in
-    let a = again-place _ _ v _ _ few at _ _ (r .1) (r .2) in
-    new-row (start .args .s) (start .args .cfg) (start .args .time) _ _ _ _ (c .before .before .before .before .before .before .before .before .before .before .before .before .before .before .before .before .if1 .left) _ e _ (omega (arith, c .before .before .before .before .before .before .if2 .left, c .before .before .before .before .before .before .before .pl .ensures, c .before .before .before .before .before .before .before .before .free-words .ensures)) _ _ _ _ (c .before .before .before .before .before .before .before .before .before .before .before .least .ensures) at (r .0) (last-end _ _ v _ _ (omega (arith, r .1, c .before .before .before .before .before .before .before .before .before .before .before .least .ensures)) a ∙ sym e) (c .before .before .write-row .ensures)
+    let a = again-place _ _ v _ _ few at _ _ (r .few) (r .place) in
+    new-row (start .args .s) (start .args .cfg) (start .args .time) _ _ _ _ (c .before .before .before .before .before .before .before .before .before .before .before .before .before .before .before .before .if1 .left) _ e _ (omega (arith, c .before .before .before .before .before .before .if2 .left, c .before .before .before .before .before .before .before .pl .ensures, c .before .before .before .before .before .before .before .before .free-words .ensures)) _ _ _ _ (c .before .before .before .before .before .before .before .before .before .before .before .least .ensures) at (r .packets) (last-end _ _ v _ _ (omega (arith, r .few, c .before .before .before .before .before .before .before .before .before .before .before .least .ensures)) a ∙ sym e) (c .before .before .write-row .ensures)
 
 pub write-new-spec : {M : Type 1} → statement M
 write-new-spec =

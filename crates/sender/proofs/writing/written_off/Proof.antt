@@ -1,7 +1,6 @@
 -- There are more words than headers exactly where one command has words.
 use Rattle.sender.proofs.Repeating.{off-starts, off-stays}
 use borrow.Author.Needs.{needs}
-use borrow.Author.Needs.{needs}
 use Rattle.sender.proofs.writing.written_off.Statement.{statement}
 use Rattle.sender.proofs.writing.written_off.Tie as tie
 
@@ -11,14 +10,11 @@ sub-unsent c = search needs
 sub-unsent-words : tie.Need-sub-unsent-words
 sub-unsent-words c = search needs
 
-cast-interval : tie.Need-cast-interval
-cast-interval c = search needs
-
-later-by-requires : tie.Need-later-by-requires
-later-by-requires c κs = search needs
+start-requires : tie.Need-start-requires
+start-requires c κs = search needs
 
 returns : tie.Need-returns
-returns c = off-starts (c .before .before .before .before .before .before .before .args .s) (c .before .before .before .before .before .before .before .args .cfg) (c .before .before .before .before .before .before .before .args .time) _ _ _ (c .before .before .if1 .taken) (c .later-by .ensures)
+returns c = off-starts (c .before .before .before .before .before .before .args .s) (c .before .before .before .before .before .before .args .cfg) (c .before .before .before .before .before .before .args .time) _ _ _ (c .before .if1 .taken) (c .start .ensures)
 
 returns-2 : tie.Need-returns-2
 returns-2 c = off-stays (c .before .before .before .before .before .args .s) (c .before .before .before .before .before .args .cfg) (c .before .before .before .before .before .args .time) _ _ (c .if1 .left)
@@ -26,4 +22,4 @@ returns-2 c = off-stays (c .before .before .before .before .before .args .s) (c 
 pub written-off-spec : {M : Type 1} → statement M
 written-off-spec =
     tie.close
-    (tie.spec sub-unsent sub-unsent-words cast-interval later-by-requires returns returns-2)
+    (tie.spec sub-unsent sub-unsent-words start-requires returns returns-2)

@@ -1,0 +1,2 @@
+-- The definitions that the contracts of `idle` cite.
+pub mod Schedule
