@@ -25,9 +25,9 @@ extern "C" {
 /* While the first number is 0, a new second one can ask callers to change something, a new third one
  * not. docs/CHANGELOG.md says what each brought. */
 #define SIRMJOLD_VERSION_MAJOR 0
-#define SIRMJOLD_VERSION_MINOR 1
+#define SIRMJOLD_VERSION_MINOR 2
 #define SIRMJOLD_VERSION_PATCH 0
-#define SIRMJOLD_VERSION "0.1.0"
+#define SIRMJOLD_VERSION "0.2.0"
 
 /* The words of a stream, of a payload, of a window alone, and of the settings. */
 #define SIRMJOLD_STREAM_WORDS 35
@@ -160,6 +160,8 @@ struct sirmjold_written {
     uint8_t more; /* the next command did not fit: send the payload, write again into a new one */
 };
 
+/* ---- a stream (archive libc_stream.a) */
+
 /* A fresh stream: a receive window of `window` numbers (1 to 128), a request ring of `places` places
  * (1 to 16), and the whole of `ring` as its history, which is zeroed. A start that is refused stores
  * nothing: a stream that runs on these words and this history goes on. */
@@ -223,7 +225,8 @@ struct sirmjold_written sirmjold_stream_write_data(uint64_t *s, size_t s_len, co
                                                    size_t p_len, uint8_t *buf, size_t buf_len,
                                                    uint32_t *ring, size_t ring_len);
 
-/* ---- payloads that are being written: words `p`, whose first is the length, and a buffer */
+/* ---- payloads (archive libc_codec.a). One that is being written: words `p`, whose first is the length, and
+ * a buffer */
 
 /* An empty payload; 4 when the limit is not 8 to 1400 bytes. A shorter buffer lowers the limit. */
 uint8_t sirmjold_payload_new(uint64_t *p, size_t p_len, size_t max);
@@ -241,60 +244,7 @@ uint8_t sirmjold_retransmit_request_write(uint64_t *p, size_t p_len, uint8_t *bu
 uint8_t sirmjold_retransmit_error_write(uint64_t *p, size_t p_len, uint8_t *buf, size_t buf_len,
                                         uint8_t reason, uint16_t seq);
 
-/* ---- payloads that were received */
-
-struct sirmjold_place {
-    uint64_t at;
-    uint8_t refusal;
-};
-
-/* Of an item and of a message. */
-enum sirmjold_item_kind {
-    SIRMJOLD_END = 0,
-    SIRMJOLD_TRUNCATED = 1, /* longer than the rest: reading ends */
-    SIRMJOLD_WHOLE = 2
-};
-
-struct sirmjold_item {
-    uint64_t next; /* the place of the next command */
-    uint8_t code;
-    uint8_t len; /* in words; they stand 4 bytes after the item's own place */
-    uint8_t csd1;
-    uint8_t csd2;
-    uint8_t kind;
-};
-
-enum sirmjold_command_kind {
-    SIRMJOLD_RAW = 0,
-    SIRMJOLD_UMP_DATA = 1,
-    SIRMJOLD_REQUEST = 2,
-    SIRMJOLD_REQUEST_ERROR = 3
-};
-
-struct sirmjold_command {
-    uint8_t refusal;
-    uint8_t kind;
-    uint8_t reason; /* of an error */
-    uint16_t seq;
-    uint16_t count; /* of a request */
-};
-
-struct sirmjold_message {
-    uint64_t next; /* the index of the next message's first word */
-    uint8_t kind;
-    uint8_t len; /* in words, 1 to 4 */
-};
-
-struct sirmjold_word_answer {
-    uint32_t word;
-    uint8_t found;
-};
-
-/* The place of the first command; 1 when the payload does not begin with the signature. */
-struct sirmjold_place sirmjold_packet_open(const uint8_t *payload, size_t payload_len);
-
-/* What stands at a place. */
-struct sirmjold_item sirmjold_packet_next(const uint8_t *payload, size_t payload_len, size_t at);
+/* One that was received: its bytes. */
 
 /* What sirmjold_command_next finds. */
 enum sirmjold_read_kind {
@@ -329,59 +279,14 @@ struct sirmjold_read sirmjold_command_next(const uint8_t *payload, size_t payloa
                                            uint32_t *words, size_t words_len, uint8_t *lens,
                                            size_t lens_len);
 
-/* What a command is, of whose words `body` holds the bytes; 10 for a request or an error without its
- * word. */
-struct sirmjold_command sirmjold_command_parse(uint8_t code, uint8_t len, uint8_t csd1, uint8_t csd2,
-                                               const uint8_t *body, size_t body_len);
-
-/* What stands next in the words of a data command, from the word `at` on; begin with 0. */
-struct sirmjold_message sirmjold_messages_next(const uint8_t *body, size_t body_len, size_t at);
-
-/* The word at an index of a command's bytes. */
-struct sirmjold_word_answer sirmjold_word(const uint8_t *body, size_t body_len, size_t index);
-
-/* ---- a receive window alone: words `w`. Of a delivery, `skipped` alone tells the gap, and `classify`
- * tells no loss. */
-
-struct sirmjold_span {
-    uint8_t refusal;
-    uint16_t first;
-    uint16_t count; /* 0 is none */
-};
-
-struct sirmjold_known {
-    uint8_t refusal;
-    uint8_t processed;
-};
+/* ---- a receive window alone (archive libc_window.a): words `w`. Of a delivery, `skipped` alone tells the gap. */
 
 /* A window of 1 to 128 numbers; `highest` and all before it are processed. A fresh window has the
  * highest 65535. 12 for another size. */
 uint8_t sirmjold_window_starting_at(uint64_t *w, size_t w_len, uint32_t size, uint16_t highest);
 
-/* Back to the fresh window of the same size. */
-uint8_t sirmjold_window_reset(uint64_t *w, size_t w_len);
-
-/* What a number is to the window, which stays as it is. */
-struct sirmjold_delivery sirmjold_window_classify(const uint64_t *w, size_t w_len, uint16_t seq);
-
 /* A number arrives: it is processed now, unless it is a duplicate. */
 struct sirmjold_delivery sirmjold_window_accept(uint64_t *w, size_t w_len, uint16_t seq);
-
-/* Whether the number is the highest, or one of the window's numbers that was processed. */
-struct sirmjold_known sirmjold_window_is_processed(const uint64_t *w, size_t w_len, uint16_t seq);
-
-/* From the oldest to the newest missing number. */
-struct sirmjold_span sirmjold_window_missing(const uint64_t *w, size_t w_len);
-
-/* What a Retransmit Request asks for: from the oldest missing number to just before the highest. */
-struct sirmjold_span sirmjold_window_request(const uint64_t *w, size_t w_len);
-
-/* All numbers of the window are processed now. */
-uint8_t sirmjold_window_mark_all(uint64_t *w, size_t w_len);
-
-/* The missing numbers that are in the range are processed now; the answer spans them. */
-struct sirmjold_span sirmjold_window_mark_range(uint64_t *w, size_t w_len, uint16_t first,
-                                                uint16_t count);
 
 /* ---- a load that can be made again: values drawn from a seed, and what each of them asks to send.
  * Nothing is lent and nothing refused: any `last` is a seed. */

@@ -133,29 +133,6 @@ static void hand_on(const uint32_t *words, const uint8_t *lens, size_t count, ui
     }
 }
 
-/* Step by step, a command is the same as in one call. */
-static void step_by_step(const struct flying *f, size_t at, const struct sirmjold_read *c,
-                         const uint32_t *words, const uint8_t *lens)
-{
-    struct sirmjold_place place = sirmjold_packet_open(f->bytes, f->len);
-    size_t here = at ? at : (size_t)place.at;
-    struct sirmjold_item item = sirmjold_packet_next(f->bytes, f->len, here);
-    const uint8_t *body = f->bytes + here + 4;
-    size_t len = 4 * (size_t)item.len;
-    struct sirmjold_command k =
-        sirmjold_command_parse(item.code, item.len, item.csd1, item.csd2, body, len);
-    if (item.kind != SIRMJOLD_WHOLE || item.next != c->next || k.refusal || k.seq != c->seq)
-        fail("a command that is read otherwise step by step", c->seq);
-    if (k.kind != SIRMJOLD_UMP_DATA)
-        return;
-    for (size_t word = 0, m = 0; word < c->count; word += lens[m++]) {
-        struct sirmjold_message message = sirmjold_messages_next(body, len, word);
-        if (message.kind != SIRMJOLD_WHOLE || message.len != lens[m] ||
-            sirmjold_word(body, len, word).word != words[word])
-            fail("a message that is read otherwise step by step", c->seq);
-    }
-}
-
 static void error_back(uint64_t now, uint8_t reason, uint16_t seq)
 {
     uint64_t p[SIRMJOLD_PAYLOAD_WORDS];
@@ -180,7 +157,6 @@ static void arrive(struct flying *f, uint64_t now)
             fail("a payload that cannot be read", c.refusal);
         if (c.next == 0)
             return;
-        step_by_step(f, at, &c, words, lens);
         if (c.kind == SIRMJOLD_READ_UMP_DATA) {
             struct sirmjold_delivery d = sirmjold_stream_on_ump_data(
                 e->words, SIRMJOLD_STREAM_WORDS, cfg, SIRMJOLD_SETTINGS, now, c.seq);

@@ -132,7 +132,6 @@ mod lend;
 mod raw;
 
 mod codec;
-mod codec_steps;
 mod delivery;
 mod held_notes;
 mod link;
@@ -143,10 +142,8 @@ mod sheet;
 mod stream;
 mod uplink;
 mod window;
-mod window_steps;
 
 pub use codec::{Payload, Read, Reader, Reading, RetransmitError, RetransmitRequest, UmpData};
-pub use codec_steps::{commands, Command, Commands, Message, Messages};
 pub use delivery::{Class, Delivery, SeqRange};
 pub use held_notes::{GivenNotes, HeldNotes};
 pub use link::{Line, Report};

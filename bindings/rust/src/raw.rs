@@ -57,12 +57,6 @@ pub struct Written {
 }
 
 #[repr(C)]
-pub struct Place {
-    pub at: u64,
-    pub refusal: u8,
-}
-
-#[repr(C)]
 pub struct Read {
     pub next: u64,
     pub refusal: u8,
@@ -71,51 +65,6 @@ pub struct Read {
     pub len: u8,
     pub seq: u16,
     pub count: u16,
-}
-
-#[repr(C)]
-pub struct Item {
-    pub next: u64,
-    pub code: u8,
-    pub len: u8,
-    pub csd1: u8,
-    pub csd2: u8,
-    pub kind: u8,
-}
-
-#[repr(C)]
-pub struct Command {
-    pub refusal: u8,
-    pub kind: u8,
-    pub reason: u8,
-    pub seq: u16,
-    pub count: u16,
-}
-
-#[repr(C)]
-pub struct Message {
-    pub next: u64,
-    pub kind: u8,
-    pub len: u8,
-}
-
-#[repr(C)]
-pub struct Word {
-    pub word: u32,
-    pub found: u8,
-}
-
-#[repr(C)]
-pub struct Span {
-    pub refusal: u8,
-    pub first: u16,
-    pub count: u16,
-}
-
-#[repr(C)]
-pub struct Known {
-    pub refusal: u8,
-    pub processed: u8,
 }
 
 #[repr(C)]
@@ -312,8 +261,6 @@ extern "C" {
         reason: u8,
         seq: u16,
     ) -> u8;
-    pub fn sirmjold_packet_open(payload: *const u8, payload_len: usize) -> Place;
-    pub fn sirmjold_packet_next(payload: *const u8, payload_len: usize, at: usize) -> Item;
     pub fn sirmjold_command_next(
         payload: *const u8,
         payload_len: usize,
@@ -323,25 +270,8 @@ extern "C" {
         lens: *mut u8,
         lens_len: usize,
     ) -> Read;
-    pub fn sirmjold_command_parse(
-        code: u8,
-        len: u8,
-        csd1: u8,
-        csd2: u8,
-        body: *const u8,
-        body_len: usize,
-    ) -> Command;
-    pub fn sirmjold_messages_next(body: *const u8, body_len: usize, at: usize) -> Message;
-    pub fn sirmjold_word(body: *const u8, body_len: usize, index: usize) -> Word;
     pub fn sirmjold_window_starting_at(w: *mut u64, w_len: usize, size: u32, highest: u16) -> u8;
-    pub fn sirmjold_window_reset(w: *mut u64, w_len: usize) -> u8;
-    pub fn sirmjold_window_classify(w: *const u64, w_len: usize, seq: u16) -> Delivery;
     pub fn sirmjold_window_accept(w: *mut u64, w_len: usize, seq: u16) -> Delivery;
-    pub fn sirmjold_window_is_processed(w: *const u64, w_len: usize, seq: u16) -> Known;
-    pub fn sirmjold_window_missing(w: *const u64, w_len: usize) -> Span;
-    pub fn sirmjold_window_request(w: *const u64, w_len: usize) -> Span;
-    pub fn sirmjold_window_mark_all(w: *mut u64, w_len: usize) -> u8;
-    pub fn sirmjold_window_mark_range(w: *mut u64, w_len: usize, first: u16, count: u16) -> Span;
     pub fn sirmjold_load_draw(load: Load) -> Load;
     pub fn sirmjold_load_jump(load: Load, n: u16) -> Jumped;
     pub fn sirmjold_load_words(load: Load) -> Asked;

@@ -2,8 +2,6 @@
 use Prim.Native.Nat.{ℕ}
 use mathlib.Core.Bool.{Bool, true, false}
 use Rattle.config.specs.Refusals.{numberOf}
-use Rattle.packet.specs.declared.writer.Write.{Write}
-use Rattle.packet.specs.declared.writer.Write.the-variants.{Done as Put, Refused as NotPut}
 use Rattle.history.specs.declared.queue.Ignored.{Ignored as WhyIgnored}
 use Rattle.history.specs.declared.queue.Ignored.the-variants.{Pending, Full}
 use Rattle.window.specs.declared.window.Class.{Class}
@@ -12,14 +10,6 @@ use Rattle.window.specs.declared.window.Span.{Span}
 use Rattle.window.specs.declared.window.Span.the-variants.{Nothing, Of}
 use Rattle.window.specs.declared.window.Acceptance.{Acceptance}
 use Rattle.window.specs.declared.window.Acceptance.the-variants.{Heard, Refused as NotTaken}
-use Rattle.window.specs.declared.window.Change.{Change}
-use Rattle.window.specs.declared.window.Change.the-variants.{Done as Changed, Refused as NotChanged}
-use Rattle.window.specs.declared.window.Classification.{Classification}
-use Rattle.window.specs.declared.window.Classification.the-variants.{Found, Refused as NotFound}
-use Rattle.window.specs.declared.window.Knowledge.{Knowledge}
-use Rattle.window.specs.declared.window.Knowledge.the-variants.{Processed, Refused as NotTested}
-use Rattle.window.specs.declared.window.Extent.{Extent}
-use Rattle.window.specs.declared.window.Extent.the-variants.{Numbers as Spanning, Refused as NotSpanned}
 use Rattle.receiver.specs.declared.receiver.Hearing.{Hearing}
 use Rattle.receiver.specs.declared.receiver.Hearing.the-variants.{Delivery, Refused as NotHeard}
 use Rattle.receiver.specs.declared.receiver.StreamEvent.{StreamEvent}
@@ -40,8 +30,6 @@ use Rattle.stream.specs.declared.stream.Wants.{Wants}
 use Rattle.stream.specs.declared.stream.Wants.the-variants.{Is, Refused as NotKnown}
 use Rattle.c_answers.specs.declared.answers.COutcome.{COutcome}
 use Rattle.c_answers.specs.declared.answers.CEvent.{CEvent}
-use Rattle.c_answers.specs.declared.answers.CSpan.{CSpan}
-use Rattle.c_answers.specs.declared.answers.CKnown.{CKnown}
 use Rattle.c_answers.specs.declared.answers.CRequest.{CRequest}
 use Rattle.c_answers.specs.declared.answers.CDeadline.{CDeadline}
 use Rattle.c_answers.specs.declared.answers.CWants.{CWants}
@@ -107,10 +95,6 @@ abbrev pub acceptanceOf : Acceptance → CDelivery
 acceptanceOf (Heard c lost) = classOf c Nothing lost
 acceptanceOf (NotTaken why) = deliveryRefused (numberOf why)
 
-abbrev pub writeNumber : Write → ℕ
-writeNumber Put = 0
-writeNumber (NotPut why) = numberOf why
-
 abbrev pub ignoredNumber : WhyIgnored → ℕ
 ignoredNumber Pending = 1
 ignoredNumber Full = 2
@@ -162,28 +146,3 @@ wantsRefused n = record { refusal = n; wants = 0 }
 abbrev pub wantsOf : Wants → CWants
 wantsOf (Is b) = record { refusal = 0; wants = bit b }
 wantsOf (NotKnown why) = wantsRefused (numberOf why)
-
-abbrev pub changeNumber : Change → ℕ
-changeNumber Changed = 0
-changeNumber (NotChanged why) = numberOf why
-
-abbrev pub classificationOf : Classification → CDelivery
-classificationOf (Found c) = classOf c Nothing Nothing
-classificationOf (NotFound why) = deliveryRefused (numberOf why)
-
-abbrev pub knownRefused : ℕ → CKnown
-knownRefused n = record { refusal = n; processed = 0 }
-
-abbrev pub knowledgeOf : Knowledge → CKnown
-knowledgeOf (Processed b) = record { refusal = 0; processed = bit b }
-knowledgeOf (NotTested why) = knownRefused (numberOf why)
-
-abbrev pub spanRefused : ℕ → CSpan
-spanRefused n = record { refusal = n; first = 0; count = 0 }
-
-abbrev pub spanTold : Numbers → CSpan
-spanTold n = record { refusal = 0; first = n .first; count = n .count }
-
-abbrev pub extentOf : Extent → CSpan
-extentOf (Spanning s) = spanTold (spanNumbers s)
-extentOf (NotSpanned why) = spanRefused (numberOf why)

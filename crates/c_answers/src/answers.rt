@@ -1,10 +1,9 @@
 // Answers as numbers: each has 0, or the number of a refusal, in `refusal`; then every other field
 // is 0.
 ghost use mathlib.Core.Path.{_≡_};
-ghost use Rattle.c_answers.specs.Answers.{resetNumber, sendNumber, spanNumbers, classNumber, skippedIn, classOf, deliveryOf, deliveryRefused, writtenRefused, writtenOf, acceptanceOf, ignoredNumber, outcomeRefused, outcomeOf, eventRefused, eventOf, requestRefused, requestOf, deadlineRefused, deadlineOf, wantsRefused, wantsOf, writeNumber, changeNumber, classificationOf, knownRefused, knowledgeOf, spanRefused, extentOf};
+ghost use Rattle.c_answers.specs.Answers.{resetNumber, sendNumber, spanNumbers, classNumber, skippedIn, classOf, deliveryOf, deliveryRefused, writtenRefused, writtenOf, acceptanceOf, ignoredNumber, outcomeRefused, outcomeOf, eventRefused, eventOf, requestRefused, requestOf, deadlineRefused, deadlineOf, wantsRefused, wantsOf};
 use config::refusal::Refusal;
 use history::queue::Ignored;
-use packet::writer::Write;
 use receiver::receiver::Hearing;
 use receiver::receiver::Request;
 use receiver::receiver::StreamEvent;
@@ -15,11 +14,7 @@ use stream::stream::Deadline;
 use stream::stream::Reset;
 use stream::stream::Wants;
 use window::window::Acceptance;
-use window::window::Change;
 use window::window::Class;
-use window::window::Classification;
-use window::window::Extent;
-use window::window::Knowledge;
 use window::window::Span;
 
 // What became of a Retransmit Request: 0 queued, 1 one with its number waits, 2 every place is
@@ -378,99 +373,11 @@ pub fn of_writing(a: Writing) -> CWritten
     }
 }
 
-// Numbers from `first` on; a count of 0 is none.
-#[repr(C)]
-pub struct CSpan {
-    pub refusal: u8,
-    pub first: u16,
-    pub count: u16,
-}
-
-#[repr(C)]
-pub struct CKnown {
-    pub refusal: u8,
-    pub processed: u8,
-}
-
-pub fn of_change(a: Change) -> u8
-    ensures { λ r. ⌜ r ≡ changeNumber a ⌝ }
-{
-    match a {
-        Change::Done => 0,
-        Change::Refused(why) => why.number(),
-    }
-}
-
-pub fn of_classification(a: Classification) -> CDelivery
-    ensures { λ r. ⌜ r ≡ classificationOf a ⌝ }
-{
-    match a {
-        Classification::Found(class) => of_class(class, Span::Nothing, Span::Nothing),
-        Classification::Refused(why) => refused_delivery(why.number()),
-    }
-}
-
 pub fn of_acceptance(a: Acceptance) -> CDelivery
     ensures { λ r. ⌜ r ≡ acceptanceOf a ⌝ }
 {
     match a {
         Acceptance::Heard { class, lost } => of_class(class, Span::Nothing, lost),
         Acceptance::Refused(why) => refused_delivery(why.number()),
-    }
-}
-
-pub fn refused_known(n: u8) -> CKnown
-    ensures { λ r. ⌜ r ≡ knownRefused n ⌝ }
-{
-    CKnown {
-        refusal: n,
-        processed: 0,
-    }
-}
-
-pub fn of_knowledge(a: Knowledge) -> CKnown
-    ensures { λ r. ⌜ r ≡ knowledgeOf a ⌝ }
-{
-    match a {
-        Knowledge::Processed(b) => CKnown {
-            refusal: 0,
-            processed: b as u8,
-        },
-        Knowledge::Refused(why) => refused_known(why.number()),
-    }
-}
-
-pub fn refused_span(n: u8) -> CSpan
-    ensures { λ r. ⌜ r ≡ spanRefused n ⌝ }
-{
-    CSpan {
-        refusal: n,
-        first: 0,
-        count: 0,
-    }
-}
-
-pub fn of_extent(a: Extent) -> CSpan
-    ensures { λ r. ⌜ r ≡ extentOf a ⌝ }
-{
-    match a {
-        Extent::Numbers(span) => {
-            let s = of_span(span);
-            CSpan {
-                refusal: 0,
-                first: s.first,
-                count: s.count,
-            }
-        }
-        Extent::Refused(why) => refused_span(why.number()),
-    }
-}
-
-pub fn of_write(a: Write) -> u8
-    ensures { λ r. ⌜ r ≡ writeNumber a ⌝ }
-{
-    match a {
-        Write::Done => 0,
-        Write::Refused(why) => why.number(),
     }
 }

@@ -3,8 +3,8 @@ use Prim.Native.Nat.{ℕ}
 use mathlib.Core.List.{List}
 use lib.ListN.{length}
 use Rattle.config.specs.Refusals.{numberOf}
-use Rattle.capi.specs.Guard.{guarded}
-use Rattle.capi.specs.Settings.{settingsNumber, settingsOf}
+use Rattle.c_words.specs.Guard.{guarded}
+use Rattle.c_words.specs.Settings.{settingsNumber, settingsOf}
 use Rattle.link_rules.specs.Link.{runAnswer}
 use Rattle.link_rules.specs.declared.run.Ran.{Ran}
 use Rattle.link_rules.specs.declared.run.Ran.the-variants.{Done, Refused}

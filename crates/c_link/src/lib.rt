@@ -2,7 +2,7 @@
 // for every other function, and both histories are lent.
 ghost use mathlib.Core.Path.{_≡_};
 ghost use Rattle.c_link.specs.Export.{reportOf, refusedBy, runExport};
-use capi::settings;
+use c_words::settings;
 use link::link::run;
 use link_rules::run::Ran;
 

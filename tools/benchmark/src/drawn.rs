@@ -41,8 +41,7 @@ pub fn compare(count: u32) {
     let (mut bytes, mut refused) = (0, 0);
     for _ in 0..count {
         let p = draw.payload();
-        let sums = [Ours::read(&p), Ours::read_apart(&p), Rust::read(&p), Rust::read_apart(&p)];
-        assert!(sums.iter().all(|s| *s == sums[0]), "read otherwise: {p:02X?}");
+        assert_eq!(Ours::read(&p), Rust::read(&p), "read otherwise: {p:02X?}");
         bytes += p.len();
         refused += u32::from(!p.starts_with(b"MIDI"));
     }

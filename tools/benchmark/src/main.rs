@@ -5,8 +5,7 @@
 //!     benchmark run ROW SIDE BATCHES   that many batches of one side, to be counted from outside
 //!     benchmark stack                  a line for each row: name, bytes of stack that a batch uses on each side
 //!     benchmark rows                   the rows, by number
-//!     benchmark read COUNT             reads that many drawn payloads on both sides, in one call for each command and
-//!                                      step by step, and compares
+//!     benchmark read COUNT             reads that many drawn payloads on both sides, and compares
 //!
 //! The sides take turns, and the sums of their answers are compared after each round.
 mod drawn;

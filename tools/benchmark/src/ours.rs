@@ -53,46 +53,6 @@ fn commands(payload: &[u8], mut data: impl FnMut(u64, u16, &[u32], bool) -> u64)
     }
 }
 
-/// The words of the messages of a data command, each step a call.
-#[inline(always)]
-fn messages_apart(body: &[u8], mut sum: u64) -> u64 {
-    let mut at = 0;
-    loop {
-        let m = unsafe { raw::sirmjold_messages_next(body.as_ptr(), body.len(), at) };
-        if m.kind != 2 {
-            return fold(sum, m.kind.into());
-        }
-        for k in at..m.next as usize {
-            sum = fold(sum, unsafe { raw::sirmjold_word(body.as_ptr(), body.len(), k) }.word.into());
-        }
-        at = m.next as usize;
-    }
-}
-
-/// The same as `commands`, each step a call.
-#[inline(always)]
-fn commands_apart(payload: &[u8], mut data: impl FnMut(u64, u16, &[u8]) -> u64) -> u64 {
-    let place = unsafe { raw::sirmjold_packet_open(payload.as_ptr(), payload.len()) };
-    if place.refusal != 0 {
-        return 0;
-    }
-    let (mut at, mut sum) = (place.at as usize, 0);
-    loop {
-        let item = unsafe { raw::sirmjold_packet_next(payload.as_ptr(), payload.len(), at) };
-        if item.kind != 2 {
-            return fold(sum, item.kind.into());
-        }
-        let next = item.next as usize;
-        let body = &payload[at + 4..next];
-        let c = unsafe { raw::sirmjold_command_parse(item.code, item.len, item.csd1, item.csd2, body.as_ptr(), body.len()) };
-        sum = match c.kind {
-            1 => data(sum, c.seq, body),
-            kind => fold(sum, kind.into()),
-        };
-        at = next;
-    }
-}
-
 /// Words of a window of 64 that only the last of its tests refuses: a position outside the window is set.
 const REFUSED: [u64; 4] = [WINDOW as u64, 0xFFFF, u64::MAX, 1];
 
@@ -143,10 +103,6 @@ impl Side for Ours {
 
     fn read(payload: &[u8]) -> u64 {
         commands(payload, |sum, seq, words, cut| messages(words, cut, fold(sum, seq.into())))
-    }
-
-    fn read_apart(payload: &[u8]) -> u64 {
-        commands_apart(payload, |sum, seq, body| messages_apart(body, fold(sum, seq.into())))
     }
 
     fn write_data(buf: &mut [u8], seq: u16, words: &[u32]) -> usize {

@@ -76,24 +76,12 @@ fn reading<S: Side>(p: Vec<u8>) -> Batch {
     Box::new(move || (0..UNITS).fold(0, |sum, _| fold(sum, S::read(black_box(&p)))))
 }
 
-fn reading_apart<S: Side>(p: Vec<u8>) -> Batch {
-    Box::new(move || (0..UNITS).fold(0, |sum, _| fold(sum, S::read_apart(black_box(&p)))))
-}
-
 fn read_blocks<S: Side>(bytes: usize) -> Batch {
     reading::<S>(payload(64, bytes))
 }
 
 fn read_notes<S: Side>(bytes: usize) -> Batch {
     reading::<S>(payload(1, bytes))
-}
-
-fn read_blocks_apart<S: Side>(bytes: usize) -> Batch {
-    reading_apart::<S>(payload(64, bytes))
-}
-
-fn read_notes_apart<S: Side>(bytes: usize) -> Batch {
-    reading_apart::<S>(payload(1, bytes))
 }
 
 /// The payload of `bytes` without its last four.
@@ -466,9 +454,6 @@ pub fn rows() -> Vec<Sized> {
         row!("read a payload, 174 commands of 1 word", "payload", None, read_notes, LIMIT),
         row!("read a payload, 6 commands of up to 64 words", "payload", None, read_blocks, LIMIT),
         row!("read a payload, cut in its last command", "payload", None, read_cut, LIMIT),
-        row!("the same steps apart, 1 word", "payload", None, read_notes_apart, 12),
-        row!("the same steps apart, 174 commands", "payload", None, read_notes_apart, LIMIT),
-        row!("the same steps apart, 6 commands", "payload", None, read_blocks_apart, LIMIT),
         row!("write a command, 1 word", "command", None, write_command, 1, test_payload),
         row!("write a command, 64 words", "command", None, write_command, 64, test_payload),
         row!("the same steps apart, a command of 1 word", "command", None, write_command_apart, 1, test_payload),

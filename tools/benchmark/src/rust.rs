@@ -2,8 +2,8 @@
 //! timers; what it calls is inlined into it as the compiler likes.
 use crate::side::{LARGE, LIMIT, PLACES, SMALL, Side, Stream, WINDOW, delivery, fold};
 use std::collections::VecDeque;
-use zmidi_net::command::{Command, Malformed, RetransmitError, RetransmitRequest, SeqNum, UmpData, UmpMessage, UmpMessages};
-use zmidi_net::packet::{CommandPackets, Header, MaxPayload, PacketItem, PayloadWriter, RawCommand, command_packets};
+use zmidi_net::command::{Command, RetransmitError, RetransmitRequest, SeqNum, UmpData, UmpMessages};
+use zmidi_net::packet::{Header, MaxPayload, PacketItem, PayloadWriter, RawCommand, command_packets};
 use zmidi_net::stream::{Class, DataStream, Ignored, ReceiveWindow, RequestOutcome, SeqRange, StreamConfig, StreamEvent};
 
 const CFG: StreamConfig = StreamConfig::DEFAULT;
@@ -59,26 +59,6 @@ fn commands(payload: &[u8], mut data: impl FnMut(u64, UmpData<'_>) -> u64) -> u6
 }
 
 #[inline(never)]
-fn open_apart(payload: &[u8]) -> Option<CommandPackets<'_>> {
-    command_packets(payload).ok()
-}
-
-#[inline(never)]
-fn next_apart<'a>(items: &mut CommandPackets<'a>) -> Option<PacketItem<'a>> {
-    items.next()
-}
-
-#[inline(never)]
-fn parse_apart(raw: RawCommand<'_>) -> Result<Command<'_>, Malformed> {
-    Command::parse(raw)
-}
-
-#[inline(never)]
-fn message_apart(walk: &mut UmpMessages<'_>) -> Option<UmpMessage> {
-    walk.next()
-}
-
-#[inline(never)]
 fn new_apart(buf: &mut [u8]) -> PayloadWriter<'_> {
     PayloadWriter::new(buf, limit())
 }
@@ -101,31 +81,6 @@ impl Side for Rust {
     #[inline(never)]
     fn read(payload: &[u8]) -> u64 {
         commands(payload, |sum, d| messages(d.messages(), fold(sum, d.seq.0.into())))
-    }
-
-    #[inline(never)]
-    fn read_apart(payload: &[u8]) -> u64 {
-        let Some(mut items) = open_apart(payload) else { return 0 };
-        let mut sum = 0;
-        while let Some(item) = next_apart(&mut items) {
-            let PacketItem::Command(raw) = item else { return fold(sum, 1) };
-            sum = match parse_apart(raw) {
-                Ok(Command::UmpData(d)) => {
-                    let mut walk = d.messages();
-                    sum = fold(sum, d.seq.0.into());
-                    while let Some(m) = message_apart(&mut walk) {
-                        for w in m.words() {
-                            sum = fold(sum, (*w).into());
-                        }
-                    }
-                    fold(sum, walk.truncated().into())
-                }
-                Ok(Command::RetransmitRequest(_)) => fold(sum, 2),
-                Ok(Command::RetransmitError(_)) => fold(sum, 3),
-                _ => fold(sum, 0),
-            };
-        }
-        fold(sum, 0)
     }
 
     #[inline(never)]

@@ -23,11 +23,9 @@ pub trait Side: 'static {
     type Sheet: 'static;
     /// The kinds of a payload's commands, the messages and their words.
     fn read(payload: &[u8]) -> u64;
-    /// The same with each step a call that is kept apart, as the library's C functions are.
-    fn read_apart(payload: &[u8]) -> u64;
     /// One data command in a fresh payload; its length.
     fn write_data(buf: &mut [u8], seq: u16, words: &[u32]) -> usize;
-    /// The same, opening and writing each a call that is kept apart.
+    /// The same, opening and writing each a call that is kept apart, as the library's C functions are.
     fn write_data_apart(buf: &mut [u8], seq: u16, words: &[u32]) -> usize;
     fn window() -> Self::Window;
     fn accept(w: &mut Self::Window, seq: u16) -> u64;

@@ -1,7 +1,7 @@
 -- The settings' number first; then the run is made with the whole of each history.
 use mathlib.Core.Path.{refl, sym, ap, _∙_}
-use Rattle.capi.proofs.Figures.{figures-small}
-use Rattle.capi.proofs.Guards.{made, refused}
+use Rattle.c_words.proofs.Figures.{figures-small}
+use Rattle.c_words.proofs.Guards.{made, refused}
 use Rattle.c_link.specs.Export.{reported, runExport}
 use borrow.Author.Needs.{needs}
 use Rattle.c_link.proofs.sirmjold_link_run.Statement.{statement}

@@ -1,0 +1,38 @@
+-- The first word tells the case.
+use Rattle.c_state.proofs.Words.{chosen-first, chosen-second}
+use borrow.Author.Needs.{needs}
+use Rattle.c_state.proofs.state.asked_in.Statement.{statement}
+use Rattle.c_state.proofs.state.asked_in.Tie as tie
+
+shared-slice-read-if1 : tie.Need-shared-slice-read-if1
+shared-slice-read-if1 c = search needs
+
+returns : tie.Need-returns
+returns c = chosen-first _ _ _ (c .if1 .taken)
+
+shared-slice-read-t3 : tie.Need-shared-slice-read-t3
+shared-slice-read-t3 c = search needs
+
+cast-t6 : tie.Need-cast-t6
+cast-t6 c = search needs
+
+shared-slice-read-t8 : tie.Need-shared-slice-read-t8
+shared-slice-read-t8 c = search needs
+
+cast-t9 : tie.Need-cast-t9
+cast-t9 c = search needs
+
+returns-2 : tie.Need-returns-2
+returns-2 c = chosen-second _ _ _ (c .before .before .if1 .left)
+
+pub asked-in-spec : {M : Type 1} → statement M
+asked-in-spec =
+    tie.close
+    (tie.spec
+    shared-slice-read-if1
+    returns
+    shared-slice-read-t3
+    cast-t6
+    shared-slice-read-t8
+    cast-t9
+    returns-2)

@@ -1,0 +1,10 @@
+-- Each word is its own field.
+use Rattle.c_state.proofs.StoredBack.{receiver-same, sender-same, stream-same}
+use Rattle.c_state.proofs.theorems.stores_back.Statement.{statement}
+use Rattle.c_state.proofs.theorems.stores_back.Tie as tie
+
+returns : tie.Need-returns
+returns c = record { receiver = receiver-same; sender = sender-same; stream = stream-same }
+
+pub stores-back-spec : {M : Type 1} → statement M
+stores-back-spec = tie.close (tie.spec returns)

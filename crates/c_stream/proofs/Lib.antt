@@ -1,0 +1,5 @@
+-- Laws that this crate's proofs cite.
+mod Started
+mod Ends
+mod Emptiness
+mod Refusals
