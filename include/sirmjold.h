@@ -1,16 +1,25 @@
 /* Sirmjold: the data stream of Network MIDI 2.0 over UDP, with repeats and retransmits. Link with
  * -lsirmjold: tools/library makes the archive, and a folder where CMake and pkg-config find it.
  *
- * All memory is the caller's. A stream is an array of SIRMJOLD_STREAM_WORDS words that only these
- * functions write; the send history is a second array, of 65 to 32768 words; a payload that is being
- * written is SIRMJOLD_PAYLOAD_WORDS words and a buffer of bytes. Times are the caller's, in ms.
+ *     static uint32_t history[256];
+ *     static struct sirmjold_stream stream;
+ *     const struct sirmjold_settings settings = SIRMJOLD_DEFAULTS;
+ *     uint8_t refusal = sirmjold_start(&stream, &settings, 64, 4, history, 256);
  *
- * Of a pointer and a length, the pointer is that of an array of at least that many elements, aligned
- * for its type, and not NULL, even where the length is 0. Arrays of one call do not overlap, and
- * no other thread uses them during the call. Nothing else is asked: every value is tested, and a
- * call that is refused answers one of the numbers below. The settings are tested first, then the
- * words of states, then what the call itself refuses. A refused call changes nothing, but for one
- * kind of number 3 of sirmjold_stream_write_data, where it is said.
+ * examples/c/first.c goes on from there, and docs/INTEGRATION.md.
+ *
+ * All memory is the caller's. A stream is a struct whose words only these functions write; its send
+ * history is an array of 65 to 32768 words, which belongs to the stream from its start on; a payload
+ * that is being written is a struct and a buffer of bytes. Times are the caller's, in ms.
+ *
+ * A stream is started, and a payload or a reader opened, before any other function is given it. The
+ * functions of these structs are inline, and call the archive's own, which take arrays. Of a pointer
+ * and a length, the pointer is that of an array of at least that many elements, aligned for its type,
+ * and not NULL, even where the length is 0. Arrays of one call do not overlap, and no other thread uses
+ * them during the call. Nothing else is asked: every value is tested, and a call that is refused
+ * answers one of the numbers below. The settings are tested first, then the words of states, then what
+ * the call itself refuses. A refused call changes nothing, but for one kind of number 3 of
+ * sirmjold_write_data, where it is said.
  */
 #ifndef SIRMJOLD_H
 #define SIRMJOLD_H
@@ -33,43 +42,108 @@ extern "C" {
 #define SIRMJOLD_STREAM_WORDS 35
 #define SIRMJOLD_PAYLOAD_WORDS 2
 #define SIRMJOLD_WINDOW_WORDS 4
-#define SIRMJOLD_SETTINGS 8
+#define SIRMJOLD_SETTINGS_WORDS 8
 
-/* Why a call is refused. */
+/* ---- refusals */
+
+/* Why a call is refused. Refusals, and nothing else, have names that begin with SIRMJOLD_REFUSED_. */
 enum sirmjold_refusal {
     SIRMJOLD_OK = 0,
-    SIRMJOLD_BAD_SIGNATURE = 1,
-    SIRMJOLD_OVERFLOW = 2,         /* does not fit in what is left of the payload */
-    SIRMJOLD_TOO_LARGE = 3,        /* does not fit in an empty payload; a message of over SIZE words */
-    SIRMJOLD_INVALID_VALUE = 4,    /* a payload limit, or the words of a raw command */
-    SIRMJOLD_INVALID_UMP_DATA = 5, /* words that end inside a message, or too many */
-    SIRMJOLD_FULL = 6,             /* the send history has no room */
-    SIRMJOLD_IDLE_INTERVAL = 7,    /* T1 is not 1 to 300 */
-    SIRMJOLD_IDLE_GROWTH = 8,      /* G is 0 */
-    SIRMJOLD_COMMAND_WORDS = 9,    /* SIZE is not 1 to 64 */
-    SIRMJOLD_MALFORMED = 10,       /* a request or an error without its word */
-    SIRMJOLD_REASON_NOT_ALLOWED = 11,
-    SIRMJOLD_SIZE_NOT_ALLOWED = 12, /* of a window, a history, a request ring, a step budget or a loss sheet; a group above 15 */
-    SIRMJOLD_INVALID_STATE = 13,    /* words that no call has left, or arrays of a wrong length */
-    SIRMJOLD_INVALID_BLOCK = 16,    /* of a loss sheet: not whole records, or over 65536 bytes or the output */
-    SIRMJOLD_INVALID_RECORD = 17,   /* of a loss sheet: a class above 2, or a zero byte that is not zero */
-    SIRMJOLD_DIVISIONS_NOT_ALLOWED = 18 /* none, more than 8, or a turn that is not one of them */
+    SIRMJOLD_REFUSED_BAD_SIGNATURE = 1,
+    SIRMJOLD_REFUSED_OVERFLOW = 2,
+    SIRMJOLD_REFUSED_TOO_LARGE = 3,
+    SIRMJOLD_REFUSED_INVALID_VALUE = 4,
+    SIRMJOLD_REFUSED_INVALID_UMP_DATA = 5,
+    SIRMJOLD_REFUSED_FULL = 6,
+    SIRMJOLD_REFUSED_IDLE_INTERVAL = 7,
+    SIRMJOLD_REFUSED_IDLE_GROWTH = 8,
+    SIRMJOLD_REFUSED_COMMAND_WORDS = 9,
+    SIRMJOLD_REFUSED_MALFORMED = 10,
+    SIRMJOLD_REFUSED_REASON_NOT_ALLOWED = 11,
+    SIRMJOLD_REFUSED_SIZE_NOT_ALLOWED = 12,
+    SIRMJOLD_REFUSED_INVALID_STATE = 13, /* arrays of a wrong length, too */
+    SIRMJOLD_REFUSED_INVALID_BLOCK = 16,
+    SIRMJOLD_REFUSED_INVALID_RECORD = 17,
+    SIRMJOLD_REFUSED_DIVISIONS_NOT_ALLOWED = 18
 };
 
-/* The settings, by place: an array of SIRMJOLD_SETTINGS words. Each call that is given them tests them
- * before anything else: 13 for another length, then 9, 7 and 8, then 13 for K, R or M over 255 or X
- * over 1. */
-enum sirmjold_setting {
-    SIRMJOLD_T1 = 0,  /* ms from the last command with words to the first idle command, and between
-                       * the first 1 + R of these; 1 to 300 */
-    SIRMJOLD_G = 1,   /* each further idle interval is this many times the one before */
-    SIRMJOLD_K = 2,   /* how many further idle commands follow */
-    SIRMJOLD_R = 3,   /* how many written commands a payload repeats before new ones, if they fit */
-    SIRMJOLD_X = 4,   /* 1: Retransmit Requests are served and sent */
-    SIRMJOLD_D = 5,   /* ms before the first Retransmit Request */
-    SIRMJOLD_M = 6,   /* how many requests are made for a gap */
-    SIRMJOLD_SIZE = 7 /* the most words of one data command, 1 to 64 */
+/* What a refusal's number means. */
+static inline const char *sirmjold_refusal_text(uint8_t refusal)
+{
+    switch (refusal) {
+    case SIRMJOLD_OK:
+        return "not refused";
+    case SIRMJOLD_REFUSED_BAD_SIGNATURE:
+        return "the payload does not begin with the signature";
+    case SIRMJOLD_REFUSED_OVERFLOW:
+        return "the command does not fit in what is left of the payload";
+    case SIRMJOLD_REFUSED_TOO_LARGE:
+        return "the command does not fit in an empty payload, or a message has more words than a command may";
+    case SIRMJOLD_REFUSED_INVALID_VALUE:
+        return "the payload's limit is not 8 to 1400 bytes, or a raw command has more than 255 words";
+    case SIRMJOLD_REFUSED_INVALID_UMP_DATA:
+        return "the words end inside a message, or are too many";
+    case SIRMJOLD_REFUSED_FULL:
+        return "the send history has no room";
+    case SIRMJOLD_REFUSED_IDLE_INTERVAL:
+        return "the idle interval is not 1 to 300 ms";
+    case SIRMJOLD_REFUSED_IDLE_GROWTH:
+        return "the idle growth is 0";
+    case SIRMJOLD_REFUSED_COMMAND_WORDS:
+        return "the command size is not 1 to 64 words";
+    case SIRMJOLD_REFUSED_MALFORMED:
+        return "a Retransmit Request or Error has no word";
+    case SIRMJOLD_REFUSED_REASON_NOT_ALLOWED:
+        return "the reason is not defined";
+    case SIRMJOLD_REFUSED_SIZE_NOT_ALLOWED:
+        return "the size of a window, history, request ring, step budget or loss sheet is not taken, or the group is above 15";
+    case SIRMJOLD_REFUSED_INVALID_STATE:
+        return "no call has left this state";
+    case SIRMJOLD_REFUSED_INVALID_BLOCK:
+        return "the block is not whole records, or is longer than 65536 bytes or than its output";
+    case SIRMJOLD_REFUSED_INVALID_RECORD:
+        return "a record has a class above 2, or a zero byte that is not zero";
+    case SIRMJOLD_REFUSED_DIVISIONS_NOT_ALLOWED:
+        return "there are no divisions or more than 8, or the turn is not one of them";
+    default:
+        return "no refusal has this number";
+    }
+}
+
+/* ---- settings */
+
+/* Each call that uses them tests them before anything else: 9, 7 and 8, then 13 for K, R or M over 255
+ * or `retransmit` over 1. */
+struct sirmjold_settings {
+    uint32_t idle_interval_ms;  /* T1: ms from the last command with words to the first idle command, and
+                                 * between the first 1 + R of these; 1 to 300 */
+    uint32_t idle_growth;       /* G: each further idle interval is this many times the one before */
+    uint32_t idle_further;      /* K: how many further idle commands follow */
+    uint32_t fec_repeats;       /* R: how many written commands a payload repeats before new ones, if they fit */
+    uint32_t retransmit;        /* X, 1: Retransmit Requests are served and sent; 0: neither */
+    uint32_t request_delay_ms;  /* D: ms before the first Retransmit Request */
+    uint32_t max_requests;      /* M: how many requests are made for a gap */
+    uint32_t max_command_words; /* SIZE: the most words of one data command, 1 to 64 */
 };
+
+/* Initialises settings: the ones that are taken where nothing else is known. */
+#define SIRMJOLD_DEFAULTS {100, 2, 5, 2, 1, 10, 3, 64}
+
+/* The settings as the archive's functions take them: an array of SIRMJOLD_SETTINGS_WORDS words, in
+ * the order of the struct. */
+static inline void sirmjold_settings_words(const struct sirmjold_settings *settings, uint32_t *cfg)
+{
+    cfg[0] = settings->idle_interval_ms;
+    cfg[1] = settings->idle_growth;
+    cfg[2] = settings->idle_further;
+    cfg[3] = settings->fec_repeats;
+    cfg[4] = settings->retransmit;
+    cfg[5] = settings->request_delay_ms;
+    cfg[6] = settings->max_requests;
+    cfg[7] = settings->max_command_words;
+}
+
+/* ---- answers */
 
 /* In every answer that has one, `refusal` is 0 or a number of enum sirmjold_refusal, and then all else
  * is 0, but that a 10 of sirmjold_command_next gives `next` and `len` too. */
@@ -160,80 +234,11 @@ struct sirmjold_written {
     uint8_t more; /* the next command did not fit: send the payload, write again into a new one */
 };
 
-/* ---- a stream (archive libc_stream.a) */
+/* ---- the archive's functions of payloads and streams, over arrays: `s` has the words of a stream, `cfg`
+ * those of the settings, `ring` the history, `p` the words of a payload, whose first is its length, and
+ * `buf` its buffer. What each does stands at the inline function that calls it. */
 
-/* A fresh stream: a receive window of `window` numbers (1 to 128), a request ring of `places` places
- * (1 to 16), and the whole of `ring` as its history, which is zeroed. A start that is refused stores
- * nothing: a stream that runs on these words and this history goes on. */
-uint8_t sirmjold_stream_new(uint64_t *s, size_t s_len, const uint32_t *cfg, size_t cfg_len,
-                            uint32_t window, size_t places, uint32_t *ring, size_t ring_len);
-
-/* Back to the fresh stream of the same sizes; the history is zeroed. The peer has to be reset too, and
- * nothing written before may be heard after: a command with a number that was heard is a duplicate. */
-uint8_t sirmjold_stream_reset(uint64_t *s, size_t s_len, uint32_t *ring, size_t ring_len);
-
-/* Queues whole messages to send: 5, 3 and 6 for words that are not queued. */
-uint8_t sirmjold_stream_send_ump(uint64_t *s, size_t s_len, const uint32_t *cfg, size_t cfg_len,
-                                 uint32_t *ring, size_t ring_len, const uint32_t *words,
-                                 size_t words_len);
-
-/* A Retransmit Request arrives; a count of 0 asks for all from `seq` on. */
-struct sirmjold_outcome sirmjold_stream_on_retransmit_request(
-    uint64_t *s, size_t s_len, const uint32_t *cfg, size_t cfg_len, const uint32_t *ring,
-    size_t ring_len, uint16_t seq, uint16_t count);
-
-/* A data command arrives. */
-struct sirmjold_delivery sirmjold_stream_on_ump_data(uint64_t *s, size_t s_len, const uint32_t *cfg,
-                                                     size_t cfg_len, uint64_t time, uint16_t seq);
-
-/* A Retransmit Error arrives: what the unanswered request asked for and is missing is lost. The error's
- * own reason and number are handed back, and decide nothing. */
-struct sirmjold_event sirmjold_stream_on_retransmit_error(uint64_t *s, size_t s_len, uint8_t reason,
-                                                          uint16_t seq);
-
-/* A NAK to a Retransmit Request arrives: no requests until a reset. With one unanswered, all that is
- * missing is lost, and reported. What is missing otherwise, and every later gap, stays missing until
- * it arrives, or leaves the window and is reported then. */
-struct sirmjold_event sirmjold_stream_on_retransmit_nak(uint64_t *s, size_t s_len);
-
-/* Runs the receiver's timer: makes a request due, or gives up and reports what is missing. Numbers above
- * the highest heard are not missing: that the last ones were lost shows when something newer is heard. */
-struct sirmjold_event sirmjold_stream_poll(uint64_t *s, size_t s_len, const uint32_t *cfg,
-                                           size_t cfg_len, uint64_t time);
-
-/* Takes a due request into a payload, and writes nothing else. */
-struct sirmjold_request sirmjold_stream_write_request(uint64_t *s, size_t s_len, const uint32_t *cfg,
-                                                      size_t cfg_len, uint64_t *p, size_t p_len,
-                                                      uint8_t *buf, size_t buf_len);
-
-/* The earliest time at which `poll` or `write_data` has timed work. */
-struct sirmjold_deadline sirmjold_stream_next_deadline(const uint64_t *s, size_t s_len,
-                                                       const uint32_t *ring, size_t ring_len);
-
-/* Whether `write_data` at this time has something to write, or a due request to drop. */
-struct sirmjold_wants sirmjold_stream_wants_write(const uint64_t *s, size_t s_len,
-                                                  const uint32_t *ring, size_t ring_len,
-                                                  uint64_t time);
-
-/* Writes into a payload: a due request, then the sender's commands. 3 when the payload is empty and
- * the due request, or else the first unwritten command, does not fit. Where it is the request, nothing
- * is changed. Where it is the command, the payload's words and bytes stay, but a due idle command is
- * queued, waiting requests that fit no payload are gone, and so is a due request that is no longer
- * needed: the one refusal that changes something. */
-struct sirmjold_written sirmjold_stream_write_data(uint64_t *s, size_t s_len, const uint32_t *cfg,
-                                                   size_t cfg_len, uint64_t time, uint64_t *p,
-                                                   size_t p_len, uint8_t *buf, size_t buf_len,
-                                                   uint32_t *ring, size_t ring_len);
-
-/* ---- payloads (archive libc_codec.a). One that is being written: words `p`, whose first is the length, and
- * a buffer */
-
-/* An empty payload; 4 when the limit is not 8 to 1400 bytes. A shorter buffer lowers the limit. */
 uint8_t sirmjold_payload_new(uint64_t *p, size_t p_len, size_t max);
-
-/* Write one command after what the payload holds: 3 when it does not fit an empty payload, 2 when it
- * does not fit otherwise; 4 for over 255 words, 5 for words that are not whole messages or are over
- * 64, 11 for a reason that is not defined. */
 uint8_t sirmjold_payload_command(uint64_t *p, size_t p_len, uint8_t *buf, size_t buf_len,
                                  uint8_t code, uint8_t csd1, uint8_t csd2, const uint32_t *words,
                                  size_t words_len);
@@ -243,8 +248,92 @@ uint8_t sirmjold_retransmit_request_write(uint64_t *p, size_t p_len, uint8_t *bu
                                           uint16_t seq, uint16_t count);
 uint8_t sirmjold_retransmit_error_write(uint64_t *p, size_t p_len, uint8_t *buf, size_t buf_len,
                                         uint8_t reason, uint16_t seq);
+uint8_t sirmjold_stream_new(uint64_t *s, size_t s_len, const uint32_t *cfg, size_t cfg_len,
+                            uint32_t window, size_t places, uint32_t *ring, size_t ring_len);
+uint8_t sirmjold_stream_reset(uint64_t *s, size_t s_len, uint32_t *ring, size_t ring_len);
+uint8_t sirmjold_stream_send_ump(uint64_t *s, size_t s_len, const uint32_t *cfg, size_t cfg_len,
+                                 uint32_t *ring, size_t ring_len, const uint32_t *words,
+                                 size_t words_len);
+struct sirmjold_outcome sirmjold_stream_on_retransmit_request(
+    uint64_t *s, size_t s_len, const uint32_t *cfg, size_t cfg_len, const uint32_t *ring,
+    size_t ring_len, uint16_t seq, uint16_t count);
+struct sirmjold_delivery sirmjold_stream_on_ump_data(uint64_t *s, size_t s_len, const uint32_t *cfg,
+                                                     size_t cfg_len, uint64_t time, uint16_t seq);
+struct sirmjold_event sirmjold_stream_on_retransmit_error(uint64_t *s, size_t s_len, uint8_t reason,
+                                                          uint16_t seq);
+struct sirmjold_event sirmjold_stream_on_retransmit_nak(uint64_t *s, size_t s_len);
+struct sirmjold_event sirmjold_stream_poll(uint64_t *s, size_t s_len, const uint32_t *cfg,
+                                           size_t cfg_len, uint64_t time);
+struct sirmjold_request sirmjold_stream_write_request(uint64_t *s, size_t s_len, const uint32_t *cfg,
+                                                      size_t cfg_len, uint64_t *p, size_t p_len,
+                                                      uint8_t *buf, size_t buf_len);
+struct sirmjold_deadline sirmjold_stream_next_deadline(const uint64_t *s, size_t s_len,
+                                                       const uint32_t *ring, size_t ring_len);
+struct sirmjold_wants sirmjold_stream_wants_write(const uint64_t *s, size_t s_len,
+                                                  const uint32_t *ring, size_t ring_len,
+                                                  uint64_t time);
+struct sirmjold_written sirmjold_stream_write_data(uint64_t *s, size_t s_len, const uint32_t *cfg,
+                                                   size_t cfg_len, uint64_t time, uint64_t *p,
+                                                   size_t p_len, uint8_t *buf, size_t buf_len,
+                                                   uint32_t *ring, size_t ring_len);
 
-/* One that was received: its bytes. */
+/* ---- a payload that is being written */
+
+struct sirmjold_payload {
+    uint64_t words[SIRMJOLD_PAYLOAD_WORDS]; /* these functions' own */
+    uint8_t *buf;
+    size_t buf_len;
+};
+
+/* An empty payload in the first `max` bytes of `buf`; 4 when these are not 8 to 1400. */
+static inline uint8_t sirmjold_payload_open(struct sirmjold_payload *payload, uint8_t *buf, size_t max)
+{
+    uint8_t refusal = sirmjold_payload_new(payload->words, SIRMJOLD_PAYLOAD_WORDS, max);
+    if (refusal == SIRMJOLD_OK) {
+        payload->buf = buf;
+        payload->buf_len = max;
+    }
+    return refusal;
+}
+
+/* How many bytes of the buffer are to be sent: 0, or those of the signature and all commands. */
+static inline size_t sirmjold_payload_length(const struct sirmjold_payload *payload)
+{
+    return payload->words[0];
+}
+
+/* Write one command after what the payload holds: 3 when it does not fit an empty payload, 2 when it
+ * does not fit otherwise; 4 for over 255 words, 5 for words that are not whole messages or are over
+ * 64, 11 for a reason that is not defined. */
+static inline uint8_t sirmjold_put_command(struct sirmjold_payload *payload, uint8_t code, uint8_t csd1,
+                                           uint8_t csd2, const uint32_t *words, size_t words_len)
+{
+    return sirmjold_payload_command(payload->words, SIRMJOLD_PAYLOAD_WORDS, payload->buf, payload->buf_len,
+                                    code, csd1, csd2, words, words_len);
+}
+
+static inline uint8_t sirmjold_put_ump_data(struct sirmjold_payload *payload, uint16_t seq,
+                                            const uint32_t *words, size_t words_len)
+{
+    return sirmjold_ump_data_write(payload->words, SIRMJOLD_PAYLOAD_WORDS, payload->buf, payload->buf_len,
+                                   seq, words, words_len);
+}
+
+static inline uint8_t sirmjold_put_retransmit_request(struct sirmjold_payload *payload, uint16_t seq,
+                                                      uint16_t count)
+{
+    return sirmjold_retransmit_request_write(payload->words, SIRMJOLD_PAYLOAD_WORDS, payload->buf,
+                                             payload->buf_len, seq, count);
+}
+
+static inline uint8_t sirmjold_put_retransmit_error(struct sirmjold_payload *payload, uint8_t reason,
+                                                    uint16_t seq)
+{
+    return sirmjold_retransmit_error_write(payload->words, SIRMJOLD_PAYLOAD_WORDS, payload->buf,
+                                           payload->buf_len, reason, seq);
+}
+
+/* ---- a payload that was received */
 
 /* What sirmjold_command_next finds. */
 enum sirmjold_read_kind {
@@ -279,7 +368,169 @@ struct sirmjold_read sirmjold_command_next(const uint8_t *payload, size_t payloa
                                            uint32_t *words, size_t words_len, uint8_t *lens,
                                            size_t lens_len);
 
-/* ---- a receive window alone (archive libc_window.a): words `w`. Of a delivery, `skipped` alone tells the gap. */
+/* A payload and the command that was last read of it. */
+struct sirmjold_reader {
+    const uint8_t *payload;
+    size_t payload_len;
+    size_t at;            /* the place of the next command */
+    const uint8_t *body;  /* the bytes of the command's words, in the payload */
+    size_t body_len;
+    uint32_t words[SIRMJOLD_COMMAND_WORDS_MAX];
+    uint8_t lens[SIRMJOLD_COMMAND_WORDS_MAX];
+};
+
+/* Before the first command. The payload stays as it is while it is read. */
+static inline void sirmjold_reader_open(struct sirmjold_reader *reader, const uint8_t *payload,
+                                        size_t payload_len)
+{
+    reader->payload = payload;
+    reader->payload_len = payload_len;
+    reader->at = 0;
+    reader->body = payload;
+    reader->body_len = 0;
+}
+
+/* The next command, by sirmjold_command_next; `next` is 0 where reading has ended. */
+static inline struct sirmjold_read sirmjold_reader_next(struct sirmjold_reader *reader)
+{
+    struct sirmjold_read found =
+        sirmjold_command_next(reader->payload, reader->payload_len, reader->at, reader->words,
+                              SIRMJOLD_COMMAND_WORDS_MAX, reader->lens, SIRMJOLD_COMMAND_WORDS_MAX);
+    reader->at = found.next != 0 ? found.next : reader->payload_len;
+    reader->body_len = found.next != 0 ? sizeof *reader->words * found.len : 0;
+    reader->body = reader->payload + (reader->at - reader->body_len);
+    return found;
+}
+
+/* ---- a stream */
+
+struct sirmjold_stream {
+    uint64_t words[SIRMJOLD_STREAM_WORDS];      /* these functions' own, and so is all of the history */
+    uint32_t settings[SIRMJOLD_SETTINGS_WORDS]; /* by sirmjold_settings_words */
+    uint32_t *history;
+    size_t history_len;
+};
+
+/* A fresh stream: a receive window of `window` numbers (1 to 128), a request ring of `places` places
+ * (1 to 16), and the whole of `history` lent, which is zeroed; else 12. A start that is refused stores
+ * nothing: a stream that runs goes on. */
+static inline uint8_t sirmjold_start(struct sirmjold_stream *stream, const struct sirmjold_settings *settings,
+                                     uint32_t window, size_t places, uint32_t *history, size_t history_len)
+{
+    uint32_t cfg[SIRMJOLD_SETTINGS_WORDS];
+    uint8_t refusal;
+    sirmjold_settings_words(settings, cfg);
+    refusal = sirmjold_stream_new(stream->words, SIRMJOLD_STREAM_WORDS, cfg, SIRMJOLD_SETTINGS_WORDS, window,
+                                  places, history, history_len);
+    if (refusal == SIRMJOLD_OK) {
+        sirmjold_settings_words(settings, stream->settings);
+        stream->history = history;
+        stream->history_len = history_len;
+    }
+    return refusal;
+}
+
+/* Other settings from the next call on, which tests them. */
+static inline void sirmjold_change_settings(struct sirmjold_stream *stream,
+                                            const struct sirmjold_settings *settings)
+{
+    sirmjold_settings_words(settings, stream->settings);
+}
+
+/* Back to the fresh stream of the same sizes; the history is zeroed. The peer has to be reset too, and
+ * nothing written before may be heard after: a command with a number that was heard is a duplicate. */
+static inline uint8_t sirmjold_reset(struct sirmjold_stream *stream)
+{
+    return sirmjold_stream_reset(stream->words, SIRMJOLD_STREAM_WORDS, stream->history, stream->history_len);
+}
+
+/* Queues whole messages to send: 5, 3 and 6 for words that are not queued. */
+static inline uint8_t sirmjold_send_ump(struct sirmjold_stream *stream, const uint32_t *words,
+                                        size_t words_len)
+{
+    return sirmjold_stream_send_ump(stream->words, SIRMJOLD_STREAM_WORDS, stream->settings,
+                                    SIRMJOLD_SETTINGS_WORDS, stream->history, stream->history_len, words,
+                                    words_len);
+}
+
+/* A Retransmit Request arrives; a count of 0 asks for all from `seq` on. */
+static inline struct sirmjold_outcome sirmjold_on_retransmit_request(struct sirmjold_stream *stream,
+                                                                     uint16_t seq, uint16_t count)
+{
+    return sirmjold_stream_on_retransmit_request(stream->words, SIRMJOLD_STREAM_WORDS, stream->settings,
+                                                 SIRMJOLD_SETTINGS_WORDS, stream->history,
+                                                 stream->history_len, seq, count);
+}
+
+/* A data command arrives. */
+static inline struct sirmjold_delivery sirmjold_on_ump_data(struct sirmjold_stream *stream, uint64_t time,
+                                                            uint16_t seq)
+{
+    return sirmjold_stream_on_ump_data(stream->words, SIRMJOLD_STREAM_WORDS, stream->settings,
+                                       SIRMJOLD_SETTINGS_WORDS, time, seq);
+}
+
+/* A Retransmit Error arrives: what the unanswered request asked for and is missing is lost. The error's
+ * own reason and number are handed back, and decide nothing. */
+static inline struct sirmjold_event sirmjold_on_retransmit_error(struct sirmjold_stream *stream,
+                                                                 uint8_t reason, uint16_t seq)
+{
+    return sirmjold_stream_on_retransmit_error(stream->words, SIRMJOLD_STREAM_WORDS, reason, seq);
+}
+
+/* A NAK to a Retransmit Request arrives: no requests until a reset. With one unanswered, all that is
+ * missing is lost, and reported. What is missing otherwise, and every later gap, stays missing until
+ * it arrives, or leaves the window and is reported then. */
+static inline struct sirmjold_event sirmjold_on_retransmit_nak(struct sirmjold_stream *stream)
+{
+    return sirmjold_stream_on_retransmit_nak(stream->words, SIRMJOLD_STREAM_WORDS);
+}
+
+/* Runs the receiver's timer: makes a request due, or gives up and reports what is missing. Numbers above
+ * the highest heard are not missing: that the last ones were lost shows when something newer is heard. */
+static inline struct sirmjold_event sirmjold_poll(struct sirmjold_stream *stream, uint64_t time)
+{
+    return sirmjold_stream_poll(stream->words, SIRMJOLD_STREAM_WORDS, stream->settings,
+                                SIRMJOLD_SETTINGS_WORDS, time);
+}
+
+/* Takes a due request into a payload, and writes nothing else. */
+static inline struct sirmjold_request sirmjold_write_request(struct sirmjold_stream *stream,
+                                                             struct sirmjold_payload *payload)
+{
+    return sirmjold_stream_write_request(stream->words, SIRMJOLD_STREAM_WORDS, stream->settings,
+                                         SIRMJOLD_SETTINGS_WORDS, payload->words, SIRMJOLD_PAYLOAD_WORDS,
+                                         payload->buf, payload->buf_len);
+}
+
+/* The earliest time at which `poll` or `write_data` has timed work. */
+static inline struct sirmjold_deadline sirmjold_next_deadline(const struct sirmjold_stream *stream)
+{
+    return sirmjold_stream_next_deadline(stream->words, SIRMJOLD_STREAM_WORDS, stream->history,
+                                         stream->history_len);
+}
+
+/* Whether `write_data` at this time has something to write, or a due request to drop. */
+static inline struct sirmjold_wants sirmjold_wants_write(const struct sirmjold_stream *stream, uint64_t time)
+{
+    return sirmjold_stream_wants_write(stream->words, SIRMJOLD_STREAM_WORDS, stream->history,
+                                       stream->history_len, time);
+}
+
+/* Writes into a payload: a due request, then the sender's commands. 3 when the payload is empty and
+ * the due request, or else the first unwritten command, does not fit. Where it is the request, nothing
+ * is changed. Where it is the command, the payload's words and bytes stay, but a due idle command is
+ * queued, waiting requests that fit no payload are gone, and so is a due request that is no longer
+ * needed: the one refusal that changes something. */
+static inline struct sirmjold_written sirmjold_write_data(struct sirmjold_stream *stream, uint64_t time,
+                                                          struct sirmjold_payload *payload)
+{
+    return sirmjold_stream_write_data(stream->words, SIRMJOLD_STREAM_WORDS, stream->settings,
+                                      SIRMJOLD_SETTINGS_WORDS, time, payload->words, SIRMJOLD_PAYLOAD_WORDS,
+                                      payload->buf, payload->buf_len, stream->history, stream->history_len);
+}
+
+/* ---- a receive window alone: words `w`. Of a delivery, `skipped` alone tells the gap. */
 
 /* A window of 1 to 128 numbers; `highest` and all before it are processed. A fresh window has the
  * highest 65535. 12 for another size. */
@@ -300,7 +551,7 @@ struct sirmjold_jumped {
     uint32_t rounds; /* that it took: as many as `n` has binary digits, 0 to 16 */
 };
 
-/* Words for sirmjold_stream_send_ump: the first `count`, 0 to 8; where `count` is 0, the value is idle. */
+/* Words for sirmjold_send_ump: the first `count`, 0 to 8; where `count` is 0, the value is idle. */
 struct sirmjold_asked {
     uint32_t words[8];
     size_t count;
@@ -338,6 +589,18 @@ struct sirmjold_report sirmjold_link_run(const uint32_t *cfg, size_t cfg_len, ui
                                          uint32_t seed, uint32_t drop, uint16_t figure, uint32_t budget,
                                          uint32_t *ring, size_t ring_len, uint32_t *other, size_t other_len);
 
+/* The same with a struct of settings, and two histories of `ring_len` words. */
+static inline struct sirmjold_report sirmjold_link_try(const struct sirmjold_settings *settings, uint32_t window,
+                                                       size_t places, uint32_t seed, uint32_t drop,
+                                                       uint16_t figure, uint32_t budget, uint32_t *ring,
+                                                       uint32_t *other, size_t ring_len)
+{
+    uint32_t cfg[SIRMJOLD_SETTINGS_WORDS];
+    sirmjold_settings_words(settings, cfg);
+    return sirmjold_link_run(cfg, SIRMJOLD_SETTINGS_WORDS, window, places, seed, drop, figure, budget, ring,
+                             ring_len, other, ring_len);
+}
+
 /* ---- held notes: which notes of one group a chamber sounds, by the rule above. A state is a value that
  * only these functions make: give each call what the last one left. 12 in any call when the group is above
  * 15; then nothing is changed and no note given. */
@@ -368,6 +631,15 @@ struct sirmjold_given sirmjold_held_start(uint8_t group);
  * command changes nothing, and a class that is neither 0 nor 1 is a duplicate's. */
 struct sirmjold_given sirmjold_held_delivered(struct sirmjold_held state, uint8_t refusal, uint8_t class_,
                                               uint16_t lost, const uint8_t *body, size_t body_len);
+
+/* The same of the command that was last read. */
+static inline struct sirmjold_given sirmjold_held_heard(struct sirmjold_held state,
+                                                        struct sirmjold_delivery delivery,
+                                                        const struct sirmjold_reader *reader)
+{
+    return sirmjold_held_delivered(state, delivery.refusal, delivery.class_, delivery.lost_count, reader->body,
+                                   reader->body_len);
+}
 
 /* A poll, a Retransmit Error or a NAK was answered with an event of this kind. */
 struct sirmjold_given sirmjold_held_told(struct sirmjold_held state, uint8_t kind);

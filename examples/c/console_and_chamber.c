@@ -25,13 +25,10 @@
 #define LIMIT 1400
 #define FLIGHT 64 /* payloads on the way at once */
 
-static const uint32_t cfg[SIRMJOLD_SETTINGS] = {
-    [SIRMJOLD_T1] = 100, [SIRMJOLD_G] = 2,  [SIRMJOLD_K] = 5, [SIRMJOLD_R] = 2,
-    [SIRMJOLD_X] = 1,    [SIRMJOLD_D] = 10, [SIRMJOLD_M] = 3, [SIRMJOLD_SIZE] = 64,
-};
+static const struct sirmjold_settings settings = SIRMJOLD_DEFAULTS;
 
 struct end {
-    uint64_t words[SIRMJOLD_STREAM_WORDS];
+    struct sirmjold_stream stream;
     uint32_t ring[RING];
 };
 
@@ -122,10 +119,10 @@ static void report(uint16_t first, uint16_t count)
 }
 
 /* The chamber hands on the messages of a data command. */
-static void hand_on(const uint32_t *words, const uint8_t *lens, size_t count, uint16_t seq, int late)
+static void hand_on(const struct sirmjold_reader *r, size_t count, uint16_t seq, int late)
 {
-    for (size_t at = 0, k = 0; at < count; at += lens[k++]) {
-        if (seq >= CHANGES || words[at] != change(seq))
+    for (size_t at = 0, k = 0; at < count; at += r->lens[k++]) {
+        if (seq >= CHANGES || r->words[at] != change(seq))
             fail("a change in another command than its own", seq);
         handed[seq]++;
         if (seq % 2 == 0)
@@ -135,56 +132,45 @@ static void hand_on(const uint32_t *words, const uint8_t *lens, size_t count, ui
 
 static void error_back(uint64_t now, uint8_t reason, uint16_t seq)
 {
-    uint64_t p[SIRMJOLD_PAYLOAD_WORDS];
+    struct sirmjold_payload p;
     uint8_t buf[LIMIT];
-    if (sirmjold_payload_new(p, SIRMJOLD_PAYLOAD_WORDS, LIMIT) ||
-        sirmjold_retransmit_error_write(p, SIRMJOLD_PAYLOAD_WORDS, buf, sizeof buf, reason, seq))
+    if (sirmjold_payload_open(&p, buf, sizeof buf) || sirmjold_put_retransmit_error(&p, reason, seq))
         fail("writing an error", seq);
-    put(1, now, buf, (size_t)p[0]);
+    put(1, now, buf, sirmjold_payload_length(&p));
 }
 
 static void arrive(struct flying *f, uint64_t now)
 {
-    struct end *e = f->to_chamber ? &chamber : &console;
-    uint32_t words[SIRMJOLD_COMMAND_WORDS_MAX];
-    uint8_t lens[SIRMJOLD_COMMAND_WORDS_MAX];
-    size_t at = 0;
+    struct sirmjold_stream *s = f->to_chamber ? &chamber.stream : &console.stream;
+    struct sirmjold_reader reader;
+    sirmjold_reader_open(&reader, f->bytes, f->len);
     for (;;) {
-        struct sirmjold_read c =
-            sirmjold_command_next(f->bytes, f->len, at, words, SIRMJOLD_COMMAND_WORDS_MAX, lens,
-                                  SIRMJOLD_COMMAND_WORDS_MAX);
+        struct sirmjold_read c = sirmjold_reader_next(&reader);
         if (c.refusal)
             fail("a payload that cannot be read", c.refusal);
         if (c.next == 0)
             return;
         if (c.kind == SIRMJOLD_READ_UMP_DATA) {
-            struct sirmjold_delivery d = sirmjold_stream_on_ump_data(
-                e->words, SIRMJOLD_STREAM_WORDS, cfg, SIRMJOLD_SETTINGS, now, c.seq);
+            struct sirmjold_delivery d = sirmjold_on_ump_data(s, now, c.seq);
             if (d.refusal)
                 fail("on_ump_data", d.refusal);
-            size_t len = 4 * (size_t)c.len;
-            keep(sirmjold_held_delivered(held, d.refusal, d.class_, d.lost_count,
-                                         f->bytes + c.next - len, len));
+            keep(sirmjold_held_heard(held, d, &reader));
             report(d.lost_first, d.lost_count);
             if (d.class_ != SIRMJOLD_DUPLICATE)
-                hand_on(words, lens, c.count, c.seq, d.class_ == SIRMJOLD_LATE);
+                hand_on(&reader, c.count, c.seq, d.class_ == SIRMJOLD_LATE);
         } else if (c.kind == SIRMJOLD_READ_REQUEST) {
-            struct sirmjold_outcome o = sirmjold_stream_on_retransmit_request(
-                e->words, SIRMJOLD_STREAM_WORDS, cfg, SIRMJOLD_SETTINGS, e->ring, RING, c.seq,
-                c.count);
+            struct sirmjold_outcome o = sirmjold_on_retransmit_request(s, c.seq, c.count);
             if (o.refusal)
                 fail("on_retransmit_request", o.refusal);
             if (o.kind == SIRMJOLD_ERROR)
                 error_back(now, o.reason, o.seq);
         } else if (c.kind == SIRMJOLD_READ_ERROR) {
-            struct sirmjold_event v = sirmjold_stream_on_retransmit_error(
-                e->words, SIRMJOLD_STREAM_WORDS, c.code, c.seq);
+            struct sirmjold_event v = sirmjold_on_retransmit_error(s, c.code, c.seq);
             if (v.refusal)
                 fail("on_retransmit_error", v.refusal);
             keep(sirmjold_held_told(held, v.kind));
             report(v.first, v.count);
         }
-        at = (size_t)c.next;
     }
 }
 
@@ -192,19 +178,17 @@ static void arrive(struct flying *f, uint64_t now)
 static void flush(struct end *e, int to_chamber, uint64_t now)
 {
     for (;;) {
-        uint64_t p[SIRMJOLD_PAYLOAD_WORDS];
+        struct sirmjold_payload p;
         uint8_t buf[LIMIT];
-        if (!sirmjold_stream_wants_write(e->words, SIRMJOLD_STREAM_WORDS, e->ring, RING, now).wants)
+        if (!sirmjold_wants_write(&e->stream, now).wants)
             return;
-        if (sirmjold_payload_new(p, SIRMJOLD_PAYLOAD_WORDS, LIMIT))
-            fail("payload_new", 0);
-        struct sirmjold_written w =
-            sirmjold_stream_write_data(e->words, SIRMJOLD_STREAM_WORDS, cfg, SIRMJOLD_SETTINGS, now,
-                                       p, SIRMJOLD_PAYLOAD_WORDS, buf, sizeof buf, e->ring, RING);
+        if (sirmjold_payload_open(&p, buf, sizeof buf))
+            fail("payload_open", 0);
+        struct sirmjold_written w = sirmjold_write_data(&e->stream, now, &p);
         if (w.refusal)
             fail("write_data", w.refusal);
         if (w.commands)
-            put(to_chamber, now, buf, (size_t)p[0]);
+            put(to_chamber, now, buf, sirmjold_payload_length(&p));
         if (!w.more)
             return;
     }
@@ -212,45 +196,41 @@ static void flush(struct end *e, int to_chamber, uint64_t now)
 
 static void start(struct end *e)
 {
-    uint8_t n = sirmjold_stream_new(e->words, SIRMJOLD_STREAM_WORDS, cfg, SIRMJOLD_SETTINGS, WINDOW,
-                                    PLACES, e->ring, RING);
+    uint8_t n = sirmjold_start(&e->stream, &settings, WINDOW, PLACES, e->ring, RING);
     if (n)
-        fail("stream_new", n);
+        fail(sirmjold_refusal_text(n), n);
 }
 
 /* Words that no call has left are refused, and nothing is changed. */
 static void refusals(void)
 {
     struct end e = console;
-    uint32_t wide[SIRMJOLD_SETTINGS];
+    struct sirmjold_settings other = settings;
     uint32_t word = 0x20000000u;
-    memcpy(wide, cfg, sizeof wide);
-    wide[SIRMJOLD_K] = 256;
-    if (sirmjold_stream_send_ump(e.words, SIRMJOLD_STREAM_WORDS, wide, SIRMJOLD_SETTINGS, e.ring, RING,
-                                 &word, 1) != SIRMJOLD_INVALID_STATE)
+    e.stream.history = e.ring;
+    struct end before = e;
+    other.idle_further = 256;
+    sirmjold_change_settings(&e.stream, &other);
+    if (sirmjold_send_ump(&e.stream, &word, 1) != SIRMJOLD_REFUSED_INVALID_STATE)
         fail("settings that do not fit", 256);
-    wide[SIRMJOLD_K] = 5;
-    wide[SIRMJOLD_SIZE] = 65;
-    if (sirmjold_stream_send_ump(e.words, SIRMJOLD_STREAM_WORDS, wide, SIRMJOLD_SETTINGS, e.ring, RING,
-                                 &word, 1) != SIRMJOLD_COMMAND_WORDS)
+    other.idle_further = 5;
+    other.max_command_words = 65;
+    sirmjold_change_settings(&e.stream, &other);
+    if (sirmjold_send_ump(&e.stream, &word, 1) != SIRMJOLD_REFUSED_COMMAND_WORDS)
         fail("a command size that is not taken", 65);
-    if (sirmjold_stream_reset(e.words, SIRMJOLD_STREAM_WORDS - 1, e.ring, RING) !=
-        SIRMJOLD_INVALID_STATE)
+    sirmjold_change_settings(&e.stream, &settings);
+    if (sirmjold_stream_reset(e.stream.words, SIRMJOLD_STREAM_WORDS - 1, e.ring, RING) != SIRMJOLD_REFUSED_INVALID_STATE)
         fail("a state that is too short", SIRMJOLD_STREAM_WORDS - 1);
-    if (memcmp(&e, &console, sizeof e))
+    if (memcmp(&e, &before, sizeof e))
         fail("a refused call changed something", 0);
     for (size_t k = 0; k < SIRMJOLD_STREAM_WORDS; k++) {
-        uint64_t was = e.words[k];
-        e.words[k] = UINT64_MAX;
-        uint8_t n = sirmjold_stream_send_ump(e.words, SIRMJOLD_STREAM_WORDS, cfg, SIRMJOLD_SETTINGS,
-                                             e.ring, RING, &word, 1);
-        if (n && n != SIRMJOLD_INVALID_STATE)
+        e.stream.words[k] = UINT64_MAX;
+        uint8_t n = sirmjold_send_ump(&e.stream, &word, 1);
+        if (n && n != SIRMJOLD_REFUSED_INVALID_STATE)
             fail("a broken state is refused by another number", n);
-        if (n && e.words[k] != UINT64_MAX)
+        if (n && e.stream.words[k] != UINT64_MAX)
             fail("a refused call changed a word", (unsigned)k);
-        e = console;
-        if (e.words[k] != was)
-            fail("the console's words are its own", (unsigned)k);
+        e = before;
     }
 }
 
@@ -269,13 +249,11 @@ int main(int argc, char **argv)
         if (played < CHANGES && now % 5 == 0) {
             uint32_t word = change(played);
             /* each change is written before the next is played: its command has its number */
-            if (sirmjold_stream_send_ump(console.words, SIRMJOLD_STREAM_WORDS, cfg,
-                                         SIRMJOLD_SETTINGS, console.ring, RING, &word, 1))
+            if (sirmjold_send_ump(&console.stream, &word, 1))
                 fail("send_ump", played);
             played++;
         }
-        struct sirmjold_event v = sirmjold_stream_poll(chamber.words, SIRMJOLD_STREAM_WORDS, cfg,
-                                                       SIRMJOLD_SETTINGS, now);
+        struct sirmjold_event v = sirmjold_poll(&chamber.stream, now);
         if (v.refusal)
             fail("poll", v.refusal);
         keep(sirmjold_held_told(held, v.kind));

@@ -16,21 +16,9 @@
 #define KEYS 24
 #define RING 4096
 #define LIMIT 1400
-#define MOST SIRMJOLD_COMMAND_WORDS_MAX
-#define STREAM(e) (e).words, SIRMJOLD_STREAM_WORDS
 
-/* Neither repeats nor requests. */
-static const uint32_t cfg[SIRMJOLD_SETTINGS] = {
-    [SIRMJOLD_T1] = 100, [SIRMJOLD_G] = 2,  [SIRMJOLD_K] = 5, [SIRMJOLD_R] = 0,
-    [SIRMJOLD_X] = 0,    [SIRMJOLD_D] = 10, [SIRMJOLD_M] = 3, [SIRMJOLD_SIZE] = 64,
-};
-
-struct end {
-    uint64_t words[SIRMJOLD_STREAM_WORDS];
-    uint32_t ring[RING];
-};
-
-static struct end console, chamber;
+static struct sirmjold_stream console, chamber;
+static uint32_t console_ring[RING], chamber_ring[RING];
 static uint32_t random_state;
 static uint8_t down[KEYS], naive[128];
 static struct sirmjold_held held;
@@ -58,9 +46,12 @@ static uint32_t draw(uint32_t below)
     return random_state % below;
 }
 
-static void start(struct end *e)
+/* Neither repeats nor requests. */
+static void start(struct sirmjold_stream *s, uint32_t *ring)
 {
-    check(sirmjold_stream_new(STREAM(*e), cfg, SIRMJOLD_SETTINGS, 64, 4, e->ring, RING) == 0, "a fresh stream");
+    struct sirmjold_settings settings = SIRMJOLD_DEFAULTS;
+    settings.fec_repeats = settings.retransmit = 0;
+    check(sirmjold_start(s, &settings, 64, 4, ring, RING) == 0, "a fresh stream");
 }
 
 /* A key goes down or up. */
@@ -68,20 +59,19 @@ static void change(unsigned key)
 {
     uint32_t word = (down[key] ? 0x20800000u : 0x20900040u) | (36 + key) << 8;
     down[key] = !down[key];
-    check(sirmjold_stream_send_ump(STREAM(console), cfg, SIRMJOLD_SETTINGS, console.ring, RING, &word, 1) == 0, "a change is queued");
+    check(sirmjold_send_ump(&console, &word, 1) == 0, "a change is queued");
 }
 
 /* What is written is on its way for 1 to JITTER ms. */
 static void write_payload(uint64_t now)
 {
-    uint64_t p[SIRMJOLD_PAYLOAD_WORDS];
+    struct sirmjold_payload p;
     uint64_t due = now + 1 + draw(JITTER);
     unsigned at = flying[due];
-    check(sirmjold_payload_new(p, SIRMJOLD_PAYLOAD_WORDS, LIMIT) == 0, "a payload");
-    check(sirmjold_stream_write_data(STREAM(console), cfg, SIRMJOLD_SETTINGS, now, p, SIRMJOLD_PAYLOAD_WORDS, line[due][at].bytes, LIMIT,
-                                     console.ring, RING).refusal == 0, "a write");
-    line[due][at].len = (size_t)p[0];
-    flying[due] += p[0] != 0;
+    check(sirmjold_payload_open(&p, line[due][at].bytes, LIMIT) == 0, "a payload");
+    check(sirmjold_write_data(&console, now, &p).refusal == 0, "a write");
+    line[due][at].len = sirmjold_payload_length(&p);
+    flying[due] += line[due][at].len != 0;
 }
 
 /* The chamber that does what each message says. */
@@ -93,22 +83,21 @@ static void do_as_said(const uint32_t *words, unsigned count)
 
 static void hear(uint64_t now, const uint8_t *payload, size_t len)
 {
-    uint32_t words[MOST];
-    uint8_t lens[MOST];
-    for (size_t at = 0; at < len;) {
-        struct sirmjold_read r = sirmjold_command_next(payload, len, at, words, MOST, lens, MOST);
+    struct sirmjold_reader reader;
+    struct sirmjold_read r;
+    sirmjold_reader_open(&reader, payload, len);
+    while ((r = sirmjold_reader_next(&reader)).next != 0) {
         check(r.refusal == 0 && r.kind == SIRMJOLD_READ_UMP_DATA, "a data command");
-        struct sirmjold_delivery d = sirmjold_stream_on_ump_data(STREAM(chamber), cfg, SIRMJOLD_SETTINGS, now, r.seq);
-        size_t bytes = 4 * (size_t)r.len;
-        struct sirmjold_given g = sirmjold_held_delivered(held, d.refusal, d.class_, d.lost_count, payload + r.next - bytes, bytes);
+        struct sirmjold_delivery d = sirmjold_on_ump_data(&chamber, now, r.seq);
+        struct sirmjold_given g = sirmjold_held_heard(held, d, &reader);
         check(d.refusal == 0 && g.refusal == 0, "a delivery");
         held = g.state;
         if (d.class_ != SIRMJOLD_DUPLICATE)
-            do_as_said(words, r.count);
+            do_as_said(reader.words, r.count);
         late += d.class_ == SIRMJOLD_LATE;
         losses += d.lost_count != 0;
-        at = (size_t)r.next;
     }
+    check(r.refusal == 0 && r.kind == SIRMJOLD_READ_END, "a payload that is read to its end");
 }
 
 static void perform(uint32_t seed)
@@ -117,8 +106,8 @@ static void perform(uint32_t seed)
     memset(down, 0, sizeof down);
     memset(naive, 0, sizeof naive);
     memset(flying, 0, sizeof flying);
-    start(&console);
-    start(&chamber);
+    start(&console, console_ring);
+    start(&chamber, chamber_ring);
     held = sirmjold_held_start(0).state;
     for (uint64_t now = 0; now <= ENDS + JITTER; now++) {
         if (now < PLAYED && draw(20) == 0)
@@ -145,7 +134,7 @@ int main(void)
         naive_performances += pipes != 0;
         held_pipes += (unsigned)sirmjold_held_restarted(held).notes.count;
     }
-    check(sirmjold_held_start(16).refusal == SIRMJOLD_SIZE_NOT_ALLOWED, "a group above 15 is refused");
+    check(sirmjold_held_start(16).refusal == SIRMJOLD_REFUSED_SIZE_NOT_ALLOWED, "a group above 15 is refused");
     printf("%d performances, %u late commands, %u losses: a chamber that does as it is told leaves %u pipes sounding on, in %u of them; "
            "with held notes %u\n",
            PERFORMANCES, late, losses, naive_pipes, naive_performances, held_pipes);

@@ -14,22 +14,14 @@
 #define WINDOW 64
 #define PLACES 4
 #define LIMIT 1400
-#define MOST SIRMJOLD_COMMAND_WORDS_MAX
-#define STREAM(e) (e)->words, SIRMJOLD_STREAM_WORDS
-#define CFG(l) (l)->cfg, SIRMJOLD_SETTINGS
 
 struct end {
-    uint64_t words[SIRMJOLD_STREAM_WORDS];
+    struct sirmjold_stream stream;
     uint32_t ring[RING];
 };
 
-struct payload {
-    uint64_t words[SIRMJOLD_PAYLOAD_WORDS];
-    uint8_t buf[LIMIT];
-};
-
 struct link {
-    uint32_t cfg[SIRMJOLD_SETTINGS];
+    struct sirmjold_settings settings;
     struct end console, chamber;
     struct sirmjold_outcome waiting; /* an error that stands first in the console's next payload */
     struct sirmjold_report report;
@@ -45,71 +37,66 @@ static void check(int ok, const char *what)
 
 static void start(const struct link *l, struct end *e)
 {
-    check(sirmjold_stream_new(STREAM(e), CFG(l), WINDOW, PLACES, e->ring, RING) == 0, "a fresh stream");
+    check(sirmjold_start(&e->stream, &l->settings, WINDOW, PLACES, e->ring, RING) == 0, "a fresh stream");
 }
 
-static struct payload opened(void)
+static struct sirmjold_payload opened(uint8_t *buf)
 {
-    struct payload p = {{0}, {0}};
-    check(sirmjold_payload_new(p.words, SIRMJOLD_PAYLOAD_WORDS, LIMIT) == 0, "a payload");
+    struct sirmjold_payload p;
+    check(sirmjold_payload_open(&p, buf, LIMIT) == 0, "a payload");
     return p;
-}
-
-static void write_data(const struct link *l, struct end *e, uint64_t now, struct payload *p)
-{
-    check(sirmjold_stream_write_data(STREAM(e), CFG(l), now, p->words, SIRMJOLD_PAYLOAD_WORDS, p->buf, LIMIT, e->ring, RING).refusal == 0,
-          "a write");
 }
 
 /* The chamber hears a data command or an error; the console a request. */
 static void arrives(struct link *l, uint64_t now, const struct sirmjold_read *r)
 {
     if (r->kind == SIRMJOLD_READ_UMP_DATA) {
-        struct sirmjold_delivery d = sirmjold_stream_on_ump_data(STREAM(&l->chamber), CFG(l), now, r->seq);
+        struct sirmjold_delivery d = sirmjold_on_ump_data(&l->chamber.stream, now, r->seq);
         check(d.refusal == 0, "a delivery");
         l->report.handed += d.class_ != SIRMJOLD_DUPLICATE;
         l->report.losses += d.lost_count != 0;
     } else if (r->kind == SIRMJOLD_READ_ERROR) {
-        struct sirmjold_event e = sirmjold_stream_on_retransmit_error(STREAM(&l->chamber), r->code, r->seq);
+        struct sirmjold_event e = sirmjold_on_retransmit_error(&l->chamber.stream, r->code, r->seq);
         check(e.refusal == 0, "an error");
         l->report.losses += e.kind == SIRMJOLD_ERROR_LOSS;
     } else if (r->kind == SIRMJOLD_READ_REQUEST) {
-        l->waiting = sirmjold_stream_on_retransmit_request(STREAM(&l->console), CFG(l), l->console.ring, RING, r->seq, r->count);
+        l->waiting = sirmjold_on_retransmit_request(&l->console.stream, r->seq, r->count);
         check(l->waiting.refusal == 0, "a request");
     }
 }
 
-static void carry(struct link *l, uint64_t now, const struct payload *p)
+/* What an end writes, behind what the payload holds, is carried to the other one. */
+static void write_data(struct link *l, struct end *e, uint64_t now, struct sirmjold_payload *p, int carried)
 {
-    uint32_t words[MOST];
-    uint8_t lens[MOST];
-    for (size_t at = 0, len = (size_t)p->words[0]; at < len;) {
-        struct sirmjold_read r = sirmjold_command_next(p->buf, len, at, words, MOST, lens, MOST);
+    struct sirmjold_reader reader;
+    struct sirmjold_read r;
+    check(sirmjold_write_data(&e->stream, now, p).refusal == 0, "a write");
+    if (!carried || sirmjold_payload_length(p) == 0)
+        return;
+    sirmjold_reader_open(&reader, p->buf, sirmjold_payload_length(p));
+    while ((r = sirmjold_reader_next(&reader)).next != 0) {
         check(r.refusal == 0 && r.kind > SIRMJOLD_READ_RAW, "a command of a stream");
         arrives(l, now, &r);
-        at = (size_t)r.next;
     }
+    check(r.refusal == 0 && r.kind == SIRMJOLD_READ_END, "a payload that is read to its end");
 }
 
 static void step(struct link *l, uint64_t now, struct sirmjold_load load, int carried)
 {
+    uint8_t buf[LIMIT];
     struct sirmjold_asked asked = sirmjold_load_words(load);
-    uint8_t sent = sirmjold_stream_send_ump(STREAM(&l->console), CFG(l), l->console.ring, RING, asked.words, asked.count);
-    check(sent == 0 || sent == SIRMJOLD_FULL, "words are queued, or there is no room");
-    struct payload p = opened();
+    uint8_t sent = sirmjold_send_ump(&l->console.stream, asked.words, asked.count);
+    check(sent == 0 || sent == SIRMJOLD_REFUSED_FULL, "words are queued, or there is no room");
+    struct sirmjold_payload p = opened(buf);
     if (l->waiting.kind == SIRMJOLD_ERROR)
-        check(sirmjold_retransmit_error_write(p.words, SIRMJOLD_PAYLOAD_WORDS, p.buf, LIMIT, l->waiting.reason, l->waiting.seq) == 0,
-              "the error is written");
+        check(sirmjold_put_retransmit_error(&p, l->waiting.reason, l->waiting.seq) == 0, "the error is written");
     l->waiting.kind = SIRMJOLD_QUEUED;
-    write_data(l, &l->console, now, &p);
-    if (carried)
-        carry(l, now, &p);
-    struct sirmjold_event e = sirmjold_stream_poll(STREAM(&l->chamber), CFG(l), now);
+    write_data(l, &l->console, now, &p, carried);
+    struct sirmjold_event e = sirmjold_poll(&l->chamber.stream, now);
     check(e.refusal == 0, "a poll");
     l->report.losses += e.kind == SIRMJOLD_DATA_LOSS;
-    p = opened();
-    write_data(l, &l->chamber, now, &p);
-    carry(l, now, &p);
+    p = opened(buf);
+    write_data(l, &l->chamber, now, &p, 1);
     l->report.steps++;
 }
 
@@ -128,24 +115,25 @@ static void by_hand(struct link *l, uint32_t seed, uint32_t drop, uint16_t figur
 static struct sirmjold_report run(const struct link *l, uint32_t seed, uint32_t drop, uint16_t figure, uint32_t budget, uint32_t *ring,
                                   uint32_t *other)
 {
-    return sirmjold_link_run(CFG(l), WINDOW, PLACES, seed, drop, figure, budget, ring, RING, other, RING);
+    return sirmjold_link_try(&l->settings, WINDOW, PLACES, seed, drop, figure, budget, ring, other, RING);
 }
 
 static void refused(uint32_t seed, uint32_t drop)
 {
-    struct link l = {.cfg = {100, 2, 5, 2, 1, 10, 3, 64}};
-    uint32_t ring[RING], other[RING], before[RING];
+    struct link l = {.settings = SIRMJOLD_DEFAULTS};
+    uint32_t ring[RING], other[RING], before[RING], cfg[SIRMJOLD_SETTINGS_WORDS];
+    sirmjold_settings_words(&l.settings, cfg);
     memset(before, 0xA5, sizeof before);
     memcpy(ring, before, sizeof before);
     memcpy(other, before, sizeof before);
     struct sirmjold_report r = run(&l, seed, drop, 13, 65537, ring, other);
-    check(r.refusal == SIRMJOLD_SIZE_NOT_ALLOWED && r.steps == 0, "12 for a budget of 65,537");
-    check(sirmjold_link_run(CFG(&l), WINDOW, PLACES, seed, drop, 13, 1, ring, RING, other, RING - 1).refusal == SIRMJOLD_SIZE_NOT_ALLOWED,
-          "12 for histories of two lengths");
-    check(sirmjold_link_run(l.cfg, 7, WINDOW, PLACES, seed, drop, 13, 1, ring, RING, other, RING).refusal == SIRMJOLD_INVALID_STATE,
-          "13 for seven settings");
-    l.cfg[SIRMJOLD_T1] = 0;
-    check(run(&l, seed, drop, 13, 65537, ring, other).refusal == SIRMJOLD_IDLE_INTERVAL, "7 for T1 0 comes first");
+    check(r.refusal == SIRMJOLD_REFUSED_SIZE_NOT_ALLOWED && r.steps == 0, "12 for a budget of 65,537");
+    r = sirmjold_link_run(cfg, SIRMJOLD_SETTINGS_WORDS, WINDOW, PLACES, seed, drop, 13, 1, ring, RING, other, RING - 1);
+    check(r.refusal == SIRMJOLD_REFUSED_SIZE_NOT_ALLOWED, "12 for histories of two lengths");
+    r = sirmjold_link_run(cfg, 7, WINDOW, PLACES, seed, drop, 13, 1, ring, RING, other, RING);
+    check(r.refusal == SIRMJOLD_REFUSED_INVALID_STATE, "13 for seven settings");
+    l.settings.idle_interval_ms = 0;
+    check(run(&l, seed, drop, 13, 65537, ring, other).refusal == SIRMJOLD_REFUSED_IDLE_INTERVAL, "7 for T1 0 comes first");
     check(memcmp(ring, before, sizeof before) == 0 && memcmp(other, before, sizeof before) == 0, "a refused run changes nothing");
 }
 
@@ -160,7 +148,9 @@ int main(int argc, char **argv)
         for (uint32_t requests = 0; requests <= 1; requests++) {
             printf("\n  R %" PRIu32 ", %s", repeats, requests ? "requests   " : "no requests");
             for (size_t f = 0; f < sizeof figures / sizeof *figures; f++) {
-                struct link l = {.cfg = {100, 2, 5, repeats, requests, 10, 3, 64}};
+                struct link l = {.settings = SIRMJOLD_DEFAULTS};
+                l.settings.fec_repeats = repeats;
+                l.settings.retransmit = requests;
                 uint32_t ring[RING] = {0}, other[RING] = {0};
                 struct sirmjold_report r = run(&l, seed, drop, figures[f], STEPS, ring, other);
                 by_hand(&l, seed, drop, figures[f]);

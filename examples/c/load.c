@@ -13,17 +13,10 @@
 #define WINDOW 64
 #define PLACES 4
 #define LIMIT 1400
-#define MOST SIRMJOLD_COMMAND_WORDS_MAX
-#define STREAM(e) (e).words, SIRMJOLD_STREAM_WORDS
 
-static const uint32_t cfg[SIRMJOLD_SETTINGS] = {100, 2, 5, 2, 1, 10, 3, 64};
-
-struct end {
-    uint64_t words[SIRMJOLD_STREAM_WORDS];
-    uint32_t ring[RING];
-};
-
-static struct end console, chamber;
+static const struct sirmjold_settings settings = SIRMJOLD_DEFAULTS;
+static struct sirmjold_stream console, chamber;
+static uint32_t console_ring[RING], chamber_ring[RING];
 
 static void check(int ok, const char *what, unsigned step)
 {
@@ -33,53 +26,45 @@ static void check(int ok, const char *what, unsigned step)
     }
 }
 
-static void start(struct end *e)
-{
-    check(sirmjold_stream_new(STREAM(*e), cfg, SIRMJOLD_SETTINGS, WINDOW, PLACES, e->ring, RING) == 0, "a fresh stream", 0);
-}
-
 /* The chamber hears a payload: the words that it hands on, each of them the load's. */
 static unsigned heard(uint64_t now, const uint8_t *payload, size_t len)
 {
-    uint32_t words[MOST];
-    uint8_t lens[MOST];
+    struct sirmjold_reader reader;
+    struct sirmjold_read r;
     unsigned handed = 0;
-    for (size_t at = 0; at < len;) {
-        struct sirmjold_read r = sirmjold_command_next(payload, len, at, words, MOST, lens, MOST);
-        check(r.refusal == 0, "a command", (unsigned)now);
-        if (r.kind != SIRMJOLD_READ_UMP_DATA)
-            break;
-        struct sirmjold_delivery d = sirmjold_stream_on_ump_data(STREAM(chamber), cfg, SIRMJOLD_SETTINGS, now, r.seq);
+    sirmjold_reader_open(&reader, payload, len);
+    while ((r = sirmjold_reader_next(&reader)).next != 0) {
+        check(r.kind == SIRMJOLD_READ_UMP_DATA, "a data command", (unsigned)now);
+        struct sirmjold_delivery d = sirmjold_on_ump_data(&chamber, now, r.seq);
         check(d.refusal == 0 && d.lost_count == 0, "a delivery without loss", (unsigned)now);
-        if (d.class_ != SIRMJOLD_DUPLICATE) {
-            for (unsigned k = 0; k < r.count; k++)
-                check(words[k] == 0x20903C40, "the load's word", (unsigned)now);
-            handed += r.count;
-        }
-        at = (size_t)r.next;
+        if (d.class_ == SIRMJOLD_DUPLICATE)
+            continue;
+        for (unsigned k = 0; k < r.count; k++)
+            check(reader.words[k] == 0x20903C40, "the load's word", (unsigned)now);
+        handed += r.count;
     }
+    check(r.refusal == 0 && r.kind == SIRMJOLD_READ_END, "a payload that is read to its end", (unsigned)now);
     return handed;
 }
 
 /* One step: the value's words are queued, and what the console writes arrives. */
 static unsigned step(uint64_t now, const struct sirmjold_asked *asked)
 {
-    uint64_t p[SIRMJOLD_PAYLOAD_WORDS];
+    struct sirmjold_payload payload;
     uint8_t buf[LIMIT];
-    check(sirmjold_stream_send_ump(STREAM(console), cfg, SIRMJOLD_SETTINGS, console.ring, RING, asked->words, asked->count) == 0,
-          "the words are queued", (unsigned)now);
-    check(sirmjold_payload_new(p, SIRMJOLD_PAYLOAD_WORDS, LIMIT) == 0, "a payload", (unsigned)now);
-    check(sirmjold_stream_write_data(STREAM(console), cfg, SIRMJOLD_SETTINGS, now, p, SIRMJOLD_PAYLOAD_WORDS, buf, LIMIT,
-                                     console.ring, RING).refusal == 0, "a write", (unsigned)now);
-    return p[0] ? heard(now, buf, (size_t)p[0]) : 0;
+    check(sirmjold_send_ump(&console, asked->words, asked->count) == 0, "the words are queued", (unsigned)now);
+    check(sirmjold_payload_open(&payload, buf, LIMIT) == 0, "a payload", (unsigned)now);
+    struct sirmjold_written w = sirmjold_write_data(&console, now, &payload);
+    check(w.refusal == 0, "a write", (unsigned)now);
+    return w.commands ? heard(now, buf, sirmjold_payload_length(&payload)) : 0;
 }
 
 int main(int argc, char **argv)
 {
     struct sirmjold_load seed = {argc > 1 ? (uint32_t)strtoul(argv[1], NULL, 10) : 1}, load = seed;
     unsigned sends = 0, words = 0, handed = 0;
-    start(&console);
-    start(&chamber);
+    check(sirmjold_start(&console, &settings, WINDOW, PLACES, console_ring, RING) == 0, "a console", 0);
+    check(sirmjold_start(&chamber, &settings, WINDOW, PLACES, chamber_ring, RING) == 0, "a chamber", 0);
     for (unsigned k = 1; k <= STEPS; k++) {
         load = sirmjold_load_draw(load);
         struct sirmjold_asked asked = sirmjold_load_words(load);

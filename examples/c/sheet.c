@@ -101,18 +101,18 @@ static void refusals(void)
 {
     uint8_t bytes[16] = {0}, class3[16] = {[10] = 3}, not_zero[16] = {[11] = 1};
     struct sirmjold_sheet none = {0, 0, 0}, early = {2, 1, 1}, two = started(2);
-    check(sirmjold_sheet_start(0, ring, 0).refusal == SIRMJOLD_SIZE_NOT_ALLOWED, "n 0", 0);
-    check(sirmjold_sheet_start(MOST + 1, ring, MOST).refusal == SIRMJOLD_SIZE_NOT_ALLOWED, "n 4,097", 0);
-    check(sirmjold_sheet_start(2, ring, 3).refusal == SIRMJOLD_SIZE_NOT_ALLOWED, "a ring of another length", 0);
-    check(sirmjold_sheet_block(none, ring, 0, bytes, 15, out, 16).refusal == SIRMJOLD_SIZE_NOT_ALLOWED, "12 first", 0);
-    check(sirmjold_sheet_block(early, ring, 2, bytes, 15, out, 16).refusal == SIRMJOLD_INVALID_STATE, "then 13", 0);
-    check(sirmjold_sheet_block(two, ring, 2, bytes, 15, out, 16).refusal == SIRMJOLD_INVALID_BLOCK, "a cut record", 0);
-    check(sirmjold_sheet_block(two, ring, 2, class3, 16, out, 15).refusal == SIRMJOLD_INVALID_BLOCK, "16 before 17", 0);
-    check(sirmjold_sheet_block(two, ring, 2, class3, 16, out, 16).refusal == SIRMJOLD_INVALID_RECORD, "class 3", 0);
-    check(sirmjold_sheet_block(two, ring, 2, not_zero, 16, out, 16).refusal == SIRMJOLD_INVALID_RECORD, "a zero byte that is 1", 0);
-    check(sirmjold_sheet_block(two, ring, 2, file, 65552, out, 65552).refusal == SIRMJOLD_INVALID_BLOCK, "65,552 bytes", 0);
-    check(sirmjold_sheet_columns(bytes, 15, out, 16) == SIRMJOLD_INVALID_BLOCK, "columns of a cut record", 0);
-    check(sirmjold_sheet_restore(bytes, 16, out, 15) == SIRMJOLD_INVALID_BLOCK, "too short an output", 0);
+    check(sirmjold_sheet_start(0, ring, 0).refusal == SIRMJOLD_REFUSED_SIZE_NOT_ALLOWED, "n 0", 0);
+    check(sirmjold_sheet_start(MOST + 1, ring, MOST).refusal == SIRMJOLD_REFUSED_SIZE_NOT_ALLOWED, "n 4,097", 0);
+    check(sirmjold_sheet_start(2, ring, 3).refusal == SIRMJOLD_REFUSED_SIZE_NOT_ALLOWED, "a ring of another length", 0);
+    check(sirmjold_sheet_block(none, ring, 0, bytes, 15, out, 16).refusal == SIRMJOLD_REFUSED_SIZE_NOT_ALLOWED, "12 first", 0);
+    check(sirmjold_sheet_block(early, ring, 2, bytes, 15, out, 16).refusal == SIRMJOLD_REFUSED_INVALID_STATE, "then 13", 0);
+    check(sirmjold_sheet_block(two, ring, 2, bytes, 15, out, 16).refusal == SIRMJOLD_REFUSED_INVALID_BLOCK, "a cut record", 0);
+    check(sirmjold_sheet_block(two, ring, 2, class3, 16, out, 15).refusal == SIRMJOLD_REFUSED_INVALID_BLOCK, "16 before 17", 0);
+    check(sirmjold_sheet_block(two, ring, 2, class3, 16, out, 16).refusal == SIRMJOLD_REFUSED_INVALID_RECORD, "class 3", 0);
+    check(sirmjold_sheet_block(two, ring, 2, not_zero, 16, out, 16).refusal == SIRMJOLD_REFUSED_INVALID_RECORD, "a zero byte that is 1", 0);
+    check(sirmjold_sheet_block(two, ring, 2, file, 65552, out, 65552).refusal == SIRMJOLD_REFUSED_INVALID_BLOCK, "65,552 bytes", 0);
+    check(sirmjold_sheet_columns(bytes, 15, out, 16) == SIRMJOLD_REFUSED_INVALID_BLOCK, "columns of a cut record", 0);
+    check(sirmjold_sheet_restore(bytes, 16, out, 15) == SIRMJOLD_REFUSED_INVALID_BLOCK, "too short an output", 0);
     check(sirmjold_sheet_columns(class3, 16, out, 16) == 0, "columns look at no class", 0);
 }
 

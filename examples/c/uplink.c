@@ -35,7 +35,7 @@ static void shown(uint16_t words, uint16_t turn, const uint16_t *wants, size_t n
 static void refused(uint16_t turn, const uint16_t *wants, size_t n)
 {
     struct sirmjold_grants g = sirmjold_uplink_grant(100, turn, wants, n);
-    check(g.refusal == SIRMJOLD_DIVISIONS_NOT_ALLOWED && g.turn == turn, "refused by 18, the turn kept", (unsigned)n);
+    check(g.refusal == SIRMJOLD_REFUSED_DIVISIONS_NOT_ALLOWED && g.turn == turn, "refused by 18, the turn kept", (unsigned)n);
     for (size_t i = 0; i < DIVISIONS; i++)
         check(g.grants[i] == 0, "nothing is granted", (unsigned)n);
 }

@@ -23,7 +23,7 @@ static bool is_held(unsigned note)
 /* The notes that are given are silenced, even those that the same command holds again; then what is held sounds. */
 static void sound(struct sirmjold_given given)
 {
-    check(given.refusal == 0, "held notes");
+    check(given.refusal == SIRMJOLD_OK, "held notes");
     held = given.state;
     for (size_t k = 0; k < given.notes.count; k++)
         valve(given.notes.items[k], false);
@@ -43,27 +43,27 @@ static void lost(struct end *e, uint16_t first, uint16_t count)
 }
 
 /* Messages that are no notes are the chamber's own affair: here all are written down. */
-static void hand_on(struct end *e, const struct command *c)
+static void hand_on(struct end *e, const struct sirmjold_read *c, const struct sirmjold_reader *from)
 {
-    end_log(e, "handed", c->read.seq, c->words, c->read.count);
+    end_log(e, "handed", c->seq, from->words, c->count);
 }
 
-static void data(struct end *e, uint64_t now, const struct command *c)
+static void data(struct end *e, uint64_t now, const struct sirmjold_read *c, const struct sirmjold_reader *from)
 {
-    struct sirmjold_delivery d = sirmjold_stream_on_ump_data(STREAM(e), SETTINGS, now, c->read.seq);
-    check(d.refusal == 0, "a data command");
+    struct sirmjold_delivery d = sirmjold_on_ump_data(&e->stream, now, c->seq);
+    check(d.refusal == SIRMJOLD_OK, "a data command");
     heard[d.class_]++;
     if (d.class_ == SIRMJOLD_DUPLICATE)
         return;
     lost(e, d.lost_first, d.lost_count);
-    sound(sirmjold_held_delivered(held, d.refusal, d.class_, d.lost_count, c->body, c->body_len));
-    hand_on(e, c);
+    sound(sirmjold_held_heard(held, d, from));
+    hand_on(e, c, from);
 }
 
 /* What a poll or a Retransmit Error was answered with. */
 static void told(struct end *e, struct sirmjold_event v)
 {
-    check(v.refusal == 0, "an event");
+    check(v.refusal == SIRMJOLD_OK, "an event");
     if (v.kind == SIRMJOLD_NOTHING)
         return;
     lost(e, v.first, v.count);
@@ -72,12 +72,12 @@ static void told(struct end *e, struct sirmjold_event v)
 
 /* Data and Retransmit Errors are the stream's. This chamber writes no data, so that no request comes; one that writes some does
  * with requests what console.c does. All else is the session's. */
-static void hear(struct end *e, uint64_t now, const struct command *c)
+static void hear(struct end *e, uint64_t now, const struct sirmjold_read *c, const struct sirmjold_reader *from)
 {
-    if (c->read.kind == SIRMJOLD_READ_UMP_DATA)
-        data(e, now, c);
-    else if (c->read.kind == SIRMJOLD_READ_ERROR)
-        told(e, sirmjold_stream_on_retransmit_error(STREAM(e), c->read.code, c->read.seq));
+    if (c->kind == SIRMJOLD_READ_UMP_DATA)
+        data(e, now, c, from);
+    else if (c->kind == SIRMJOLD_READ_ERROR)
+        told(e, sirmjold_on_retransmit_error(&e->stream, c->code, c->seq));
 }
 
 static unsigned sounding(void)
@@ -106,7 +106,7 @@ int main(int argc, char **argv)
     do {
         now = clock_ms();
         end_hear(&e, now, hear);
-        told(&e, sirmjold_stream_poll(STREAM(&e), SETTINGS, now));
+        told(&e, sirmjold_poll(&e.stream, now));
         end_write(&e, now);
         if (end_second(&e, now))
             figures(&e, now);

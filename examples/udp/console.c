@@ -22,7 +22,7 @@ static uint32_t change(unsigned key)
 /* Queues a chord, which end_write then writes: so no more than one chord is ever unwritten, and the history has room for it. */
 static void queue(struct end *e, const uint32_t *words, size_t count)
 {
-    check(sirmjold_stream_send_ump(STREAM(e), SETTINGS, LENT(e), words, count) == 0, "a chord is queued");
+    check(sirmjold_send_ump(&e->stream, words, count) == SIRMJOLD_OK, "a chord is queued");
     end_log(e, "played", played, words, count);
     played += (unsigned)count;
 }
@@ -50,24 +50,24 @@ static void release_all(struct end *e)
 /* A Retransmit Error, in a payload of its own. */
 static void send_error(struct end *e, uint8_t reason, uint16_t seq)
 {
-    uint64_t payload[SIRMJOLD_PAYLOAD_WORDS];
+    struct sirmjold_payload payload;
     uint8_t buf[LIMIT];
-    check(sirmjold_payload_new(payload, SIRMJOLD_PAYLOAD_WORDS, LIMIT) == 0, "an empty payload");
-    check(sirmjold_retransmit_error_write(payload, SIRMJOLD_PAYLOAD_WORDS, buf, LIMIT, reason, seq) == 0, "an error");
-    line_send(&e->line, buf, (size_t)payload[0]);
+    check(sirmjold_payload_open(&payload, buf, LIMIT) == SIRMJOLD_OK, "an empty payload");
+    check(sirmjold_put_retransmit_error(&payload, reason, seq) == SIRMJOLD_OK, "an error");
+    line_send(&e->line, buf, sirmjold_payload_length(&payload));
     errors++;
 }
 
 /* Requests are the stream's, which answers them with its next writes. This chamber sends no data; a console that hears some does
  * with it what chamber.c does. All else is the session's. */
-static void hear(struct end *e, uint64_t now, const struct command *c)
+static void hear(struct end *e, uint64_t now, const struct sirmjold_read *c, const struct sirmjold_reader *from)
 {
     (void)now;
-    if (c->read.kind != SIRMJOLD_READ_REQUEST)
+    (void)from;
+    if (c->kind != SIRMJOLD_READ_REQUEST)
         return;
-    struct sirmjold_outcome o =
-        sirmjold_stream_on_retransmit_request(STREAM(e), SETTINGS, LENT(e), c->read.seq, c->read.count);
-    check(o.refusal == 0, "a request");
+    struct sirmjold_outcome o = sirmjold_on_retransmit_request(&e->stream, c->seq, c->count);
+    check(o.refusal == SIRMJOLD_OK, "a request");
     requests++;
     if (o.kind == SIRMJOLD_ERROR)
         send_error(e, o.reason, o.seq);
@@ -83,7 +83,7 @@ static void figures(const struct end *e, uint64_t now)
 /* Nothing is due any more: the last idle command is out. */
 static bool idle(const struct end *e)
 {
-    return sirmjold_stream_next_deadline(STREAM(e), LENT(e)).kind == 0;
+    return sirmjold_next_deadline(&e->stream).kind == 0;
 }
 
 /* What is played at this time: a chord, or at the end the release of all keys. Answers when to play next. */

@@ -4,11 +4,11 @@
 #include <stdlib.h>
 #include <string.h>
 
-/* Twenty idle commands at steps of 100 ms: so the last notes are heard, or known to be lost, even where half of all payloads
- * are dropped. */
-const uint32_t settings[SIRMJOLD_SETTINGS] = {
-    [SIRMJOLD_T1] = 100, [SIRMJOLD_G] = 1,  [SIRMJOLD_K] = 17, [SIRMJOLD_R] = 2,
-    [SIRMJOLD_X] = 1,    [SIRMJOLD_D] = 10, [SIRMJOLD_M] = 3,  [SIRMJOLD_SIZE] = 64,
+/* The defaults, but with twenty idle commands at steps of 100 ms: so the last notes are heard, or known to be lost, even where
+ * half of all payloads are dropped. */
+static const struct sirmjold_settings settings = {
+    .idle_interval_ms = 100, .idle_growth = 1,       .idle_further = 17, .fec_repeats = 2,
+    .retransmit = 1,         .request_delay_ms = 10, .max_requests = 3,  .max_command_words = 64,
 };
 
 /* ---- the command line */
@@ -105,69 +105,69 @@ void end_open(struct end *e, const char *name, const struct options *o)
     check(o->log == NULL || e->log != NULL, "a file for the log");
     e->begun = e->heard = clock_ms();
     line_open(&e->line, o->port, o->peer, o->drop, o->dead, o->seed);
-    check(sirmjold_stream_new(STREAM(e), SETTINGS, WINDOW, PLACES, LENT(e)) == 0, "a fresh stream");
+    uint8_t refusal = sirmjold_start(&e->stream, &settings, WINDOW, PLACES, e->history, HISTORY);
+    check(refusal == SIRMJOLD_OK, sirmjold_refusal_text(refusal));
 }
 
-/* The command at a place; false where reading ends. A request or an error without its word is passed over, and so is all of a
- * payload that does not begin with the signature. */
-static bool command_at(struct command *c, const uint8_t *payload, size_t len, size_t at)
+/* The next command; false where reading ends. A request or an error without its word is passed over, and so is all of a payload
+ * that does not begin with the signature. */
+static bool next_command(struct sirmjold_reader *from, struct sirmjold_read *c)
 {
-    do {
-        c->read = sirmjold_command_next(payload, len, at, c->words, SIRMJOLD_COMMAND_WORDS_MAX, c->lens,
-                                        SIRMJOLD_COMMAND_WORDS_MAX);
-        at = (size_t)c->read.next;
-    } while (c->read.refusal == SIRMJOLD_MALFORMED);
-    c->body_len = 4 * (size_t)c->read.len;
-    c->body = payload + at - (at ? c->body_len : 0);
-    return at != 0;
+    do
+        *c = sirmjold_reader_next(from);
+    while (c->refusal == SIRMJOLD_REFUSED_MALFORMED);
+    return c->next != 0;
 }
 
 /* The figures of a written payload. Its data commands stand in this order: retransmits, then, before new commands, the last
  * ones that were written before, then the new ones. */
 static void count_written(struct end *e, const uint8_t *payload, size_t len)
 {
-    struct command c;
+    struct sirmjold_reader reader;
+    struct sirmjold_read c;
     unsigned before = e->written, old = 0;
-    for (size_t at = 0; command_at(&c, payload, len, at); at = (size_t)c.read.next) {
-        if (c.read.kind != SIRMJOLD_READ_UMP_DATA)
+    sirmjold_reader_open(&reader, payload, len);
+    while (next_command(&reader, &c)) {
+        if (c.kind != SIRMJOLD_READ_UMP_DATA)
             continue;
-        if (c.read.seq == (uint16_t)e->written) {
-            end_log(e, "written", c.read.seq, c.words, c.read.count);
+        if (c.seq == (uint16_t)e->written) {
+            end_log(e, "written", c.seq, reader.words, c.count);
             e->written++;
         } else {
             old++;
         }
     }
-    unsigned repeats = e->written == before ? 0 : (unsigned)lesser(lesser(settings[SIRMJOLD_R], before), old);
+    unsigned repeats = e->written == before ? 0 : (unsigned)lesser(lesser(settings.fec_repeats, before), old);
     e->repeated += repeats;
     e->retransmitted += old - repeats;
 }
 
 void end_write(struct end *e, uint64_t now)
 {
-    uint64_t payload[SIRMJOLD_PAYLOAD_WORDS];
+    struct sirmjold_payload payload;
     uint8_t buf[LIMIT];
-    while (sirmjold_stream_wants_write(STREAM(e), LENT(e), now).wants) {
-        check(sirmjold_payload_new(payload, SIRMJOLD_PAYLOAD_WORDS, LIMIT) == 0, "an empty payload");
-        struct sirmjold_written w = sirmjold_stream_write_data(STREAM(e), SETTINGS, now, payload, SIRMJOLD_PAYLOAD_WORDS, buf,
-                                                               LIMIT, LENT(e));
-        check(w.refusal == 0, "a write");
+    while (sirmjold_wants_write(&e->stream, now).wants) {
+        check(sirmjold_payload_open(&payload, buf, LIMIT) == SIRMJOLD_OK, "an empty payload");
+        struct sirmjold_written w = sirmjold_write_data(&e->stream, now, &payload);
+        check(w.refusal == SIRMJOLD_OK, "a write");
         if (w.commands == 0) /* a request that was due is no longer needed */
             return;
-        count_written(e, buf, (size_t)payload[0]);
-        line_send(&e->line, buf, (size_t)payload[0]);
+        count_written(e, buf, sirmjold_payload_length(&payload));
+        line_send(&e->line, buf, sirmjold_payload_length(&payload));
     }
 }
 
 void end_hear(struct end *e, uint64_t now, take *each)
 {
     uint8_t payload[LIMIT];
-    struct command c;
+    struct sirmjold_reader reader;
+    struct sirmjold_read c;
     size_t len;
     while ((len = line_receive(&e->line, payload, sizeof payload)) != 0) {
         e->heard = now;
-        for (size_t at = 0; command_at(&c, payload, len, at); at = (size_t)c.read.next)
-            each(e, now, &c);
+        sirmjold_reader_open(&reader, payload, len);
+        while (next_command(&reader, &c))
+            each(e, now, &c, &reader);
     }
 }
 
@@ -178,8 +178,8 @@ uint64_t lesser(uint64_t a, uint64_t b)
 
 void end_wait(const struct end *e, uint64_t until)
 {
-    struct sirmjold_deadline due = sirmjold_stream_next_deadline(STREAM(e), LENT(e));
-    check(due.refusal == 0, "a deadline");
+    struct sirmjold_deadline due = sirmjold_next_deadline(&e->stream);
+    check(due.refusal == SIRMJOLD_OK, "a deadline");
     until = lesser(until, next_second(e));
     line_wait(&e->line, due.kind ? lesser(due.time, until) : until);
 }

@@ -12,17 +12,10 @@
 #define WINDOW 64
 #define PLACES 4
 
-/* How the arrays of an end are given to a call. */
-#define STREAM(e) (e)->stream, SIRMJOLD_STREAM_WORDS
-#define LENT(e) (e)->history, HISTORY
-#define SETTINGS settings, SIRMJOLD_SETTINGS
-
-extern const uint32_t settings[SIRMJOLD_SETTINGS];
-
 struct end {
     const char *name;
     struct line line;
-    uint64_t stream[SIRMJOLD_STREAM_WORDS];
+    struct sirmjold_stream stream;
     uint32_t history[HISTORY];
     FILE *log;                                 /* NULL: none is kept */
     uint64_t begun, seconds;                   /* when it began, and how many whole seconds of it have their figures printed */
@@ -30,17 +23,8 @@ struct end {
     unsigned written, repeated, retransmitted; /* data commands that this end wrote */
 };
 
-/* A command of a payload that is being read. */
-struct command {
-    struct sirmjold_read read;
-    uint32_t words[SIRMJOLD_COMMAND_WORDS_MAX];
-    uint8_t lens[SIRMJOLD_COMMAND_WORDS_MAX];
-    const uint8_t *body; /* its words, as they stand in the payload */
-    size_t body_len;
-};
-
 /* What an end does with a command that it reads. */
-typedef void take(struct end *e, uint64_t now, const struct command *c);
+typedef void take(struct end *e, uint64_t now, const struct sirmjold_read *c, const struct sirmjold_reader *from);
 
 /* What is given on the command line. */
 struct options {

@@ -65,8 +65,8 @@ pub struct RetransmitRequest {
 /// ```
 #[derive(Debug)]
 pub struct Payload<M> {
-    words: [u64; 2],
-    empty: [u64; 2],
+    words: [u64; raw::PAYLOAD_WORDS],
+    empty: [u64; raw::PAYLOAD_WORDS],
     buf: M,
 }
 
@@ -82,7 +82,7 @@ impl<M: Memory<u8>> Payload<M> {
     /// assert_eq!(Payload::new(1401, &mut buf).unwrap_err(), Refusal::InvalidValue);
     /// ```
     pub fn new(max: usize, buf: M) -> Result<Payload<M>, Refusal> {
-        let mut empty = [0; 2];
+        let mut empty = [0; raw::PAYLOAD_WORDS];
         Refusal::check(sirmjold_payload_new(&mut empty, max))?;
         Ok(Payload {
             words: empty,
@@ -274,8 +274,7 @@ pub enum Read<'a> {
     Malformed,
 }
 
-/// The words of the longest command.
-const MOST: usize = 255;
+const MOST: usize = raw::COMMAND_WORDS_MAX;
 
 /// Room for the words of a command. It can read one payload after the other.
 ///

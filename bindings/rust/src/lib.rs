@@ -70,7 +70,7 @@
 //!
 //! All memory is the caller's; nothing is allocated. Three values use more than they hold themselves: a [`Stream`] its send
 //! history, a [`Payload`] its buffer, a [`Sheet`] its ring. Each takes any [`Memory`]: an array or a `Vec` is given away, and
-//! the value can then be kept, moved and sent to another thread; a `&mut` borrow is lent. A stream is 280 bytes and its history,
+//! the value can then be kept, moved and sent to another thread; a `&mut` borrow is lent. A stream is 160 bytes and its history,
 //! a [`Reader`] about 1,300 bytes, [`GivenNotes`] about 4 KB on the stack.
 //!
 //! # Time

@@ -70,7 +70,7 @@ impl Default for StreamConfig {
 }
 
 impl StreamConfig {
-    pub(crate) fn words(&self) -> [u32; 8] {
+    pub(crate) fn words(&self) -> [u32; raw::SETTINGS_WORDS] {
         [
             self.idle_interval_ms,
             self.idle_growth,

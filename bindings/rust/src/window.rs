@@ -20,7 +20,7 @@ lend! {
 /// ```
 #[derive(Debug, Clone, PartialEq, Eq)]
 pub struct Window {
-    pub(crate) words: [u64; 4],
+    pub(crate) words: [u64; raw::WINDOW_WORDS],
 }
 
 impl Window {
@@ -47,7 +47,7 @@ impl Window {
     /// # Ok::<(), sirmjold::Refusal>(())
     /// ```
     pub fn starting_at(size: u32, highest: u16) -> Result<Window, Refusal> {
-        let mut words = [0; 4];
+        let mut words = [0; raw::WINDOW_WORDS];
         Refusal::check(sirmjold_window_starting_at(&mut words, size, highest))?;
         Ok(Window { words })
     }

@@ -1,11 +1,9 @@
 //! The library's side, by its C functions, which are calls of their own.
-use crate::raw::{self, Delivery, STREAM_WORDS};
+use crate::raw::{self, COMMAND_WORDS_MAX as MOST, Delivery, STREAM_WORDS};
 use crate::side::{LARGE, LIMIT, PLACES, SMALL, Side, Stream, WINDOW, delivery, fold};
 use std::mem::MaybeUninit;
 
 const CFG: [u32; 8] = [100, 2, 5, 2, 1, 10, 3, 64];
-/// The words of the longest command.
-const MOST: usize = 255;
 
 pub struct Ours;
 
@@ -56,6 +54,9 @@ fn commands(payload: &[u8], mut data: impl FnMut(u64, u16, &[u32], bool) -> u64)
 /// Words of a window of 64 that only the last of its tests refuses: a position outside the window is set.
 const REFUSED: [u64; 4] = [WINDOW as u64, 0xFFFF, u64::MAX, 1];
 
+/// The word of a stream with positions 64 to 127 of its window's set: of a window of 64 they are outside.
+const SET_HIGH: usize = 3;
+
 /// A call of a window that makes all its tests, and is refused by the last one.
 pub fn window_tests() -> u64 {
     let mut w = REFUSED;
@@ -78,7 +79,7 @@ impl<const C: usize> Ends<C> {
     /// A stream whose receiver's calls make all their tests, and are refused by the last one.
     pub fn refused() -> Self {
         let mut e = Self::fresh();
-        e.words[..4].copy_from_slice(&REFUSED);
+        e.words[SET_HIGH] = 1;
         e
     }
 
