@@ -13,10 +13,12 @@ SETS = ("cfg", "new", "reset")
 WRITES = ("write", "take", "raw", "senddata", "sendrequest", "senderror")
 TAKES = ("data", "request", "error")
 RECEIVES = ("data", "poll", "error", "nak", "take")
-TIMED = ("write", "data", "poll")
+PAYLOADS = ("read", "hear")
+TIMED = ("write", "data", "poll", "hear")
 
 INK, GREY, PALE = "#222222", "#6b7280", "#d1d5db"
 GREEN, BLUE, AMBER, RED = "#2f855a", "#2b6cb0", "#b45309", "#c53030"
+GRAVE = [GREY, GREEN, BLUE, AMBER, RED]
 ROW, BETWEEN, MONO, SANS, BOLD_SANS = 26, 300, 7.3, 6.9, 7.8
 
 
@@ -85,22 +87,22 @@ def label(items, room):
 def short(call):
     """A call with as many of its words as there is room for."""
     name, *fields = call.split(" ")
-    if name == "read":
-        return "read " + call_script.plural(len("".join(fields)) // 2, "byte")
+    if name in PAYLOADS:
+        *before, _ = call_script.FIELDS[name]
+        return " ".join([name, *fields[:len(before)], call_script.plural(len("".join(fields[len(before):])) // 2, "byte")])
     fixed = len([k for _, k in call_script.FIELDS[name] if k != "*"])
     words = fields[fixed:]
     return call if len(words) <= 4 else " ".join([name, *fields[:fixed], *words[:3], ".. %d words" % len(words)])
 
 
-def heard(answer, last):
+def heard(answer, number):
     """What `data` answers, in words: its class, the numbers skipped, the loss it brings."""
-    klass, _, lost, first = answer.split(" ")[:4]
+    klass, gap, lost, first = answer.split(" ")[:4]
     if klass != "N":
         return ("Late", BLUE) if klass == "L" else ("Duplicate", GREY)
     note, colour = "New", GREEN
-    skips = last.split(" ")[2]
-    if skips != "-":
-        note, colour = note + ", gap: " + numbers(*map(int, skips.split(","))), AMBER
+    if gap != "0":
+        note, colour = note + ", gap: " + numbers((number - int(gap)) % 65536, int(gap)), AMBER
     if lost != "0":
         note, colour = note + ", lost: " + numbers(int(first), int(lost)), RED
     return note, colour
@@ -117,7 +119,7 @@ def told(name, answer):
         return "%s, %s%s" % (call_script.plural(int(fields[1]), "command"), call_script.plural(int(fields[3]), "byte"), ", more" * int(fields[2])), GREY
     if name == "take":
         return {"ok 0": "nothing due", "more": "no room"}.get(answer, ""), GREY
-    return ("" if answer in ("ok", "none") or name == "read" else answer), GREY
+    return ("" if answer in ("ok", "none", "-") or name == "read" or ":" in answer else answer), GREY
 
 
 class Run:
@@ -134,7 +136,7 @@ class Run:
 
     def side(self, name, items):
         """Where a call stands: the receiver's at the second end, if one stream serves as both."""
-        receives = not any(i.startswith("request") for i in items) if name == "read" else name in RECEIVES
+        receives = not any(i.startswith("request") for i in items) if name in PAYLOADS else name in RECEIVES
         return 1 if self.both and receives else 0
 
     def goes(self, item):
@@ -173,9 +175,19 @@ class Run:
                 return
         self.arrives([item], row)
 
-    def note(self, name, answer):
+    def items(self, name, fields):
+        """What reading a payload finds."""
+        found = self.ask(" ".join(["read", *fields[len(call_script.FIELDS[name]) - 1:]])) if name in PAYLOADS else "refused 1"
+        return [] if found == "refused 1" else found.split(" ")[1:]
+
+    def notes(self, items, answer):
+        """What each command of a payload is answered, and the gravest colour."""
+        both = [self.note(*item.split(":")[:2], one) for item, one in zip(items, answer.split(" | "))]
+        return ", ".join(note for note, _ in both if note), max((colour for _, colour in both), key=GRAVE.index, default=GREY)
+
+    def note(self, name, number, answer):
         if answer[:2] in ("N ", "L ", "D "):
-            return heard(answer, self.ask("last"))
+            return heard(answer, int(number))
         if name == "poll" and answer == "none":
             return ("request due" if " due 1 " in self.ask("state") else ""), GREY
         return told(name, answer)
@@ -183,14 +195,15 @@ class Run:
     def call(self, line, answer):
         """A call and its answer."""
         name, *fields = call_script.text(line).split(" ")
-        items = answer.split(" ")[1:] if name == "read" and answer != "refused 1" else []
+        items = self.items(name, fields)
         if name == "open" and answer == "ok":
             self.written = []
         if name in SETS:
             self.parts.append(Row(None, short(call_script.text(line)), *told(name, answer)))
-        if name not in (*WRITES, *TAKES, "queue", "queuelong", "poll", "nak", "read"):
+        if name not in (*WRITES, *TAKES, "queue", "queuelong", "poll", "nak", *PAYLOADS):
             return
-        row = Row(self.side(name, items), short(call_script.text(line)), *self.note(name, answer))
+        note = self.notes(items, answer) if name == "hear" and items else self.note(name, fields[1] if name == "data" else None, answer)
+        row = Row(self.side(name, items), short(call_script.text(line)), *note)
         if name in TIMED and fields[0] != self.time:
             row.time = self.time = fields[0]
         self.parts.append(row)
@@ -200,7 +213,7 @@ class Run:
             self.takes(name, fields, row)
         elif items:
             self.arrives(items, row)
-            self.waiting = list(items)
+            self.waiting = list(items) if name == "read" else []
 
     def remark(self, line):
         text = call_script.text(line)

@@ -19,9 +19,10 @@ CALLS = {
     "queue": "WORD:*", "request": "NUMBER:2 COUNT:2", "data": "NOW:8 NUMBER:2 WORD:*", "poll": "NOW:8", "error": "REASON:1 NUMBER:2",
     "nak": "", "reset": "", "deadline": "", "wants": "NOW:8", "write": "NOW:8", "take": "", "read": "BYTES:.", "payload": "",
     "buffer": "", "state": "", "memory": "", "window": "NUMBER:2 COUNT:2", "next": "", "last": "", "queuelong": "WORD:*",
+    "hear": "NOW:8 BYTES:.",
 }
 FIELDS = {name: [tuple(f.split(":")) for f in fields.split()] for name, fields in CALLS.items()}
-# Figures that are narrower than their bytes, the most words of a call, bytes of a `read`, bytes of a line.
+# Figures that are narrower than their bytes, the most words of a call, bytes of a payload, bytes of a line.
 MOST = {"X": 1, "BUFFER": 2048}
 WORDS = {"queue": 256, "queuelong": 454, "data": 255, "raw": 300, "senddata": 300}
 BYTES, LINE = 2000, 4096
@@ -134,7 +135,7 @@ def one(name, kind, field):
 def count(call, given):
     """Why so many fields are not those of the call."""
     least = sum(kind not in "*." for _, kind in FIELDS[call])
-    most = least + (1 if call == "read" else WORDS.get(call, 0))
+    most = least + WORDS.get(call, len(FIELDS[call]) - least)
     if least <= given <= most:
         return None
     if given > most and call in WORDS:

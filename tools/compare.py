@@ -15,10 +15,11 @@ out the short lists and the turns. N limits the drawn lists and the reading; the
 A list that differs is shortened and printed, and the run fails. Progress goes to standard error: a bar on a terminal, a line
 a minute elsewhere. The summary counts calls by name, answers by kind, refusals by number, and the corners reached.
 
---keep writes the short directed lists, examples/cases.script and a sample in which each pair of call and answer kind occurs to
-FOLDER/stdin, and the Rust's answers to FOLDER/stdout: that is how crates/replay_recorded was made, by
+--keep makes FOLDER/stdin anew but for its start and what is written by hand, which stay: the short directed lists,
+examples/cases.script and a sample in which each pair of call and answer kind occurs; and writes the Rust's answers to all of it to
+FOLDER/stdout. So crates/replay's were made, by
 
-    tools/compare.py --calls 300000 --keep crates/replay_recorded"""
+    tools/compare.py --calls 300000 --keep crates/replay"""
 import argparse
 import collections
 import itertools
@@ -119,6 +120,36 @@ class Walk:
             self.high += step
         return n
 
+    def words(self):
+        """Of a data command."""
+        rng = self.rng
+        return whole(rng, rng.choice([0, 1, 1, 2, 4, 64])) if rng.randrange(8) else drawn(rng, rng.choice([1, 2, 65, 255]))
+
+    def command(self):
+        """A command of a payload, in digits."""
+        rng = self.rng
+        k = rng.randrange(12)
+        if k < 7:
+            words = self.words()
+            return "FF%02X%04X" % (len(words), self.number()) + "".join(words)
+        if k < 9:
+            return "8001%04X%04X0000" % ((self.sent - rng.randrange(6)) % 65536, rng.randrange(3))
+        if k == 9:
+            return "8101%02X00%04X0000" % (rng.choice([0, 1, 2]), rng.randrange(65536))
+        n = rng.choice([0, 0, 1, 2])
+        return "%02X%02X%04X" % (rng.choice([0x20, 0x80, 0x81, 0x82, 0x8F, rng.randrange(256)]), n, rng.randrange(65536)) + "".join(drawn(rng, n))
+
+    def heard(self):
+        """A payload that arrives: of eight one without its signature, and one cut."""
+        rng = self.rng
+        text = "4D494449" + "".join(self.command() for _ in range(rng.choice([0, 1, 1, 2, 3, 6])))
+        k = rng.randrange(8)
+        if k == 0:
+            text = "4D49444A" + text[8:]
+        if k == 1:
+            text = text[:2 * rng.randrange(len(text) // 2 + 1)]
+        return " ".join(["hear %d" % self.clock()] + [text[:4000]] * (text != ""))
+
     def opened(self):
         limit = self.rng.choice(LIMITS + [1400] * 8)
         return "open %d %d" % (limit, self.rng.choice([limit] * 6 + [1400, 2048, 0, 7, 8, max(limit - 1, 0), max(limit - 4, 0)]))
@@ -147,9 +178,10 @@ class Walk:
         if k < 56:
             number = (self.sent - rng.choice([0, 1, 1, 2, 2, 3, 4, 5, 8, 20, 60])) % 65536
             return "request %d %d" % (number, rng.choice([0, 0, 1, 1, 2, 3, 10, 300, 65535]))
+        if k < 72:
+            return " ".join(["data %d %d" % (self.clock(), self.number())] + self.words())
         if k < 78:
-            words = whole(rng, rng.choice([0, 1, 1, 2, 4, 64])) if rng.randrange(8) else drawn(rng, rng.choice([1, 2, 65, 255]))
-            return " ".join(["data %d %d" % (self.clock(), self.number())] + words)
+            return self.heard()
         if k < 85:
             return "poll %d" % self.clock()
         if k < 88:
@@ -179,7 +211,7 @@ class Walk:
 
 SHOWN = {"state", "payload", "memory", "buffer", "last"}
 QUIET = ("deadline", "wants", "read", "next", "window")
-HEARD = ("data", "poll", "error", "nak")
+HEARD = ("data", "poll", "error", "nak", "hear")
 
 
 def seen(lines):
@@ -249,6 +281,7 @@ def sizes_lists():
             "queue", "queue 20903C40", "write 0", "data 0 0", "poll 0", "take", "request 0 0"])
     yield seen(["bogus", "queue 2090", "queue 20903C4G", "write", "write 0 0", "write 18446744073709551616", "write 00018446744073709551615", "poll -1", "data 0",
            "data 0 65536", " write 0", "write 0 ", "write  0", "cfg 1 2 3", "cfg 100 2 256 2 1 10 3 64", "cfg 100 2 5 2 2 10 3 64", "open 1400 2049",
+           "hear", "hear 4D494449", "hear 0 4D49444", "hear 0 4D494449 FF000000", "hear 18446744073709551616 4D494449",
            "request 65536 0", "senderror 256 0", "read 4", "read 4D4G", "read 4d494449", "Write 0", "reset now", "nak 1", "state 1", "\t", "raw 1 02 03",
            "raw 100 02 03", "queue " + " ".join(["20903C40"] * 256), "queue " + " ".join(["20903C40"] * 257), "senddata 0 " + " ".join(["20903C40"] * 300),
            "raw 77 00 00 " + " ".join(["20903C40"] * 301), "data 0 0 " + " ".join(["20903C40"] * 256), "queuelong", "queuelong 20903C4",
@@ -338,10 +371,14 @@ class Progress:
             print("\r\033[K", end="", file=sys.stderr, flush=True)
 
 
-STREAM = {"new", "queue", "queuelong", "request", "write", "data", "poll", "error", "nak", "take", "reset", "deadline", "wants", "next", "window"}
+STREAM = {"new", "queue", "queuelong", "request", "write", "data", "hear", "poll", "error", "nak", "take", "reset", "deadline", "wants", "next", "window"}
 
 
 def kind_of(name, answer):
+    if name == "hear" and " | " in answer:
+        return "several, " + kind_of(name, answer.split(" | ")[-1])
+    if name == "hear" and ":" in answer:
+        return {"refused": "no word"}.get(answer.split(":")[0], answer.split(":")[0])
     kind = answer.split(" ", 1)[0]
     if kind == "refused":
         return answer
@@ -485,9 +522,12 @@ def short_sample(oracle, key, lines):
     return seen(start + shorten(rest, holds)) if rest else lines
 
 
+MADE, BY_HAND = "# Directed lists", "# By hand:"
+
+
 def keep(folder, oracle, sample):
     """The directed lists come first: one of them begins with a run's start."""
-    text = ["# Directed lists (tools/directed.py). The answers to these and to all that follow are the Rust's."]
+    text = [MADE + " (tools/directed.py)."]
     for one in directed.lists():
         if one.kept:
             text += ["# " + one.name] + one.lines
@@ -496,9 +536,11 @@ def keep(folder, oracle, sample):
     short = [(key, short_sample(oracle, key, lines)) for key, lines in sample.items()]
     for key, lines in sorted(short, key=lambda x: (len(x[1]), x[0])):
         text += ["# " + ": ".join(key)] + lines
-    calls = [line for line in text if line and not line.startswith("#")]
-    open(folder + "/stdin", "w").write("\n".join(text) + "\n")
-    open(folder + "/stdout", "w").write("\n".join(run(oracle, calls)[0]) + "\n")
+    was = open(folder + "/stdin", "rb").read()
+    start, by_hand = was[:was.index(MADE.encode())], was[was.index(BY_HAND.encode()):]
+    given = start + ("\n".join(text) + "\n\n").encode() + by_hand
+    open(folder + "/stdin", "wb").write(given)
+    open(folder + "/stdout", "wb").write(ran(oracle, given)[0])
 
 
 def main():

@@ -41,19 +41,19 @@ WORDS_OF_TYPES = [1, 1, 1, 2, 2, 4, 1, 1, 2, 2, 2, 3, 3, 4, 4, 4]
 ONE_OF_EACH_TYPE = [w for kind, n in enumerate(WORDS_OF_TYPES) for w in [(kind << 28) + 0x03B10740] + [0x01020304] * (n - 1)]
 LONGEST = [0x50000000, 1, 2, 3] * 16
 
-REPLAY, CODEC = "crates/replay/stdout", "crates/codec_cases/stdout"
+REPLAY = "crates/replay/stdout"
 WHOLE = [
     ("on record: a note", recorded(REPLAY, "4D494449FF01000020903C40")),
     ("on record: a note, repeated before its release", recorded(REPLAY, "4D494449FF01000020903C40FF01000120803C00")),
     ("on record: a chord", recorded("examples/evening.script", "4D494449FF03000020903C402090404020904340")),
-    ("on record: a request", recorded(CODEC, "4D4944498001010200030000")),
+    ("on record: a request", recorded(REPLAY, "4D4944498001010200030000")),
     ("on record: a request before four data commands",
      recorded(REPLAY, "4D4944498001000000010000FF01000020903C40FF01000120803C00FF01000220903D40FF01000320803D00")),
-    ("on record: an error, unknown", recorded(CODEC, "4D4944498101000012340000")),
-    ("on record: an error, NOT_IN_BUFFER", recorded(CODEC, "4D4944498101010012340000")),
+    ("on record: an error, unknown", recorded(REPLAY, "4D4944498101000012340000")),
+    ("on record: an error, NOT_IN_BUFFER", recorded(REPLAY, "4D4944498101010012340000")),
     ("on record: a request and an error", recorded(REPLAY, "4D49444980010102000300008101010012340000")),
-    ("on record: no words", recorded(CODEC, "4D494449FF000102")),
-    ("on record: a MIDI 1.0 and a MIDI 2.0 note", recorded(CODEC, "4D494449FF03010220903C4040903C0080000000")),
+    ("on record: no words", recorded(REPLAY, "4D494449FF000102")),
+    ("on record: a MIDI 1.0 and a MIDI 2.0 note", recorded(REPLAY, "4D494449FF03010220903C4040903C0080000000")),
     ("on record: a code that is in no table", recorded(REPLAY, "4D49444977010102DEADBEEF")),
     ("the signature alone", payload()),
     ("the example of the Info column", payload(data(17, NOTE, NOTE + 0x400, NOTE + 0x700), request(12, 4))),

@@ -35,7 +35,7 @@ use Rattle.sender.specs.State.{validOf as senderValid}
 use Rattle.sender.specs.Queueing.{roomOf, needOf, joinedTo, pushedAll, queuedTo, queuedOf, wordsCheck, placedOf, sentOf}
 use Rattle.sender.specs.Writing.{servedIn, servedOf, idledOf, writtenOff, newOf as newSent, writtenBy}
 use Rattle.sender.specs.Answers.{sendAnswer, writeAnswer}
-use Rattle.cases.specs.Cases.{range, Table, duesFrom, IdleTimes}
+use Rattle.cases.specs.Cases.{range, Table, PayloadTest, duesFrom, IdleTimes}
 
 -- the lost set has 32,702 positions: its ends come from laws and are not computed
 lost-far : spanOf 32766 64 (lostOf 64 0 32767) ≡ range 0 32702
@@ -86,6 +86,10 @@ table = record {
   P11 = (refl, refl);
   P12 = (refl, refl);
 }
+
+pub payload-test : PayloadTest
+unfolding payloadValid writtenOf
+payload-test = record { below = refl; above-limit = refl; above-buffer = refl; uneven = refl; limit-below = refl; limit-above = refl }
 
 pub idle-times : IdleTimes
 unfolding duesFrom typeWords divided messagesOf wholeOf slotOf ringStored ringRead headerAt wordsFrom numbered stateOk walkOk popOne popped grown pushed longer appended entryPacket fitting front behind commandsIn commandsOf longMessage above senderValid roomOf needOf joinedTo pushedAll queuedTo queuedOf wordsCheck placedOf sentOf rowOf packetsFrom servedIn servedOf idleNext idledOf sizesOf repeatsOf anyWords writtenOff newSent writtenBy sendAnswer writeAnswer checkOf payloadValid writtenOf bytesOf spliced

@@ -1,12 +1,13 @@
--- 01, "Session cases": those marked P, as one table of the definitions.
+-- 01, "Session cases": those marked P, as one table of the definitions; "State test": payloads that no call leaves.
 use Prim.Native.Nat.{ℕ, zero, suc, _≤_}
 use mathlib.Core.Bool.{false}
 use mathlib.Core.List.{List, [], _∷_}
 use mathlib.Core.Path.{_≡_}
 use lib.ListN.{take, replicate}
 use Rattle.config.specs.Settings.{defaults}
-use Rattle.config.specs.declared.refusal.Refusal.the-variants.{TooLarge}
+use Rattle.config.specs.declared.refusal.Refusal.the-variants.{TooLarge, InvalidState}
 use Rattle.packet.specs.Bytes.{bytesOf}
+use Rattle.packet.specs.Layout.{packet}
 use Rattle.packet.specs.Write.{refusedOf, writtenOf}
 use Rattle.packet.specs.declared.writer.PayloadWriter.{PayloadWriter}
 use Rattle.packet.specs.declared.writer.Write.the-variants.{Done}
@@ -99,6 +100,23 @@ pub record Table : Type 0 where
   pub P11 : (second 1400 .0 .answer ≡ commands 2) × (bytes (second 1400) ≡ bytesOf (0x4D494449 ∷ 0xFF010000 ∷ 0x20903C40 ∷ 0xFF010001 ∷ 0x20803C00 ∷ []))
   -- P12. With limit 16 instead: only the second, 12 bytes.
   pub P12 : (second 16 .0 .answer ≡ commands 1) × (bytes (second 16) ≡ bytesOf (0x4D494449 ∷ 0xFF010001 ∷ 0x20803C00 ∷ []))
+
+-- ---- payloads that no call leaves
+abbrev pub unmade : ℕ → ℕ → PayloadWriter
+unmade len max = record { len = len; max = max }
+
+-- a raw command into such a payload, in a buffer of 16 bytes: 13, and no byte is written
+abbrev pub Refuses : PayloadWriter → Type 0
+Refuses p = writtenOf p (replicate 16 0xAA) (packet 0x77 1 2 (0xDEADBEEF ∷ [])) ≡ (refusedOf p InvalidState, replicate 16 0xAA)
+
+-- "a nonempty payload length is below 8, above its limit or lent buffer, or no multiple of 4", or a limit that opening refuses
+pub record PayloadTest : Type 0 where
+  pub below : Refuses (unmade 7 1400)
+  pub above-limit : Refuses (unmade 16 12)
+  pub above-buffer : Refuses (unmade 20 1400)
+  pub uneven : Refuses (unmade 10 1400)
+  pub limit-below : Refuses (unmade 0 7)
+  pub limit-above : Refuses (unmade 0 1401)
 
 -- ---- the idle times: data written at 0, and an idle command written at each due time
 abbrev pub wroteAt : Sender × List ℕ → ℕ → Sender × List ℕ

@@ -1,8 +1,12 @@
 // Theorems as contracts: each of these functions does nothing, and its contract is the theorem.
-ghost use Rattle.cases.specs.Cases.{Table, IdleTimes};
+ghost use Rattle.cases.specs.Cases.{Table, PayloadTest, IdleTimes};
 
 pub fn session_cases()
     ensures { λ _. ⌜ Table ⌝ }
+{}
+
+pub fn payload_test()
+    ensures { λ _. ⌜ PayloadTest ⌝ }
 {}
 
 pub fn idle_times()

@@ -1,14 +1,9 @@
-// One call: its name and fields, and what it runs.
+// The call of a line: its name, its fields and its words.
 ghost use Rattle.io.specs.Counts.{Counts};
-use super::answers;
-use super::codec;
-use super::session::Session;
-use super::streams;
 use text::forms;
-use text::forms::Answer;
 use text::lines;
 
-// The entries of the table in `read`, in its order; 0 is no call.
+// The entries of the table in `found`, in its order; 0 is no call.
 pub const CFG: usize = 1;
 
 pub const OPEN: usize = 2;
@@ -63,18 +58,15 @@ pub const LAST: usize = 26;
 
 pub const QUEUELONG: usize = 27;
 
-// A call, its figures and bytes in their order, and how many words it has.
+pub const HEAR: usize = 28;
+
+// A call, the first three of its figures and bytes in their order, and how many words it has.
 pub struct Call {
     pub kind: usize,
     pub words: usize,
     pub a: u64,
     pub b: u64,
     pub c: u64,
-    pub d: u64,
-    pub e: u64,
-    pub f: u64,
-    pub g: u64,
-    pub h: u64,
 }
 
 // The most words that a call takes.
@@ -88,23 +80,23 @@ fn most(kind: usize) -> usize {
 }
 
 // The call, or 0 where a figure or the words are past what it takes: X 1, BUFFER 2,048.
-fn taken(c: Call, length: usize) -> usize {
-    let kind = c.kind;
+fn taken(call: Call, x: u64, length: usize) -> usize {
+    let kind = call.kind;
     if lines::LIMIT < length {
         return 0;
     }
-    if most(kind) < c.words {
+    if most(kind) < call.words {
         return 0;
     }
     match kind {
         CFG => {
-            if 1 < c.e {
+            if 1 < x {
                 return 0;
             }
             kind
         }
         OPEN => {
-            if 2048 < c.b {
+            if 2048 < call.b {
                 return 0;
             }
             kind
@@ -113,35 +105,57 @@ fn taken(c: Call, length: usize) -> usize {
     }
 }
 
-// Reads the call of a line, and its words.
-pub fn read(line: &[u8], words: &mut [u32]) -> Call
+fn figure(figures: &[u64], i: usize) -> u64 {
+    if i < figures.len() {
+        return figures[i];
+    }
+    0
+}
+
+// cfg T1 G K R X D M SIZE: keeps the settings, whatever their test answers.
+fn keep(kind: usize, figures: &[u64], settings: &mut [u32]) {
+    if kind != CFG {
+        return;
+    }
+    let mut i = 0;
+    while i < settings.len() {
+        settings[i] = wide(figure(figures, i));
+        i += 1;
+    }
+}
+
+// The call that a line names, its figures and its words.
+fn found(line: &[u8], figures: &mut [u64], words: &mut [u32]) -> forms::Call
     ensures { λ r. ⌜ Counts (r .words) (now (words .exit)) ⌝ }
 {
-    let mut figures = [0u64; 8];
-    let found = forms::read(
+    forms::read(
         b"cfg 44118418|open 88|raw xxx*|senddata 2*|sendrequest 22|senderror 12|\
         new 888|queue *|request 22|data 82*|poll 8|error 12|nak |reset |deadline |wants 8|\
         write 8|take |read .|payload |buffer |state |memory |window 22|next |last |\
-        queuelong *|",
+        queuelong *|hear 8.|",
         line,
-        &mut figures,
+        figures,
         words,
-    );
-    let mut c = Call {
-        kind: found.kind,
-        words: found.words,
+    )
+}
+
+// Reads the call of a line, its words and its settings.
+pub fn read(line: &[u8], words: &mut [u32], settings: &mut [u32]) -> Call
+    ensures { λ r. ⌜ Counts (r .words) (now (words .exit)) ⌝ }
+{
+    let mut figures = [0u64; 8];
+    let named = found(line, &mut figures, words);
+    let mut call = Call {
+        kind: named.kind,
+        words: named.words,
         a: figures[0],
         b: figures[1],
         c: figures[2],
-        d: figures[3],
-        e: figures[4],
-        f: figures[5],
-        g: figures[6],
-        h: figures[7],
     };
-    let kind = taken(c, line.len());
-    c.kind = kind;
-    c
+    let kind = taken(call, figures[4], line.len());
+    keep(kind, &figures, settings);
+    call.kind = kind;
+    call
 }
 
 // A figure as wide as its field; the reading has kept it within.
@@ -153,35 +167,10 @@ pub fn half(n: u64) -> u16 {
     (n % 0x1_0000) as u16
 }
 
+// A size; one that has no room in its type is as good as the largest, which is refused.
 pub fn wide(n: u64) -> u32 {
-    (n % 0x1_0000_0000) as u32
-}
-
-// A line that is no call, and the calls that change nothing.
-fn said(kind: usize) -> Answer {
-    if kind == 0 {
-        return answers::plain(answers::BAD);
+    if n < 0xFFFF_FFFF {
+        return n as u32;
     }
-    answers::plain(answers::SHOWN)
-}
-
-// Runs a call on the words and bytes that are lent to it.
-pub fn run(s: Session, c: Call, words: &[u32], memory: &mut [u32], buffer: &mut [u8]) -> Session {
-    let kind = c.kind;
-    match kind {
-        CFG => codec::cfg(s, c),
-        OPEN => codec::open(s, c, buffer),
-        RAW | SENDDATA | SENDREQUEST | SENDERROR => codec::sends(s, c, words, buffer),
-        NEW => streams::new(s, c, memory),
-        QUEUE | QUEUELONG => streams::queue(s, words, memory),
-        REQUEST => streams::request(s, c, &memory[..]),
-        DATA => streams::data(s, c),
-        POLL | ERROR | NAK => streams::events(s, c),
-        RESET => streams::reset(s, memory),
-        DEADLINE | WANTS | NEXT => s.answers(streams::asks(s.stream, c, &memory[..])),
-        WRITE => streams::write(s, c, memory, buffer),
-        TAKE => streams::take(s, buffer),
-        LAST => s.answers(s.last),
-        _ => s.answers(said(kind)),
-    }
+    0xFFFF_FFFF
 }

@@ -1,36 +1,41 @@
-// What a run holds between two calls. The words and bytes that are lent lie beside it.
+// What a run holds between two calls. The words of stream and settings lie beside it, as a C caller has
+// them, and so do the memory and the buffer that are lent.
+ghost use Rattle.io.specs.Counts.{Counts};
 use super::answers;
 use super::calls;
 use super::calls::Call;
-use config::settings::StreamConfig;
-use packet::writer::PayloadWriter;
-use stream::stream::DataStream;
 use text::forms::Answer;
+use text::lines::Input;
 
 pub struct Session {
-    pub settings: StreamConfig,
-    pub payload: PayloadWriter,
+    // How many words of the memory are the history.
+    pub size: usize,
     // How many bytes of the payload buffer are lent.
     pub room: usize,
-    pub stream: DataStream,
+    // The payload's two words: its length and its limit.
+    pub len: u64,
+    pub max: u64,
     // To the last call.
     pub answer: Answer,
     // What `last` answers.
     pub last: Answer,
+    // Where the input goes on.
+    pub from: Input,
     // The bytes of output that wait to be written.
     pub waits: usize,
 }
 
 impl Session {
-    // A run's start: the default settings, and a payload of 1,400 bytes.
-    pub fn new(stream: DataStream) -> Session {
+    // A run's start: a history of so many words, and a payload of 1,400 bytes.
+    pub fn new(size: usize) -> Session {
         Session {
-            settings: StreamConfig::DEFAULT,
-            payload: PayloadWriter { len: 0, max: 1400 },
+            size,
             room: 1400,
-            stream,
+            len: 0,
+            max: 1400,
             answer: answers::plain(answers::DONE),
-            last: answers::none(),
+            last: answers::plain(answers::NONE),
+            from: Input::new(),
             waits: 0,
         }
     }
@@ -40,35 +45,27 @@ impl Session {
         self
     }
 
-    pub fn pays(mut self, payload: PayloadWriter, answer: Answer) -> Session {
-        self.payload = payload;
-        self.answer = answer;
-        self
-    }
-
-    pub fn goes_on(mut self, stream: DataStream, answer: Answer) -> Session {
-        self.stream = stream;
+    // After a call on the payload.
+    pub fn with_payload(mut self, len: u64, max: u64, answer: Answer) -> Session {
+        self.len = len;
+        self.max = max;
         self.answer = answer;
         self
     }
 
     // After data, poll, error or nak: what their answer leaves out is kept.
-    pub fn hears(mut self, stream: DataStream, answer: Answer, last: Answer) -> Session {
-        self.stream = stream;
+    pub fn hears(mut self, answer: Answer, last: Answer) -> Session {
         self.answer = answer;
         self.last = last;
         self
     }
 
-    // How many words of the memory are lent to a call: those of the stream, or those of the new one.
+    // How many words of the memory are lent to a call: the history, or that of the new stream.
     pub fn words_lent(self, c: Call) -> usize {
         if c.kind == calls::NEW {
             return c.b as usize;
         }
-        let stream = self.stream;
-        let sender = stream.sender;
-        let history = sender.history;
-        history.size
+        self.size
     }
 
     // How many bytes of the payload buffer.
@@ -78,4 +75,14 @@ impl Session {
         }
         self.room
     }
+}
+
+// How many of the first `n` words there are.
+pub fn lent(memory: &[u32], n: usize) -> usize
+    ensures { λ r. ⌜ Counts r (now (memory .entry)) ⌝ }
+{
+    if memory.len() < n {
+        return memory.len();
+    }
+    n
 }

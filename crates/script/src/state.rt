@@ -1,4 +1,4 @@
-// The whole state of a stream as one line.
+// The state of a stream's two ends as text.
 use super::answers::bit;
 use super::answers::of;
 use super::answers::plain;
@@ -10,7 +10,6 @@ use receiver::receiver::Asked;
 use receiver::receiver::Receiver;
 use receiver::receiver::Timer;
 use sender::sender::Sender;
-use stream::stream::DataStream;
 use text::forms;
 use text::forms::Answer;
 use text::out;
@@ -77,13 +76,19 @@ fn asked(a: Asked) -> Answer {
     }
 }
 
-fn receiver(to: &mut [u8], used: usize, r: Receiver) -> usize {
+// Four fields, one after the other.
+fn four(to: &mut [u8], used: usize, a: Answer, b: Answer, c: Answer, d: Answer) -> usize {
+    let one = say(to, used, a);
+    let two = say(to, one, b);
+    let three = say(to, two, c);
+    say(to, three, d)
+}
+
+pub fn receiver(to: &mut [u8], used: usize, r: Receiver) -> usize {
     let t = r.timer;
     let a = r.asked;
-    let one = say(to, used, window(r.window));
-    let two = say(to, one, timer(t));
-    let three = say(to, two, of(FLAGS, bit(r.request_due), bit(r.refused), 0));
-    say(to, three, asked(a))
+    let flags = of(FLAGS, bit(r.request_due), bit(r.refused), 0);
+    four(to, used, window(r.window), timer(t), flags, asked(a))
 }
 
 fn places(h: SendHistory) -> Answer {
@@ -126,7 +131,7 @@ fn request(q: RetransmitRequest, place: usize) -> Answer {
 // The requests that wait, oldest first.
 fn waiting(to: &mut [u8], used: usize, q: RetransmitQueue) -> usize {
     let items = q.items;
-    let mut o = say(to, used, ring(q.len));
+    let mut o = used;
     let mut at = q.head;
     let mut i = 0;
     while i < q.len {
@@ -137,24 +142,18 @@ fn waiting(to: &mut [u8], used: usize, q: RetransmitQueue) -> usize {
     o
 }
 
-// The places and counts of the history, and the idle timer.
-fn figures(to: &mut [u8], used: usize, s: Sender) -> usize {
+// The words in use.
+fn words(to: &mut [u8], used: usize, memory: &[u32], h: SendHistory) -> usize {
+    let o = say(to, used, plain(HISTORY));
+    out::words(to, o, memory, h.head, h.used)
+}
+
+pub fn sender(to: &mut [u8], used: usize, s: Sender, memory: &[u32]) -> usize {
     let h = s.history;
     let i = s.idle;
-    let one = say(to, used, places(h));
-    let two = say(to, one, unsent(h.last, s.unsent, s.unsent_words));
-    say(to, two, idle(i))
-}
-
-fn sender(to: &mut [u8], used: usize, s: Sender, memory: &[u32]) -> usize {
-    let h = s.history;
-    let one = figures(to, used, s);
-    let two = waiting(to, one, s.queue);
-    let three = say(to, two, plain(HISTORY));
-    out::words(to, three, memory, h.head, h.used)
-}
-
-pub fn all(to: &mut [u8], used: usize, s: DataStream, memory: &[u32]) -> usize {
-    let o = receiver(to, used, s.receiver);
-    sender(to, o, s.sender, memory)
+    let q = s.queue;
+    let counts = unsent(h.last, s.unsent, s.unsent_words);
+    let one = four(to, used, places(h), counts, idle(i), ring(q.len));
+    let two = waiting(to, one, q);
+    words(to, two, memory, h)
 }

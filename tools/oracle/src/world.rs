@@ -66,6 +66,14 @@ fn item(raw: &RawCommand<'_>) -> String {
     }
 }
 
+/// What reading finds, an item of it or the header of a command that is cut.
+fn shown(found: &PacketItem<'_>) -> String {
+    match found {
+        PacketItem::Command(raw) => item(raw),
+        PacketItem::Truncated(h) => format!("cut:{:02X}:{:02X}:{:02X}:{:02X}", h.code, h.len, h.csd1, h.csd2),
+    }
+}
+
 fn reading(bytes: &[u8]) -> String {
     let packets = match command_packets(bytes) {
         Ok(packets) => packets,
@@ -74,12 +82,20 @@ fn reading(bytes: &[u8]) -> String {
     let mut out = "ok".to_string();
     for found in packets {
         out.push(' ');
-        out += &match found {
-            PacketItem::Command(raw) => item(&raw),
-            PacketItem::Truncated(h) => format!("cut:{:02X}:{:02X}:{:02X}:{:02X}", h.code, h.len, h.csd1, h.csd2),
-        };
+        out += &shown(&found);
     }
     out
+}
+
+/// The call that a command is given to, if one takes it.
+fn call_of(found: &PacketItem<'_>, now: u64) -> Option<Call> {
+    let PacketItem::Command(raw) = found else { return None };
+    Some(match raw.header.code {
+        0xFF => Call::Data { now, seq: UmpData::read(raw).seq.0, words: raw.words().collect() },
+        0x80 => RetransmitRequest::read(raw).map(|q| Call::Request { seq: q.seq.0, count: q.count }).ok()?,
+        0x81 => RetransmitError::read(raw).map(|e| Call::Error { reason: e.reason.0, seq: e.seq.0 }).ok()?,
+        _ => return None,
+    })
 }
 
 impl World {
@@ -109,6 +125,15 @@ impl World {
     fn settings_heard(&mut self) -> Result<(), u32> {
         self.last = "none".to_string();
         self.settings()
+    }
+
+    /// Each command of a payload by the call that takes it; the others as reading shows them.
+    fn hear(&mut self, now: u64, bytes: &[u8]) -> Result<String, u32> {
+        let mut answers = Vec::new();
+        for found in command_packets(bytes).map_err(normal::packet)? {
+            answers.push(call_of(&found, now).map_or_else(|| shown(&found), |call| self.answer(call)));
+        }
+        Ok(if answers.is_empty() { "-".to_string() } else { answers.join(" | ") })
     }
 
     fn run(&mut self, call: Call) -> Result<String, u32> {
@@ -177,6 +202,7 @@ impl World {
             Call::Payload => hex_bytes(&self.payload.buffer[..w.len()]),
             Call::Buffer => hex_bytes(&normal::buffer(&self.payload.buffer, w.len(), FILL)),
             Call::Read(bytes) => reading(&bytes),
+            Call::Hear { now, bytes } => self.hear(now, &bytes)?,
             Call::Data { now, seq, words } => {
                 self.settings_heard()?;
                 let bytes: Vec<u8> = words.iter().flat_map(|w| w.to_be_bytes()).collect();

@@ -12,12 +12,6 @@ Inv-loop to₀ used q items o₀ at₀ i₀ to o at i = length to ≡ length to�
 abbrev μ-loop : tie.MeasureT-loop
 μ-loop to₀ used q items o₀ at₀ i₀ to o at i = q .len - i
 
-ring-requires : tie.Need-ring-requires Inv-loop μ-loop
-ring-requires c κs = search needs
-
-say-requires : tie.Need-say-requires Inv-loop μ-loop
-say-requires c κs = search needs
-
 loop-holds : tie.Need-loop-holds Inv-loop μ-loop
 loop-holds c = search needs
 
@@ -30,8 +24,8 @@ array-copy-out-request c = search needs
 request-requires : tie.Need-request-requires Inv-loop μ-loop
 request-requires c κs = search needs
 
-say-requires-2 : tie.Need-say-requires-2 Inv-loop μ-loop
-say-requires-2 c κs = search needs
+say-requires : tie.Need-say-requires Inv-loop μ-loop
+say-requires c κs = search needs
 
 after-requires : tie.Need-after-requires Inv-loop μ-loop
 after-requires c κs = search needs
@@ -57,13 +51,11 @@ waiting-spec =
     (tie.spec
     Inv-loop
     μ-loop
-    ring-requires
-    say-requires
     loop-holds
     mul-request
     array-copy-out-request
     request-requires
-    say-requires-2
+    say-requires
     after-requires
     add-i
     loop-less
