@@ -18,16 +18,12 @@ use Rattle.receiver.specs.declared.receiver.Request.{Request}
 use Rattle.receiver.specs.declared.receiver.Request.the-variants.{Nothing as NotDue, Written as Asked, More, Refused as NotAsked}
 use Rattle.sender.specs.declared.sender.RequestOutcome.{RequestOutcome}
 use Rattle.sender.specs.declared.sender.RequestOutcome.the-variants.{Queued, Ignored, Error, NotSupported, Refused as NotServed}
-use Rattle.sender.specs.declared.sender.Send.{Send}
-use Rattle.sender.specs.declared.sender.Send.the-variants.{Accepted, Refused as NotSent}
+use Rattle.config.specs.declared.answer.Answered.{Answered}
+use Rattle.config.specs.declared.answer.Answered.the-variants.{Is, Refused as NotKnown}
+use Rattle.config.specs.declared.answer.Deadline.{Deadline}
+use Rattle.config.specs.declared.answer.Deadline.the-variants.{Nothing as NoTime, At, Refused as NotTimed}
 use Rattle.sender.specs.declared.sender.Writing.{Writing}
 use Rattle.sender.specs.declared.sender.Writing.the-variants.{Written, Refused as NotWritten}
-use Rattle.stream.specs.declared.stream.Reset.{Reset}
-use Rattle.stream.specs.declared.stream.Reset.the-variants.{Done as WasReset, Refused as NotReset}
-use Rattle.stream.specs.declared.stream.Deadline.{Deadline}
-use Rattle.stream.specs.declared.stream.Deadline.the-variants.{Nothing as NoTime, At, Refused as NotTimed}
-use Rattle.stream.specs.declared.stream.Wants.{Wants}
-use Rattle.stream.specs.declared.stream.Wants.the-variants.{Is, Refused as NotKnown}
 use Rattle.c_answers.specs.declared.answers.COutcome.{COutcome}
 use Rattle.c_answers.specs.declared.answers.CEvent.{CEvent}
 use Rattle.c_answers.specs.declared.answers.CRequest.{CRequest}
@@ -41,14 +37,6 @@ use Rattle.c_answers.specs.declared.answers.CWritten.{CWritten}
 abbrev pub bit : Bool → ℕ
 bit false = 0
 bit true = 1
-
-abbrev pub resetNumber : Reset → ℕ
-resetNumber WasReset = 0
-resetNumber (NotReset why) = numberOf why
-
-abbrev pub sendNumber : Send → ℕ
-sendNumber Accepted = 0
-sendNumber (NotSent why) = numberOf why
 
 abbrev pub spanNumbers : Span → Numbers
 spanNumbers Nothing = record { first = 0; count = 0 }
@@ -143,6 +131,6 @@ deadlineOf (NotTimed why) = deadlineRefused (numberOf why)
 abbrev pub wantsRefused : ℕ → CWants
 wantsRefused n = record { refusal = n; wants = 0 }
 
-abbrev pub wantsOf : Wants → CWants
+abbrev pub wantsOf : Answered → CWants
 wantsOf (Is b) = record { refusal = 0; wants = bit b }
 wantsOf (NotKnown why) = wantsRefused (numberOf why)

@@ -1,18 +1,15 @@
 // Answers as numbers: each has 0, or the number of a refusal, in `refusal`; then every other field
 // is 0.
 ghost use mathlib.Core.Path.{_≡_};
-ghost use Rattle.c_answers.specs.Answers.{resetNumber, sendNumber, spanNumbers, classNumber, skippedIn, classOf, deliveryOf, deliveryRefused, writtenRefused, writtenOf, acceptanceOf, ignoredNumber, outcomeRefused, outcomeOf, eventRefused, eventOf, requestRefused, requestOf, deadlineRefused, deadlineOf, wantsRefused, wantsOf};
-use config::refusal::Refusal;
+ghost use Rattle.c_answers.specs.Answers.{spanNumbers, classNumber, skippedIn, classOf, deliveryOf, deliveryRefused, writtenRefused, writtenOf, acceptanceOf, ignoredNumber, outcomeRefused, outcomeOf, eventRefused, eventOf, requestRefused, requestOf, deadlineRefused, deadlineOf, wantsRefused, wantsOf};
+use config::answer::Answered;
+use config::answer::Deadline;
 use history::queue::Ignored;
 use receiver::receiver::Hearing;
 use receiver::receiver::Request;
 use receiver::receiver::StreamEvent;
 use sender::sender::RequestOutcome;
-use sender::sender::Send;
 use sender::sender::Writing;
-use stream::stream::Deadline;
-use stream::stream::Reset;
-use stream::stream::Wants;
 use window::window::Acceptance;
 use window::window::Class;
 use window::window::Span;
@@ -83,24 +80,6 @@ pub struct CWritten {
 pub struct Numbers {
     pub first: u16,
     pub count: u16,
-}
-
-pub fn of_reset(a: Reset) -> u8
-    ensures { λ r. ⌜ r ≡ resetNumber a ⌝ }
-{
-    match a {
-        Reset::Done => 0,
-        Reset::Refused(why) => why.number(),
-    }
-}
-
-pub fn of_send(a: Send) -> u8
-    ensures { λ r. ⌜ r ≡ sendNumber a ⌝ }
-{
-    match a {
-        Send::Accepted => 0,
-        Send::Refused(why) => why.number(),
-    }
 }
 
 fn of_ignored(a: Ignored) -> u8
@@ -338,15 +317,15 @@ pub fn refused_wants(n: u8) -> CWants
     }
 }
 
-pub fn of_wants(a: Wants) -> CWants
+pub fn of_wants(a: Answered) -> CWants
     ensures { λ r. ⌜ r ≡ wantsOf a ⌝ }
 {
     match a {
-        Wants::Is(b) => CWants {
+        Answered::Is(b) => CWants {
             refusal: 0,
             wants: b as u8,
         },
-        Wants::Refused(why) => refused_wants(why.number()),
+        Answered::Refused(why) => refused_wants(why.number()),
     }
 }
 

@@ -7,10 +7,11 @@ use native.Mathlib.Omega.{arith}
 use lib.ListN.{length}
 use lib.Dec.{eqb, ltb}
 use Rattle.config.specs.Range.{outside}
+use Rattle.config.specs.Refusals.{outcomeNumber}
 use Rattle.packet.specs.Bytes.{wordsOf, spliced}
 use Rattle.packet.specs.Layout.{Packet}
 use Rattle.packet.specs.Read.{csdOf, signed, nextOf, bodyOf}
-use Rattle.packet.specs.Write.{Outcome, refused as notPut, done as put, validOf as payloadValid, openedOf, writtenOf as packetWritten}
+use Rattle.packet.specs.Write.{WriteEnds, refused as notPut, done as put, validOf as payloadValid, openedOf, writtenOf as packetWritten}
 use Rattle.packet.specs.declared.reader.Header.{Header}
 use Rattle.packet.specs.declared.reader.PacketItem.{PacketItem}
 use Rattle.packet.specs.declared.reader.PacketItem.the-variants.{Command as WholeCommand, Truncated, End}
@@ -30,7 +31,7 @@ use Rattle.reading.specs.declared.next.Read.{Read}
 use Rattle.c_words.specs.Payload.{payloadIn, payloadWords}
 use Rattle.c_words.proofs.Guards.{fit-true}
 use Rattle.c_words.proofs.Kept.{Kept, KeptOne, KeptTwo, itself, as-was, done, by-test, guard-keeps, payload-same}
-use Rattle.c_codec.specs.Exports.{writeNumber, openedInto, openExport, commandExport}
+use Rattle.c_codec.specs.Exports.{openedInto, openExport, commandExport}
 
 -- ---- a payload
 module _ (p : List ℕ) where
@@ -41,10 +42,10 @@ module _ (p : List ℕ) where
 
 module _ (p b : List ℕ) where
   abbrev PutKept : Wrote × List ℕ → Type 0
-  PutKept = Kept (λ (e : Wrote × List ℕ). writeNumber (e .0 .answer)) (λ (e : Wrote × List ℕ). (payloadWords (e .0 .payload) ≡ p) × (e .1 ≡ b))
+  PutKept = Kept (λ (e : Wrote × List ℕ). outcomeNumber (e .0 .answer)) (λ (e : Wrote × List ℕ). (payloadWords (e .0 .payload) ≡ p) × (e .1 ≡ b))
 
   module _ (x : PayloadWriter) (same : payloadWords x ≡ p) where
-    outcome-kept : (c : Packet) (e : Wrote × List ℕ) → Outcome x b c e → PutKept e
+    outcome-kept : (c : Packet) (e : Wrote × List ℕ) → WriteEnds x b c e → PutKept e
     outcome-kept c e (notPut why) = as-was (same, refl)
     outcome-kept c e (put f l) = done refl
 
@@ -68,7 +69,7 @@ module _ (p b : List ℕ) where
   command-keeps : (write : PayloadWriter → Wrote × List ℕ) → (payloadWords (payloadIn p) ≡ p → PutKept (write (payloadIn p))) → KeptTwo itself p b (commandExport write p b)
   unfolding commandExport
   command-keeps write f =
-      guard-keeps _ _ (λ (e : Wrote × List ℕ). (writeNumber (e .0 .answer), payloadWords (e .0 .payload), e .1)) _ _ (write (payloadIn p))
+      guard-keeps _ _ (λ (e : Wrote × List ℕ). (outcomeNumber (e .0 .answer), payloadWords (e .0 .payload), e .1)) _ _ (write (payloadIn p))
       (λ z. f (payload-same p (fit-true _ z))) (refl, refl)
 
   pub packet-keeps : (c : Packet) → KeptTwo itself p b (commandExport (λ w. packetWritten w b c) p b)

@@ -4,15 +4,16 @@ use mathlib.Core.List.{List}
 use Prim.Native.Nat.{ℕ}
 use lib.ListN.{length}
 use borrow.Author.Tests.{eq-eqb, ne-eqb}
+use Rattle.config.specs.Refusals.{outcomeNumber}
 use Rattle.packet.specs.declared.writer.PayloadWriter.{PayloadWriter}
 use Rattle.packet.specs.declared.writer.Wrote.{Wrote}
 use Rattle.c_words.specs.Payload.{payloadIn, payloadWords}
 use Rattle.c_words.proofs.Guards.{made-fit, refused-fit}
-use Rattle.c_codec.specs.Exports.{writeNumber, commandExport}
+use Rattle.c_codec.specs.Exports.{commandExport}
 
 module _ (write : PayloadWriter → Wrote × List ℕ) (p b : List ℕ) where
   pub written : (x : PayloadWriter) (w : Wrote) (bytes p′ : List ℕ) (n : ℕ) → length p ≡ 2
-      → x ≡ payloadIn p → (w, bytes) ≡ write x → p′ ≡ payloadWords (w .payload) → n ≡ writeNumber (w .answer)
+      → x ≡ payloadIn p → (w, bytes) ≡ write x → p′ ≡ payloadWords (w .payload) → n ≡ outcomeNumber (w .answer)
       → (n, p′, bytes) ≡ commandExport write p b
   unfolding commandExport
   written x w bytes p′ n two e f g h =

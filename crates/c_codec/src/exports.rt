@@ -5,7 +5,7 @@ ghost use Rattle.packet.specs.Write.{writtenOf};
 ghost use Rattle.packet.specs.Layout.{packet};
 ghost use Rattle.reading.specs.Next.{readAt};
 ghost use Rattle.command.specs.Write.{dataWritten, requestPacket, errorWritten};
-ghost use Rattle.c_codec.specs.Exports.{writeNumber, openExport, commandExport};
+ghost use Rattle.c_codec.specs.Exports.{openExport, commandExport};
 use c_words::guard;
 use c_words::payload;
 use command::data::UmpData;
@@ -13,19 +13,8 @@ use command::retransmit::RetransmitError;
 use command::retransmit::RetransmitRequest;
 use packet::writer::Opened;
 use packet::writer::PayloadWriter;
-use packet::writer::Write;
 use reading::next;
 use reading::next::Read;
-
-// 0, or why a command is not written.
-fn of_write(a: Write) -> u8
-    ensures { λ r. ⌜ r ≡ writeNumber a ⌝ }
-{
-    match a {
-        Write::Done => 0,
-        Write::Refused(why) => why.number(),
-    }
-}
 
 // An empty payload; 4 when the limit is not 8 to 1,400 bytes.
 #[no_mangle]
@@ -64,7 +53,7 @@ pub extern "C" fn sirmjold_payload_command(
         let after = done.payload;
         let answer = done.answer;
         payload::store(after, p);
-        return of_write(answer);
+        return answer.number();
     }
     guard::INVALID_STATE
 }
@@ -84,7 +73,7 @@ pub extern "C" fn sirmjold_ump_data_write(
         let after = done.payload;
         let answer = done.answer;
         payload::store(after, p);
-        return of_write(answer);
+        return answer.number();
     }
     guard::INVALID_STATE
 }
@@ -105,7 +94,7 @@ pub extern "C" fn sirmjold_retransmit_request_write(
         let after = done.payload;
         let answer = done.answer;
         payload::store(after, p);
-        return of_write(answer);
+        return answer.number();
     }
     guard::INVALID_STATE
 }
@@ -126,7 +115,7 @@ pub extern "C" fn sirmjold_retransmit_error_write(
         let after = done.payload;
         let answer = done.answer;
         payload::store(after, p);
-        return of_write(answer);
+        return answer.number();
     }
     guard::INVALID_STATE
 }

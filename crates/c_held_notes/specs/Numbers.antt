@@ -2,7 +2,7 @@
 use Prim.Native.Nat.{ℕ}
 use mathlib.Core.Bool.{Bool, cond, _||_}
 use lib.Dec.{eqb}
-use Rattle.config.specs.Refusals.{numberOf}
+use Rattle.config.specs.Refusals.{outcomeNumber}
 use Rattle.config.specs.declared.refusal.Refusal.the-variants.{InvalidState}
 use Rattle.window.specs.declared.window.Class.{Class}
 use Rattle.window.specs.declared.window.Class.the-variants.{New, Late, Duplicate}
@@ -12,8 +12,6 @@ use Rattle.receiver.specs.declared.receiver.Hearing.{Hearing}
 use Rattle.receiver.specs.declared.receiver.Hearing.the-variants.{Delivery as Delivered, Refused as HearingRefused}
 use Rattle.receiver.specs.declared.receiver.StreamEvent.{StreamEvent}
 use Rattle.receiver.specs.declared.receiver.StreamEvent.the-variants.{Nothing as NoEvent, DataLoss}
-use Rattle.held_notes.specs.declared.held.Answer.{Answer}
-use Rattle.held_notes.specs.declared.held.Answer.the-variants.{Done, Refused}
 use Rattle.held_notes.specs.declared.held.Given.{Given as Left}
 use Rattle.c_held_notes.specs.declared.exports.CGiven.{CGiven}
 
@@ -34,9 +32,5 @@ eventOf kind = cond (eqb kind 1 || eqb kind 2) (DataLoss record { first = 0; cou
 
 -- ---- what is given
 
-abbrev pub answerNumber : Answer → ℕ
-answerNumber Done = 0
-answerNumber (Refused why) = numberOf why
-
 unfoldable pub givenOf : Left → CGiven
-givenOf g = record { state = g .state; notes = g .notes; refusal = answerNumber (g .answer) }
+givenOf g = record { state = g .state; notes = g .notes; refusal = outcomeNumber (g .answer) }

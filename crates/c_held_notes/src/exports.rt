@@ -3,10 +3,9 @@ ghost use mathlib.Core.Path.{_≡_};
 ghost use Rattle.packet.specs.Bytes.{wordsOf};
 ghost use Rattle.held_notes.specs.Calls.{delivered, told, restarted};
 ghost use Rattle.held_notes.specs.Answers.{answerOf, startOf};
-ghost use Rattle.c_held_notes.specs.Numbers.{classOf, spanOf, hearingOf, eventOf, answerNumber, givenOf};
+ghost use Rattle.c_held_notes.specs.Numbers.{classOf, spanOf, hearingOf, eventOf, givenOf};
 use config::refusal::Refusal;
 use held_notes::held;
-use held_notes::held::Answer;
 use held_notes::held::Given;
 use held_notes::held::HeldNotes;
 use held_notes::listing::Notes;
@@ -78,22 +77,13 @@ fn event_of(kind: u8) -> StreamEvent
     StreamEvent::Nothing
 }
 
-fn number(answer: Answer) -> u8
-    ensures { λ r. ⌜ r ≡ answerNumber answer ⌝ }
-{
-    match answer {
-        Answer::Done => 0,
-        Answer::Refused(why) => why.number(),
-    }
-}
-
 fn as_numbers(g: Given) -> CGiven
     ensures { λ r. ⌜ r ≡ givenOf g ⌝ }
 {
     let answer = g.answer;
     let state = g.state;
     let notes = g.notes;
-    let refusal = number(answer);
+    let refusal = answer.number();
     CGiven {
         state,
         notes,

@@ -10,7 +10,7 @@ use borrow.Author.Tests.{eqb-true}
 use Rattle.config.specs.declared.settings.StreamConfig.{StreamConfig}
 use Rattle.config.specs.declared.refusal.Refusal.the-variants.{TooLarge}
 use Rattle.packet.specs.Layout.{Packet, sizeOf}
-use Rattle.packet.specs.Write.{Outcome, refused, done, startOf, writtenOf}
+use Rattle.packet.specs.Write.{WriteEnds, refused, done, startOf, writtenOf}
 use Rattle.packet.specs.declared.writer.PayloadWriter.{PayloadWriter}
 use Rattle.packet.specs.declared.writer.Wrote.{Wrote as CommandWrote}
 use Rattle.packet.proofs.Outcomes.{outcome}
@@ -42,7 +42,7 @@ some-after p c z = four (startOf p) (length (c .words)) z
     four : (a n : ℕ) → a + (4 + 4 * n) ≡ 0 → ⊥
     four a n e = omega arith
 
-row-one : (p : PayloadWriter) (b : List ℕ) (c : Packet) (cs : List Packet) (w : CommandWrote × List ℕ) → Outcome p b c w
+row-one : (p : PayloadWriter) (b : List ℕ) (c : Packet) (cs : List Packet) (w : CommandWrote × List ℕ) → WriteEnds p b c w
     → Since (w .0 .payload) (w .1) (rowOf (w .0 .payload) (w .1) cs .payload) (rowOf (w .0 .payload) (w .1) cs .bytes)
     → let r = oneMore (w .0 .answer) (w .0 .payload) (w .1) (rowOf (w .0 .payload) (w .1) cs) in Since p b (r .payload) (r .bytes)
 row-one p b c cs w (refused why) t = as-before

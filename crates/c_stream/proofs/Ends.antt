@@ -4,6 +4,7 @@ use mathlib.Core.Bool.{true, _&&_}
 use mathlib.Core.List.{List}
 use Prim.Native.Nat.{ℕ}
 use lib.ListN.{length}
+use Rattle.config.specs.inner.Choices.{and-both}
 use Rattle.config.specs.inner.Tests.{and-left}
 use Rattle.stream.specs.Ends.{sendAnswer, requestAnswer, dataAnswer, errorAnswer, nakAnswer, pollAnswer, takeAnswer}
 use Rattle.c_answers.specs.declared.answers.CDelivery.{CDelivery}
@@ -17,7 +18,7 @@ use Rattle.c_words.specs.Settings.{settingsNumber, readyNumber}
 use Rattle.c_state.specs.Stream.{streamWords, receiverFits, senderFits, fits, loaded, receiverPart, senderPart}
 use Rattle.c_state.specs.Theorems.{Wide}
 use Rattle.c_stream.specs.Theorems.{OtherEnd, WholeStream}
-use Rattle.c_words.proofs.Guards.{by-number, guarded-made, fit-true, ready-fits, ready-of, both-true}
+use Rattle.c_words.proofs.Guards.{by-number, guarded-made, fit-true, ready-fits, ready-of}
 use Rattle.c_state.proofs.Ends.{receiver-whole, sender-whole, both-receiver, both-sender, sender-stays, receiver-stays, receiver-stored, sender-stored}
 
 module _ (st : List ℕ) where
@@ -61,5 +62,5 @@ module _ (st : List ℕ) where
           error = λ reason seq. guarded-made _ _ _ fit-number ∙ rw (receiver-stored st all wide);
           nak = guarded-made _ _ _ fit-number ∙ rw (receiver-stored st all wide);
           poll = λ cfg time s. guarded-made _ _ _ (receiver-ready cfg s) ∙ rw (receiver-stored st all wide);
-          take = λ cfg p b s two. guarded-made _ _ _ (ready-of cfg (receiverFits st && payloadFits p) s (both-true (receiverFits st) (payloadFits p) (both-receiver st all) two)) ∙ rw (receiver-stored st all wide);
+          take = λ cfg p b s two. guarded-made _ _ _ (ready-of cfg (receiverFits st && payloadFits p) s (and-both (both-receiver st all) two)) ∙ rw (receiver-stored st all wide);
         }

@@ -1,18 +1,21 @@
 -- A refused call hands back what it was given, and words that fit are stored back as they were.
 use mathlib.Core.Path.{_≡_, refl, ap, _∙_}
-use mathlib.Core.Bool.{Bool, true, false, cond, not, _&&_}
+use mathlib.Core.Bool.{Bool, true, false, not, _&&_}
 use mathlib.Core.List.{List}
 use Prim.Native.Nat.{ℕ, _-_}
 use lib.ListN.{length}
 use lib.Dec.{eqb, leb, ltb}
+use Rattle.config.specs.Entry.{entry}
+use Rattle.config.specs.inner.Choices.{and-both, by-check}
 use Rattle.config.specs.inner.Tests.{and-left, and-right}
-use Rattle.config.specs.Settings.{checkOf, tested}
+use Rattle.config.specs.Refusals.{outcomeNumber}
+use Rattle.config.specs.Settings.{checkOf}
 use Rattle.config.specs.declared.refusal.Refusal.{Refusal}
-use Rattle.config.specs.declared.refusal.Refusal.the-variants.{TooLarge, InvalidState}
-use Rattle.config.specs.declared.settings.Check.{Check}
-use Rattle.config.specs.declared.settings.Check.the-variants.{Passed, Refused}
+use Rattle.config.specs.declared.refusal.Refusal.the-variants.{TooLarge}
+use Rattle.config.specs.declared.answer.Outcome.{Outcome}
+use Rattle.config.specs.declared.answer.Outcome.the-variants.{Done, Refused}
 use Rattle.config.specs.declared.settings.StreamConfig.{StreamConfig}
-use Rattle.packet.specs.Write.{Outcome, refused as notPut, done as put, validOf as payloadValid}
+use Rattle.packet.specs.Write.{WriteEnds, refused as notPut, done as put, validOf as payloadValid}
 use Rattle.packet.specs.declared.writer.PayloadWriter.{PayloadWriter}
 use Rattle.packet.specs.declared.writer.Wrote.{Wrote as CommandWrote}
 use Rattle.packet.proofs.Outcomes.{outcome}
@@ -47,17 +50,15 @@ use Rattle.sender.specs.declared.sender.Requested.{Requested}
 use Rattle.sender.specs.declared.sender.Writing.{Writing}
 use Rattle.stream.specs.State.{validOf as streamValid, withReceiver as withReceiverOf}
 use Rattle.stream.specs.Ends.{sendAnswer, requestAnswer, dataAnswer, errorAnswer, nakAnswer, pollAnswer, takeAnswer}
-use Rattle.stream.specs.Answers.{newAnswer, resetAnswer}
+use Rattle.stream.specs.Answers.{newAnswer, resetRefused, resetAnswer}
 use Rattle.stream.specs.Writing.{writeRefused, countedAlso, sentAfter, afterRequest, dataWritten as streamWritten, writeAnswer}
 use Rattle.stream.specs.declared.stream.DataStream.{DataStream}
-use Rattle.stream.specs.declared.stream.Start.{Start}
-use Rattle.stream.specs.declared.stream.Start.the-variants.{Done as Begun, Refused as NotStarted}
 use Rattle.stream.specs.declared.stream.WasReset.{WasReset}
 use Rattle.stream.specs.declared.stream.Wrote.{Wrote}
 use Rattle.c_state.specs.Stream.{receiverFits, senderFits, fits, receiverIn, senderIn, loaded, stored, withReceiver, withSender}
 use Rattle.c_words.specs.Settings.{readyNumber, settingsOf}
 use Rattle.c_words.specs.Payload.{payloadFits, payloadIn, payloadWords}
-use Rattle.c_answers.specs.Answers.{resetNumber, sendNumber, deliveryOf, outcomeOf, eventOf, requestOf, writtenOf}
+use Rattle.c_answers.specs.Answers.{deliveryOf, outcomeOf, eventOf, requestOf, writtenOf}
 use Rattle.c_stream.specs.Exports.{startedInto as streamInto, newExport, resetExport, sendExport, requestExport, dataExport, errorExport, nakExport, pollExport, takeExport, writeExport}
 use Rattle.c_state.specs.Theorems.{Wide}
 use Rattle.c_answers.specs.declared.answers.CDelivery.{CDelivery}
@@ -65,8 +66,8 @@ use Rattle.c_answers.specs.declared.answers.COutcome.{COutcome}
 use Rattle.c_answers.specs.declared.answers.CEvent.{CEvent}
 use Rattle.c_answers.specs.declared.answers.CRequest.{CRequest}
 use Rattle.c_answers.specs.declared.answers.CWritten.{CWritten}
-use Rattle.c_words.proofs.Guards.{either, by-number, guarded-made, fit-true, ready-settings, ready-fits, ready-of, both-true}
-use Rattle.c_words.proofs.Kept.{Kept, KeptOne, KeptTwo, itself, as-was, done, by-test, by-check, guard-keeps, payload-same}
+use Rattle.c_words.proofs.Guards.{either, by-number, guarded-made, fit-true, ready-settings, ready-fits, ready-of}
+use Rattle.c_words.proofs.Kept.{Kept, KeptOne, KeptTwo, itself, as-was, done, by-test, by-state, by-entry, guard-keeps, payload-same}
 use Rattle.c_stream.proofs.Emptiness.{Since, as-before, not-empty, some-after, Tried, wrote, large, tried-since, written-tried}
 use Rattle.c_state.proofs.Ends.{both-receiver}
 use Rattle.c_state.proofs.StoredBack.{receiver-same, sender-same, stream-same}
@@ -109,19 +110,19 @@ module _ (st : List ℕ) where
   module _ (r : Receiver) (same : withReceiver st r ≡ st) where
     heard-kept : (cfg : StreamConfig) (time seq : ℕ) → HeardKept (receiver.dataAnswer r cfg time seq)
     unfolding receiver.dataAnswer heardOf
-    heard-kept cfg time seq = by-check (checkOf cfg) (not (receiverValid r)) (receiver.hearingRefused r) _ _ (λ why. as-was same) (done refl)
+    heard-kept cfg time seq = by-entry (checkOf cfg) (receiverValid r) (receiver.hearingRefused r) _ (λ why. as-was same) (done refl)
 
     polled-kept : (cfg : StreamConfig) (time : ℕ) → ToldKept (receiver.pollAnswer r cfg time)
     unfolding receiver.pollAnswer polledOf
-    polled-kept cfg time = by-check (checkOf cfg) (not (receiverValid r)) (receiver.eventRefused r) _ _ (λ why. as-was same) (polled r cfg time (r .timer))
+    polled-kept cfg time = by-entry (checkOf cfg) (receiverValid r) (receiver.eventRefused r) _ (λ why. as-was same) (polled r cfg time (r .timer))
 
     errored-kept : (e : RetransmitError) → ToldKept (receiver.errorAnswer r e)
     unfolding receiver.errorAnswer erroredOf
-    errored-kept e = by-test (not (receiverValid r)) _ _ (λ _. as-was same) (errored r e (r .asked))
+    errored-kept e = by-state (receiverValid r) (receiver.eventRefused r) _ (λ why. as-was same) (errored r e (r .asked))
 
     naked-kept : ToldKept (receiver.nakAnswer r)
     unfolding receiver.nakAnswer nakedOf
-    naked-kept = by-test (not (receiverValid r)) _ _ (λ _. as-was same) (naked r (r .asked))
+    naked-kept = by-state (receiverValid r) (receiver.eventRefused r) _ (λ why. as-was same) (naked r (r .asked))
 
   pub hear-keeps : (cfg : List ℕ) (time seq : ℕ) → KeptOne (λ (a : CDelivery). a .refusal) st (dataExport st cfg time seq)
   unfolding dataExport dataAnswer loaded
@@ -151,7 +152,7 @@ module _ (st : List ℕ) where
 -- ---- the sender's calls, and a reset
 module _ (st ring : List ℕ) where
   abbrev SentKept : Sent × List ℕ → Type 0
-  SentKept = Kept (λ (e : Sent × List ℕ). sendNumber (e .0 .answer)) (λ (e : Sent × List ℕ). (withSender st (e .0 .sender) ≡ st) × (e .1 ≡ ring))
+  SentKept = Kept (λ (e : Sent × List ℕ). outcomeNumber (e .0 .answer)) (λ (e : Sent × List ℕ). (withSender st (e .0 .sender) ≡ st) × (e .1 ≡ ring))
 
   abbrev RequestedKept : Requested → Type 0
   RequestedKept = Kept (λ (e : Requested). outcomeOf (e .outcome) .refusal) (λ (e : Requested). withSender st (e .sender) ≡ st)
@@ -172,15 +173,15 @@ module _ (st ring : List ℕ) where
     unfolding sender.sendAnswer sentOf placedOf queuedOf
     sent-kept ws =
         let max : ℕ = cfg .«max_command_words» in
-        by-check (checkOf cfg) (not (senderValid s ring)) (unsent s ring) _ _ (λ why. as-was (same, refl))
+        by-entry (checkOf cfg) (senderValid s ring) (unsent s ring) _ (λ why. as-was (same, refl))
         (by-test (eqb (length ws) 0) _ _ (λ _. done refl)
-        (by-check (wordsCheck max ws) (ltb (s .history .size - s .«unsent_words») (needOf s ring max ws)) (unsent s ring) _ _ (λ why. as-was (same, refl))
-        (done refl)))
+        (by-check SentKept (wordsCheck max ws) (unsent s ring) _ (λ why. as-was (same, refl))
+        (λ _. by-test (ltb (s .history .size - s .«unsent_words») (needOf s ring max ws)) _ _ (λ _. as-was (same, refl)) (done refl))))
 
     requested-kept : (r : RetransmitRequest) → RequestedKept (sender.requestAnswer s cfg ring r)
     unfolding sender.requestAnswer requestedOf
     requested-kept r =
-        by-check (checkOf cfg) (not (senderValid s ring)) (sender.requestRefused s) _ _ (λ why. as-was same)
+        by-entry (checkOf cfg) (senderValid s ring) (sender.requestRefused s) _ (λ why. as-was same)
         (by-test (not (cfg .retransmit)) _ _ (λ _. done refl)
         (by-test (notWritten s (r .seq)) _ _ (λ _. done refl)
         (record { kept = pushed-kept s r .kept })))
@@ -189,7 +190,7 @@ module _ (st ring : List ℕ) where
     pub send-keeps : (cfg ws : List ℕ) → KeptTwo itself st ring (sendExport st cfg ring ws)
     unfolding sendExport sendAnswer loaded
     send-keeps cfg ws =
-        guard-keeps _ _ (λ (e : Sent × List ℕ). (sendNumber (e .0 .answer), withSender st (e .0 .sender), e .1)) _ _ (sender.sendAnswer (senderIn st) (settingsOf cfg) ring ws)
+        guard-keeps _ _ (λ (e : Sent × List ℕ). (outcomeNumber (e .0 .answer), withSender st (e .0 .sender), e .1)) _ _ (sender.sendAnswer (senderIn st) (settingsOf cfg) ring ws)
         (λ z. sent-kept (senderIn st) (settingsOf cfg) (sender-same st wide (ready-fits cfg (senderFits st) z)) ws) (refl, refl)
 
     pub request-keeps : (cfg : List ℕ) (seq count : ℕ) → KeptOne (λ (a : COutcome). a .refusal) st (requestExport st cfg ring seq count)
@@ -200,23 +201,23 @@ module _ (st ring : List ℕ) where
         (λ z. requested-kept (senderIn st) (settingsOf cfg) (sender-same st wide (ready-fits cfg (senderFits st) z)) record { seq = seq; count = count }) refl
 
     abbrev ResetKept : WasReset × List ℕ → Type 0
-    ResetKept = Kept (λ (e : WasReset × List ℕ). resetNumber (e .0 .answer)) (λ (e : WasReset × List ℕ). (stored (e .0 .stream) ≡ st) × (e .1 ≡ ring))
+    ResetKept = Kept (λ (e : WasReset × List ℕ). outcomeNumber (e .0 .answer)) (λ (e : WasReset × List ℕ). (stored (e .0 .stream) ≡ st) × (e .1 ≡ ring))
 
     was-reset-kept : stored (loaded st) ≡ st → ResetKept (resetAnswer (loaded st) ring)
     unfolding resetAnswer
-    was-reset-kept same = by-test (not (streamValid (loaded st) ring)) _ _ (λ _. as-was (same, refl)) (done refl)
+    was-reset-kept same = by-state (streamValid (loaded st) ring) (resetRefused (loaded st) ring) _ (λ why. as-was (same, refl)) (done refl)
 
     pub reset-keeps : KeptTwo itself st ring (resetExport st ring)
     unfolding resetExport
     reset-keeps =
-        guard-keeps _ _ (λ (e : WasReset × List ℕ). (resetNumber (e .0 .answer), stored (e .0 .stream), e .1)) _ _ (resetAnswer (loaded st) ring)
+        guard-keeps _ _ (λ (e : WasReset × List ℕ). (outcomeNumber (e .0 .answer), stored (e .0 .stream), e .1)) _ _ (resetAnswer (loaded st) ring)
         (λ z. was-reset-kept (stream-same st wide (fit-true _ z))) (refl, refl)
 
 -- ---- a start
 module _ (st ring : List ℕ) where
-  started-kept : (a : Start) (stream : DataStream) (after : List ℕ) → KeptTwo itself st ring (streamInto a stream after st ring)
-  started-kept Begun stream after = done refl
-  started-kept (NotStarted why) stream after = as-was (refl, refl)
+  started-kept : (a : Outcome) (stream : DataStream) (after : List ℕ) → KeptTwo itself st ring (streamInto a stream after st ring)
+  started-kept Done stream after = done refl
+  started-kept (Refused why) stream after = as-was (refl, refl)
 
   pub new-keeps : (cfg : List ℕ) (window places : ℕ) → KeptTwo itself st ring (newExport st cfg window places ring)
   unfolding newExport
@@ -233,7 +234,7 @@ data Taking (r : Receiver) (p : PayloadWriter) (b : List ℕ) : ReceiverTaken ×
   taken : (next : Receiver) (after : PayloadWriter) (bytes : List ℕ) → (after .len ≡ 0 → ⊥) → Taking r p b (record { receiver = next; payload = after; answer = Taken }, bytes)
 
 module _ (r : Receiver) (p : PayloadWriter) (b : List ℕ) where
-  offered : (q : RetransmitRequest) (w : CommandWrote × List ℕ) → Outcome p b (requestPacket q) w
+  offered : (q : RetransmitRequest) (w : CommandWrote × List ℕ) → WriteEnds p b (requestPacket q) w
       → Taking r p b (takenBy r q (w .0 .payload) (w .0 .answer), w .1)
   offered q w (notPut why) =
       either (λ (a : Request). Taking r p b (record { receiver = r; payload = p; answer = a }, b)) (eqb (p .len) 0) _ _ (λ _. refused TooLarge) more
@@ -274,7 +275,7 @@ module _ (st p b : List ℕ) where
     take-kept : (cfg : StreamConfig) → TakenKept (receiver.takeAnswer r cfg x b)
     unfolding receiver.takeAnswer
     take-kept cfg =
-        by-check (checkOf cfg) (not (receiverValid r && payloadValid x (length b))) (receiver.requestRefused r x b) _ _ (λ why. as-was (same, whole, refl))
+        by-entry (checkOf cfg) (receiverValid r && payloadValid x (length b)) (receiver.requestRefused r x b) _ (λ why. as-was (same, whole, refl))
         (taken-kept _ (taking r x b cfg))
 
   pub take-keeps : (cfg : List ℕ) → TakeKept (takeExport st cfg p b)
@@ -337,20 +338,20 @@ module _ (st p b ring : List ℕ) where
       wrote-kept : WroteKept (writeAnswer d cfg now x b ring)
       unfolding writeAnswer streamWritten
       wrote-kept =
-          by-check (checkOf cfg) (not (streamValid d ring && payloadValid x (length b))) (writeRefused d x b ring) _ _
+          by-entry (checkOf cfg) (streamValid d ring && payloadValid x (length b)) (writeRefused d x b ring) _
           (λ why. as-was (whole, refl, λ g. (same, whole, refl, refl)))
           (request-kept _ (taking (d .receiver) x b cfg))
 
       -- the tests of the request's write are among those of the whole write
-      by-request : (c : Check) (r s payload : Bool) (e : ReceiverTaken × List ℕ) (f : Wrote × List ℕ × List ℕ)
+      by-request : (c : Outcome) (r s payload : Bool) (e : ReceiverTaken × List ℕ) (f : Wrote × List ℕ × List ℕ)
           → ((requestOf (e .0 .answer) .refusal ≡ 0 → ⊥) → WroteSame f)
-          → (requestOf (tested c (receiver.requestRefused (d .receiver) x b) (cond (not (r && payload)) (receiver.requestRefused (d .receiver) x b InvalidState) e) .0 .answer) .refusal ≡ 0 → ⊥)
-          → WroteSame (tested c (writeRefused d x b ring) (cond (not ((r && s) && payload)) (writeRefused d x b ring InvalidState) f))
+          → (requestOf (entry c (r && payload) (receiver.requestRefused (d .receiver) x b) e .0 .answer) .refusal ≡ 0 → ⊥)
+          → WroteSame (entry c ((r && s) && payload) (writeRefused d x b ring) f)
       by-request (Refused why) r s payload e f g n = (same, whole, refl, refl)
-      by-request Passed false s payload e f g n = (same, whole, refl, refl)
-      by-request Passed true false payload e f g n = (same, whole, refl, refl)
-      by-request Passed true true false e f g n = (same, whole, refl, refl)
-      by-request Passed true true true e f g n = g n
+      by-request Done false s payload e f g n = (same, whole, refl, refl)
+      by-request Done true false payload e f g n = (same, whole, refl, refl)
+      by-request Done true true false e f g n = (same, whole, refl, refl)
+      by-request Done true true true e f g n = g n
 
       wrote-same : (requestOf (receiver.takeAnswer (d .receiver) cfg x b .0 .answer) .refusal ≡ 0 → ⊥) → WroteSame (writeAnswer d cfg now x b ring)
       unfolding writeAnswer streamWritten streamValid receiver.takeAnswer
@@ -376,7 +377,7 @@ module _ (st p b ring : List ℕ) where
         let f = ready-fits cfg (fits st && payloadFits p) e in
         let whole = and-left (fits st) (payloadFits p) f in
         let two = and-right (fits st) (payloadFits p) f in
-        let z = ready-of cfg (receiverFits st && payloadFits p) (ready-settings cfg (fits st && payloadFits p) e) (both-true (receiverFits st) (payloadFits p) (both-receiver st whole) two) in
+        let z = ready-of cfg (receiverFits st && payloadFits p) (ready-settings cfg (fits st && payloadFits p) e) (and-both (both-receiver st whole) two) in
         wrote-same (payloadIn p) (payload-same p two) (loaded st) (settingsOf cfg) time (stream-same st wide whole)
         (λ k. n (ap (λ (a : CRequest × List ℕ × List ℕ × List ℕ). a .0 .refusal) (guarded-made (readyNumber cfg (receiverFits st && payloadFits p)) _ _ z) ∙ k)))
         (refl, refl, refl, refl)

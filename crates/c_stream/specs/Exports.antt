@@ -10,8 +10,8 @@ use Rattle.stream.specs.Ends.{sendAnswer, dataAnswer, requestAnswer, errorAnswe
 use Rattle.stream.specs.Answers.{newAnswer, resetAnswer, deadlineAnswer, wantsAnswer}
 use Rattle.stream.specs.Writing.{writeAnswer}
 use Rattle.stream.specs.declared.stream.DataStream.{DataStream}
-use Rattle.stream.specs.declared.stream.Start.{Start}
-use Rattle.stream.specs.declared.stream.Start.the-variants.{Done, Refused as NotStarted}
+use Rattle.config.specs.declared.answer.Outcome.{Outcome}
+use Rattle.config.specs.declared.answer.Outcome.the-variants.{Done, Refused}
 use Rattle.stream.specs.declared.stream.Started.{Started}
 use Rattle.stream.specs.declared.stream.WasReset.{WasReset}
 use Rattle.stream.specs.declared.stream.Sent.{Sent}
@@ -24,7 +24,7 @@ use Rattle.c_state.specs.Stream.{streamWords, fits, receiverFits, senderFits, l
 use Rattle.c_words.specs.Guard.{guarded, fitNumber}
 use Rattle.c_words.specs.Settings.{readyNumber, settingsOf}
 use Rattle.c_words.specs.Payload.{payloadFits, payloadIn, payloadWords}
-use Rattle.c_answers.specs.Answers.{resetNumber, sendNumber, deliveryOf, deliveryRefused, writtenOf, writtenRefused, outcomeOf, outcomeRefused, eventOf, eventRefused, requestOf, requestRefused, deadlineOf, deadlineRefused, wantsOf, wantsRefused}
+use Rattle.c_answers.specs.Answers.{deliveryOf, deliveryRefused, writtenOf, writtenRefused, outcomeOf, outcomeRefused, eventOf, eventRefused, requestOf, requestRefused, deadlineOf, deadlineRefused, wantsOf, wantsRefused}
 use Rattle.c_answers.specs.declared.answers.CDelivery.{CDelivery}
 use Rattle.c_answers.specs.declared.answers.CWritten.{CWritten}
 use Rattle.c_answers.specs.declared.answers.COutcome.{COutcome}
@@ -32,13 +32,13 @@ use Rattle.c_answers.specs.declared.answers.CEvent.{CEvent}
 use Rattle.c_answers.specs.declared.answers.CRequest.{CRequest}
 use Rattle.c_answers.specs.declared.answers.CDeadline.{CDeadline}
 use Rattle.c_answers.specs.declared.answers.CWants.{CWants}
-use Rattle.config.specs.Refusals.{numberOf}
+use Rattle.config.specs.Refusals.{numberOf, outcomeNumber}
 
 -- ---- both ends: the answer's number, the stream's words and the lent history
 -- a start that is refused leaves the words and the history as they were
-abbrev pub startedInto : Start → DataStream → List ℕ → List ℕ → List ℕ → ℕ × List ℕ × List ℕ
+abbrev pub startedInto : Outcome → DataStream → List ℕ → List ℕ → List ℕ → ℕ × List ℕ × List ℕ
 startedInto Done stream after st ring = (0, stored stream, after)
-startedInto (NotStarted why) stream after st ring = (numberOf why, st, ring)
+startedInto (Refused why) stream after st ring = (numberOf why, st, ring)
 
 -- the lent history is the whole of its slice
 unfoldable pub newExport : List ℕ → List ℕ → ℕ → ℕ → List ℕ → ℕ × List ℕ × List ℕ
@@ -47,14 +47,14 @@ newExport st cfg window places ring =
     guarded (readyNumber cfg (eqb (length st) streamWords)) (λ n. (n, st, ring)) (startedInto (e .0 .answer) (e .0 .stream) (e .1) st ring)
 
 abbrev resetInto : WasReset × List ℕ → ℕ × List ℕ × List ℕ
-resetInto e = (resetNumber (e .0 .answer), stored (e .0 .stream), e .1)
+resetInto e = (outcomeNumber (e .0 .answer), stored (e .0 .stream), e .1)
 
 unfoldable pub resetExport : List ℕ → List ℕ → ℕ × List ℕ × List ℕ
 resetExport st ring = guarded (fitNumber (fits st)) (λ n. (n, st, ring)) (resetInto (resetAnswer (loaded st) ring))
 
 -- ---- the sender's calls
 abbrev sentInto : List ℕ → Sent × List ℕ → ℕ × List ℕ × List ℕ
-sentInto st e = (sendNumber (e .0 .answer), withSender st (e .0 .stream .sender), e .1)
+sentInto st e = (outcomeNumber (e .0 .answer), withSender st (e .0 .stream .sender), e .1)
 
 unfoldable pub sendExport : List ℕ → List ℕ → List ℕ → List ℕ → ℕ × List ℕ × List ℕ
 sendExport st cfg ring ws =

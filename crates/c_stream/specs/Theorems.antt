@@ -4,8 +4,9 @@ use mathlib.Core.Path.{_≡_}
 use Prim.Native.Nat.{ℕ}
 use mathlib.Core.Bool.{true}
 use mathlib.Core.List.{List}
+use Rattle.config.specs.Refusals.{outcomeNumber}
 use Rattle.stream.specs.Ends.{sendAnswer, requestAnswer, dataAnswer, errorAnswer, nakAnswer, pollAnswer, takeAnswer}
-use Rattle.c_answers.specs.Answers.{sendNumber, outcomeOf, deliveryOf, eventOf, requestOf}
+use Rattle.c_answers.specs.Answers.{outcomeOf, deliveryOf, eventOf, requestOf}
 use Rattle.c_words.specs.Payload.{payloadFits, payloadIn, payloadWords}
 use Rattle.c_words.specs.Settings.{settingsNumber, settingsOf}
 use Rattle.c_stream.specs.Exports.{newExport, resetExport, sendExport, requestExport, dataExport, errorExport, nakExport, pollExport, takeExport, writeExport}
@@ -25,7 +26,7 @@ pub record OtherEnd (st : List ℕ) : Type 0 where
 -- and answers as the library's call on the whole stream does, whose stream is what it stores
 pub record WholeStream (st : List ℕ) : Type 0 where
   pub send : (cfg ring ws : List ℕ) → settingsNumber cfg ≡ 0 → let e = sendAnswer (loaded st) (settingsOf cfg) ring ws in
-      sendExport st cfg ring ws ≡ (sendNumber (e .0 .answer), stored (e .0 .stream), e .1)
+      sendExport st cfg ring ws ≡ (outcomeNumber (e .0 .answer), stored (e .0 .stream), e .1)
   pub request : (cfg ring : List ℕ) (seq count : ℕ) → settingsNumber cfg ≡ 0 → let e = requestAnswer (loaded st) (settingsOf cfg) ring record { seq = seq; count = count } in
       requestExport st cfg ring seq count ≡ (outcomeOf (e .outcome), stored (e .stream))
   pub hear : (cfg : List ℕ) (time seq : ℕ) → settingsNumber cfg ≡ 0 → let e = dataAnswer (loaded st) (settingsOf cfg) time seq in

@@ -18,8 +18,8 @@ use c_words::settings;
 use command::data::UmpData;
 use command::retransmit::RetransmitError;
 use command::retransmit::RetransmitRequest;
+use config::answer::Outcome;
 use stream::stream::DataStream;
-use stream::stream::Start;
 
 // A fresh stream: a receive window of `window` numbers, the lent history, which is zeroed, and a
 // request ring of `places` places. A start that is refused stores nothing.
@@ -39,11 +39,11 @@ pub extern "C" fn sirmjold_stream_new(
         let stream = started.stream;
         let answer = started.answer;
         match answer {
-            Start::Done => {
+            Outcome::Done => {
                 state::store(stream, s);
                 return 0;
             }
-            Start::Refused(why) => {
+            Outcome::Refused(why) => {
                 return why.number();
             }
         }
@@ -62,7 +62,7 @@ pub extern "C" fn sirmjold_stream_reset(s: &mut [u64], ring: &mut [u32]) -> u8
         let stream = done.stream;
         let answer = done.answer;
         state::store(stream, s);
-        return answers::of_reset(answer);
+        return answer.number();
     }
     guard::INVALID_STATE
 }
@@ -84,7 +84,7 @@ pub extern "C" fn sirmjold_stream_send_ump(
         let sender = done.sender;
         let answer = done.answer;
         state::store_sender(sender, s);
-        return answers::of_send(answer);
+        return answer.number();
     }
     number
 }

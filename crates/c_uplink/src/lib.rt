@@ -2,8 +2,7 @@
 // lent for them and none can be of a wrong length; the turn is the caller's to keep.
 ghost use mathlib.Core.Path.{_≡_};
 ghost use Rattle.uplink.specs.Grants.{stepOf};
-ghost use Rattle.c_uplink.specs.Numbers.{answerNumber, numbersOf};
-use uplink::grants::Answer;
+ghost use Rattle.c_uplink.specs.Numbers.{numbersOf};
 use uplink::grants::Step;
 
 // A step: `refusal` is 0 or 18. Where it is 18 nothing is granted, and the turn is the one that was given.
@@ -14,15 +13,6 @@ pub struct CStep {
     pub refusal: u8,
 }
 
-fn number(answer: Answer) -> u8
-    ensures { λ r. ⌜ r ≡ answerNumber answer ⌝ }
-{
-    match answer {
-        Answer::Granted => 0,
-        Answer::Refused(why) => why.number(),
-    }
-}
-
 fn numbers(step: Step) -> CStep
     ensures { λ r. ⌜ r ≡ numbersOf step ⌝ }
 {
@@ -31,7 +21,7 @@ fn numbers(step: Step) -> CStep
     CStep {
         grants,
         turn: step.turn,
-        refusal: number(answer),
+        refusal: answer.number(),
     }
 }
 

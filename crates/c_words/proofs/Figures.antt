@@ -13,7 +13,7 @@ use Rattle.config.specs.Refusals.{numberOf}
 use Rattle.config.specs.Settings.{checkOf, tested}
 use Rattle.config.specs.declared.refusal.Refusal.{Refusal}
 use Rattle.config.specs.declared.refusal.Refusal.the-variants.{IdleInterval, IdleGrowth, CommandWords}
-use Rattle.config.specs.declared.settings.Check.the-variants.{Passed, Refused}
+use Rattle.config.specs.declared.answer.Outcome.the-variants.{Done, Refused}
 use Rattle.config.specs.declared.settings.StreamConfig.{StreamConfig}
 use Rattle.config.specs.inner.Tests.{split}
 use Rattle.c_words.specs.Guard.{fitNumber}
@@ -38,7 +38,7 @@ own-test s = refl
 
 -- none of its numbers is 0
 passed-by : (size interval growth : Bool) (n : ℕ)
-    → tested (cond size (Refused CommandWords) (cond interval (Refused IdleInterval) (cond growth (Refused IdleGrowth) Passed))) numberOf n ≡ 0 → n ≡ 0
+    → tested (cond size (Refused CommandWords) (cond interval (Refused IdleInterval) (cond growth (Refused IdleGrowth) Done))) numberOf n ≡ 0 → n ≡ 0
 passed-by true interval growth n e = absurd (let z : ⊥ = omega arith in z)
 passed-by false true growth n e = absurd (let z : ⊥ = omega arith in z)
 passed-by false false true n e = absurd (let z : ⊥ = omega arith in z)
@@ -65,7 +65,7 @@ module _ (ws : List ℕ) where
     unfolding settingsNumber
     own-refused why e = rw (eq-eqb (length ws) 8 l, ← e)
 
-    pub own-passed : Passed ≡ checkOf (settingsOf ws) → fitNumber (within settingsLimits ws) ≡ settingsNumber ws
+    pub own-passed : Done ≡ checkOf (settingsOf ws) → fitNumber (within settingsLimits ws) ≡ settingsNumber ws
     unfolding settingsNumber
     own-passed e = rw (eq-eqb (length ws) 8 l, ← e)
 

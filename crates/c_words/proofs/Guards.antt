@@ -92,10 +92,6 @@ module _ (cfg : List ℕ) (t fit : Bool) (n : ℕ) (e : t ≡ fit) (r : n ≡ re
     ready-refused = refused refuse go x n (readyNumber cfg fit) number-is
 
 -- with settings and a payload
-pub both-true : (a b : Bool) → a ≡ true → b ≡ true → a && b ≡ true
-both-true true b e f = f
-both-true false b e f = e
-
 module _ (cfg : List ℕ) (t a b x y : Bool) (n : ℕ) (e : t ≡ (a && b)) (f : a ≡ x) (g : b ≡ y) (r : n ≡ readyNumber cfg t) where
   both-are : t ≡ (x && y)
   both-are = rw (← f, ← g) e

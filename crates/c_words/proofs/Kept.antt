@@ -1,14 +1,14 @@
 -- A call that is refused hands back what it was given.
 use mathlib.Core.Path.{_≡_, sym}
-use mathlib.Core.Bool.{Bool, true, false, cond}
+use mathlib.Core.Bool.{Bool, true, cond}
 use mathlib.Core.List.{List}
 use Prim.Native.Nat.{ℕ}
 use lib.ListN.{length}
 use borrow.Author.Tests.{eqb-true}
-use Rattle.config.specs.Settings.{tested}
+use Rattle.config.specs.Entry.{onState, entry}
+use Rattle.config.specs.declared.answer.Outcome.{Outcome}
 use Rattle.config.specs.declared.refusal.Refusal.{Refusal}
-use Rattle.config.specs.declared.settings.Check.{Check}
-use Rattle.config.specs.declared.settings.Check.the-variants.{Passed, Refused}
+use Rattle.config.specs.inner.Entries.{state-any, entry-any}
 use Rattle.c_words.specs.Guard.{guarded}
 use Rattle.c_words.specs.Payload.{payloadFits, payloadIn, payloadWords}
 use Rattle.c_words.proofs.Guards.{either, by-number}
@@ -39,12 +39,13 @@ module _ {A : Type 0} {number : A → ℕ} {Same : A → Type 0} where
   pub by-test : (t : Bool) (x y : A) → (t ≡ true → Kept number Same x) → Kept number Same y → Kept number Same (cond t x y)
   by-test t x y f g = either (Kept number Same) t x y f g
 
-  -- the refusals of a check and of a further test have one form
-  pub by-check : (c : Check) (t : Bool) (deny : Refusal → A) (last : Refusal) (go : A) → ((why : Refusal) → Kept number Same (deny why)) → Kept number Same go
-      → Kept number Same (tested c deny (cond t (deny last) go))
-  by-check (Refused why) t deny last go f g = f why
-  by-check Passed true deny last go f g = f last
-  by-check Passed false deny last go f g = g
+  -- each way into a call
+  pub by-state : (valid : Bool) (deny : Refusal → A) (go : A) → ((why : Refusal) → Kept number Same (deny why)) → Kept number Same go → Kept number Same (onState valid deny go)
+  by-state valid deny go f g = state-any (Kept number Same) deny go f valid (λ _. g)
+
+  pub by-entry : (checked : Outcome) (valid : Bool) (deny : Refusal → A) (go : A) → ((why : Refusal) → Kept number Same (deny why)) → Kept number Same go
+      → Kept number Same (entry checked valid deny go)
+  by-entry checked valid deny go f g = entry-any (Kept number Same) deny go f checked valid (λ _ _. g)
 
 -- ---- a call that is made where its number is 0, and hands back what it was given else
 module _ {A E : Type 0} (number : A → ℕ) (Same : A → Type 0) (into : E → A) where

@@ -7,11 +7,11 @@ ghost use Rattle.config.specs.Settings.{checkOf};
 ghost use Rattle.c_words.specs.Limits.{within};
 ghost use Rattle.c_words.specs.Settings.{Small, settingsLimits, settingsNumber, settingsOf};
 use super::guard;
-use config::settings::Check;
+use config::answer::Outcome;
 use config::settings::StreamConfig;
 
 // The settings' own test, which looks at SIZE, T1 and G alone.
-fn check(words: &[u32]) -> Check
+fn check(words: &[u32]) -> Outcome
     requires { ⌜ length (now words) ≡ 8 ⌝ }
     ensures { λ r. ⌜ r ≡ checkOf (settingsOf (now (words .entry))) ⌝ }
 {
@@ -54,8 +54,8 @@ pub fn number(words: &[u32]) -> u8
         return guard::INVALID_STATE;
     }
     match check(words) {
-        Check::Refused(why) => why.number(),
-        Check::Passed => guard::fit(narrow(words)),
+        Outcome::Refused(why) => why.number(),
+        Outcome::Done => guard::fit(narrow(words)),
     }
 }
 

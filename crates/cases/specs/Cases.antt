@@ -10,7 +10,7 @@ use Rattle.packet.specs.Bytes.{bytesOf}
 use Rattle.packet.specs.Layout.{packet}
 use Rattle.packet.specs.Write.{refusedOf, writtenOf}
 use Rattle.packet.specs.declared.writer.PayloadWriter.{PayloadWriter}
-use Rattle.packet.specs.declared.writer.Write.the-variants.{Done}
+use Rattle.config.specs.declared.answer.Outcome.the-variants.{Done}
 use Rattle.command.specs.Write.{requestPacket}
 use Rattle.window.specs.Answers.{newAnswer, acceptAnswer, missingAnswer, requestAnswer}
 use Rattle.window.specs.Window.{fresh}

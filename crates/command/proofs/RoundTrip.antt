@@ -14,11 +14,11 @@ use Rattle.config.specs.declared.refusal.Refusal.the-variants.{InvalidState, In
 use Rattle.config.specs.inner.Tests.{split, tests, lifts, and-left, and-right}
 use Rattle.packet.specs.Layout.{Packet, packet, sizeOf, payloadOf, Words32, Encodable, AllEncodable}
 use Rattle.packet.specs.Read.{Item, itemsOf, placed}
-use Rattle.packet.specs.Write.{openedOf, limitOf, validOf, startOf, refusedOf, doneOf, placedOf, writtenOf, bytesIn, Outcome, refused, done}
+use Rattle.packet.specs.Write.{openedOf, limitOf, validOf, startOf, refusedOf, doneOf, placedOf, writtenOf, bytesIn, WriteEnds, refused, done}
 use Rattle.packet.specs.declared.writer.PayloadWriter.{PayloadWriter}
 use Rattle.packet.specs.declared.writer.Opened.{Opened}
 use Rattle.packet.specs.declared.writer.Opened.the-variants.{Payload, Refused as OpenRefused}
-use Rattle.packet.specs.declared.writer.Write.the-variants.{Done, Refused}
+use Rattle.config.specs.declared.answer.Outcome.the-variants.{Done, Refused}
 use Rattle.packet.specs.declared.writer.Wrote.{Wrote}
 use Rattle.packet.proofs.RoundTrip.{items-payload, allEncodable-append}
 use Rattle.packet.proofs.Written.{valid-empty}
@@ -29,7 +29,7 @@ use Rattle.command.specs.Calls.{Call, raw, umpData, request, error, call
 use Rattle.command.specs.declared.retransmit.RetransmitError.{RetransmitError}
 
 -- ---- each call comes to a refusal or to its command written
-error-outcome : (e : RetransmitError) (p : PayloadWriter) (b : List ℕ) → Outcome p b (errorPacket e) (errorWritten e p b)
+error-outcome : (e : RetransmitError) (p : PayloadWriter) (b : List ℕ) → WriteEnds p b (errorPacket e) (errorWritten e p b)
 unfolding errorWritten
 error-outcome e p b = elim (split (validOf p (length b))) [
   | inr v ↦ rw v (refused InvalidState)
@@ -39,7 +39,7 @@ error-outcome e p b = elim (split (validOf p (length b))) [
   ]
 ]
 
-data-outcome : (p : PayloadWriter) (b : List ℕ) (seq : ℕ) (ws : List ℕ) → Outcome p b (dataPacket seq ws) (dataWritten p b seq ws)
+data-outcome : (p : PayloadWriter) (b : List ℕ) (seq : ℕ) (ws : List ℕ) → WriteEnds p b (dataPacket seq ws) (dataWritten p b seq ws)
 unfolding dataWritten
 data-outcome p b seq ws = elim (split (validOf p (length b))) [
   | inr v ↦ rw v (refused InvalidState)
@@ -52,7 +52,7 @@ data-outcome p b seq ws = elim (split (validOf p (length b))) [
   ]
 ]
 
-pub call-outcome : (c : Call) (p : PayloadWriter) (b : List ℕ) → Outcome p b (commandOf c) (callOf c p b)
+pub call-outcome : (c : Call) (p : PayloadWriter) (b : List ℕ) → WriteEnds p b (commandOf c) (callOf c p b)
 call-outcome (raw code csd1 csd2 ws) p b = outcome p b (packet code csd1 csd2 ws)
 call-outcome (umpData seq ws) p b = data-outcome p b seq ws
 call-outcome (request q) p b = outcome p b (requestPacket q)
@@ -71,7 +71,7 @@ typed-words (umpData seq ws) t = t
 typed-words (request q) t = (omega arith, tt)
 typed-words (error e) t = (omega arith, tt)
 
-step : (c : Call) (p : PayloadWriter) (b : List ℕ) (cs : List Packet) (w : Wrote × List ℕ) → Outcome p b (commandOf c) w → Typed c → Good p b cs
+step : (c : Call) (p : PayloadWriter) (b : List ℕ) (cs : List Packet) (w : Wrote × List ℕ) → WriteEnds p b (commandOf c) w → Typed c → Good p b cs
     → Good (w .0 .payload) (w .1) (accepts (w .0 .answer) cs (commandOf c))
 unfolding AllEncodable
 step c p b cs w (refused r) t g = g

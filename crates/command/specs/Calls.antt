@@ -9,8 +9,8 @@ use Rattle.packet.specs.Read.{itemsOf, placed}
 use Rattle.packet.specs.Write.{openedOf, writtenOf, bytesIn}
 use Rattle.packet.specs.declared.writer.PayloadWriter.{PayloadWriter}
 use Rattle.packet.specs.declared.writer.Opened.the-variants.{Payload}
-use Rattle.packet.specs.declared.writer.Write.{Write}
-use Rattle.packet.specs.declared.writer.Write.the-variants.{Done, Refused}
+use Rattle.config.specs.declared.answer.Outcome.{Outcome}
+use Rattle.config.specs.declared.answer.Outcome.the-variants.{Done, Refused}
 use Rattle.packet.specs.declared.writer.Wrote.{Wrote}
 use Rattle.command.specs.Write.{dataPacket, requestPacket, errorPacket, errorWritten, dataWritten}
 use Rattle.command.specs.declared.retransmit.RetransmitRequest.{RetransmitRequest}
@@ -54,7 +54,7 @@ pub record Run : Type 0 where
   pub buffer : List ℕ
   pub accepted : List Packet
 
-abbrev pub accepts : Write → List Packet → Packet → List Packet
+abbrev pub accepts : Outcome → List Packet → Packet → List Packet
 accepts Done cs c = cs ++ (c ∷ [])
 accepts (Refused r) cs c = cs
 

@@ -3,11 +3,11 @@ ghost use mathlib.Core.Path.{_≡_};
 ghost use Rattle.packet.specs.Write.{refusedOf};
 ghost use Rattle.command.specs.Write.{dataWritten};
 use super::message::whole_messages;
+use config::answer::Outcome;
 use config::refusal::Refusal;
 use config::sequence::SeqNum;
 use config::settings::MAX_COMMAND_WORDS;
 use packet::writer::PayloadWriter;
-use packet::writer::Write;
 use packet::writer::Wrote;
 
 // A data command that was read: its number. Its messages are in the command's bytes.
@@ -40,6 +40,6 @@ fn refused(p: PayloadWriter, why: Refusal) -> Wrote
 {
     Wrote {
         payload: p,
-        answer: Write::Refused(why),
+        answer: Outcome::Refused(why),
     }
 }

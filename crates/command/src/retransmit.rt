@@ -3,10 +3,10 @@ ghost use mathlib.Core.Path.{_≡_};
 ghost use Rattle.command.specs.Write.{isDefined, requestPacket, errorWritten};
 ghost use Rattle.packet.specs.Write.{writtenOf};
 use super::valid;
+use config::answer::Outcome;
 use config::refusal::Refusal;
 use config::sequence::SeqNum;
 use packet::writer::PayloadWriter;
-use packet::writer::Write;
 use packet::writer::Wrote;
 
 pub struct RetransmitRequest {
@@ -36,7 +36,7 @@ impl RetransmitRequest {
         }
         Wrote {
             payload: p,
-            answer: Write::Refused(Refusal::InvalidState),
+            answer: Outcome::Refused(Refusal::InvalidState),
         }
     }
 }
@@ -58,7 +58,7 @@ impl RetransmitError {
         }
         Wrote {
             payload: p,
-            answer: Write::Refused(Refusal::InvalidState),
+            answer: Outcome::Refused(Refusal::InvalidState),
         }
     }
 }

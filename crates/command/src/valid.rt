@@ -6,9 +6,9 @@ ghost use Rattle.packet.specs.Write.{validOf, writtenOf};
 ghost use Rattle.command.specs.Write.{requestPacket, errorWritten};
 use super::retransmit::RetransmitError;
 use super::retransmit::RetransmitRequest;
+use config::answer::Outcome;
 use config::refusal::Refusal;
 use packet::writer::PayloadWriter;
-use packet::writer::Write;
 use packet::writer::Wrote;
 
 pub fn write_request(req: RetransmitRequest, p: PayloadWriter, buf: &mut [u8]) -> Wrote
@@ -40,6 +40,6 @@ pub fn write_error(err: RetransmitError, p: PayloadWriter, buf: &mut [u8]) -> Wr
     }
     Wrote {
         payload: p,
-        answer: Write::Refused(Refusal::ReasonNotAllowed),
+        answer: Outcome::Refused(Refusal::ReasonNotAllowed),
     }
 }

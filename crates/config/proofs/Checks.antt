@@ -7,7 +7,7 @@ use Rattle.config.specs.Range.{outside}
 use Rattle.config.specs.Settings.{checkOf}
 use Rattle.config.specs.declared.refusal.Refusal.the-variants.{IdleInterval, IdleGrowth, CommandWords}
 use Rattle.config.specs.declared.settings.StreamConfig.{StreamConfig}
-use Rattle.config.specs.declared.settings.Check.the-variants.{Passed, Refused}
+use Rattle.config.specs.declared.answer.Outcome.the-variants.{Done, Refused}
 
 module _ (s : StreamConfig) where
   pub refused-words : outside 1 64 (s .«max_command_words») ≡ true → Refused CommandWords ≡ checkOf s
@@ -24,6 +24,6 @@ module _ (s : StreamConfig) where
       unfolding checkOf
       refused-growth g = rw (w, i, eq-eqb _ _ g)
 
-      pub passed : (s .«idle_growth» ≡ 0 → ⊥) → Passed ≡ checkOf s
+      pub passed : (s .«idle_growth» ≡ 0 → ⊥) → Done ≡ checkOf s
       unfolding checkOf
       passed g = rw (w, i, ne-eqb _ _ g)

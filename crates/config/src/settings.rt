@@ -1,6 +1,7 @@
 // The settings of a stream. No state keeps them: each call that uses them is given them.
 ghost use mathlib.Core.Path.{_≡_};
 ghost use Rattle.config.specs.Settings.{checkOf, defaults};
+use super::answer::Outcome;
 use super::range::outside;
 use super::refusal::Refusal;
 
@@ -28,11 +29,6 @@ pub struct StreamConfig {
     pub max_command_words: usize,
 }
 
-pub enum Check {
-    Passed,
-    Refused(Refusal),
-}
-
 impl StreamConfig {
     pub const DEFAULT: StreamConfig = StreamConfig {
         idle_interval_ms: 100,
@@ -53,18 +49,18 @@ impl StreamConfig {
     }
 
     // The command size, then the idle interval, then the growth.
-    pub fn check(self) -> Check
+    pub fn check(self) -> Outcome
         ensures { λ r. ⌜ r ≡ checkOf self ⌝ }
     {
         if outside(1, MAX_COMMAND_WORDS, self.max_command_words) {
-            return Check::Refused(Refusal::CommandWords);
+            return Outcome::Refused(Refusal::CommandWords);
         }
         if outside(1, MAX_IDLE_INTERVAL_MS, self.idle_interval_ms as usize) {
-            return Check::Refused(Refusal::IdleInterval);
+            return Outcome::Refused(Refusal::IdleInterval);
         }
         if self.idle_growth == 0 {
-            return Check::Refused(Refusal::IdleGrowth);
+            return Outcome::Refused(Refusal::IdleGrowth);
         }
-        Check::Passed
+        Outcome::Done
     }
 }

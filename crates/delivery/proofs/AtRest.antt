@@ -1,19 +1,16 @@
 -- A receiver with nothing missing, through every call that leaves it so.
 use Prim.Native.Nat.{ℕ, _-_, _^_, _≤_, _<_}
 use mathlib.Core.Path.{_≡_, refl}
-use mathlib.Core.Bool.{Bool, true, false, not}
+use mathlib.Core.Bool.{Bool, true, false}
 use mathlib.Core.List.{List}
 use native.Mathlib.Nat.{mod-lt, div-add-mod'}
 use native.Mathlib.Omega.{arith}
 use lib.Pow.{pow-pos}
 use lib.ListN.{length}
-use Rattle.config.specs.Settings.{checkOf, tested}
+use Rattle.config.specs.Settings.{checkOf}
 use Rattle.config.specs.Sequence.{ahead}
 use Rattle.config.specs.Range.{within}
-use Rattle.config.specs.declared.refusal.Refusal.{Refusal}
 use Rattle.config.specs.declared.settings.StreamConfig.{StreamConfig}
-use Rattle.config.specs.declared.settings.Check.{Check}
-use Rattle.config.specs.declared.settings.Check.the-variants.{Passed, Refused}
 use Rattle.packet.specs.Write.{validOf as payloadValid}
 use Rattle.packet.specs.declared.writer.PayloadWriter.{PayloadWriter}
 use Rattle.command.specs.declared.retransmit.RetransmitError.{RetransmitError}
@@ -34,12 +31,8 @@ use Rattle.receiver.specs.declared.receiver.Told.{Told}
 use Rattle.receiver.specs.declared.receiver.Requested.{Requested}
 use Rattle.receiver.specs.declared.receiver.Hearing.the-variants.{Delivery as Delivered}
 use Rattle.receiver_log.specs.Log.{lossIn}
-use Rattle.receiver_log.proofs.Choices.{by-cond}
+use Rattle.config.specs.inner.Choices.{by-cond, by-check}
 use Rattle.receiver_log.proofs.Follows.{passes}
-
-pub by-check : {A : Type 0} (P : A → Type 0) (k : Check) (f : Refusal → A) (x : A) → ((why : Refusal) → P (f why)) → P x → P (tested k f x)
-by-check P (Refused why) f x a b = a why
-by-check P Passed f x a b = b
 
 none-missing : (W h : ℕ) → missingOf (allProcessed W h) ≡ 0
 unfolding missingOf val setOf
@@ -60,7 +53,7 @@ module _ (W : ℕ) (least : 1 ≤ W) (most : W ≤ maxWindow) (off : Bool) (h : 
   pub rest-polled : (s : StreamConfig) (now : ℕ) → (pollAnswer rest s now .receiver ≡ rest) × (lossIn (pollAnswer rest s now .event) ≡ Nothing)
   unfolding pollAnswer polledOf
   rest-polled s now =
-      rw rest-valid (by-check (λ (x : Told). (x .receiver ≡ rest) × (lossIn (x .event) ≡ Nothing)) (checkOf s) (eventRefused rest) _ (λ why. (refl, refl)) (refl, refl))
+      rw rest-valid (by-check (λ (x : Told). (x .receiver ≡ rest) × (lossIn (x .event) ≡ Nothing)) (checkOf s) (eventRefused rest) _ (λ why. (refl, refl)) (λ e. (refl, refl)))
 
   pub rest-errored : (e : RetransmitError) → (errorAnswer rest e .receiver ≡ rest) × (lossIn (errorAnswer rest e .event) ≡ Nothing)
   unfolding errorAnswer erroredOf
@@ -74,7 +67,7 @@ module _ (W : ℕ) (least : 1 ≤ W) (most : W ≤ maxWindow) (off : Bool) (h : 
   unfolding takeAnswer takenOf
   rest-taken s p b =
       rw rest-valid (by-check (λ (x : Requested × List ℕ). x .0 .receiver ≡ rest) (checkOf s) (requestRefused rest p b) _ (λ why. refl)
-      (by-cond (λ (x : Requested × List ℕ). x .0 .receiver ≡ rest) (not (payloadValid p (length b))) _ _ (λ e. refl) (λ e. refl)))
+      (λ k. by-cond (λ (x : Requested × List ℕ). x .0 .receiver ≡ rest) (payloadValid p (length b)) _ _ (λ e. refl) (λ e. refl)))
 
   -- ---- a data command
 

@@ -7,10 +7,7 @@ use mathlib.Core.List.{List, [], _∷_, _++_, append-assoc, append-nil}
 use native.Mathlib.Omega.{arith}
 use lib.Dec.{leb, ltb, eqb}
 use lib.ListN.{length, length-append}
-use Rattle.config.specs.Settings.{checkOf, tested}
-use Rattle.config.specs.declared.refusal.Refusal.{Refusal}
-use Rattle.config.specs.declared.settings.Check.{Check}
-use Rattle.config.specs.declared.settings.Check.the-variants.{Passed, Refused as CheckRefused}
+use Rattle.config.specs.Settings.{checkOf}
 use Rattle.config.specs.declared.settings.StreamConfig.{StreamConfig}
 use Rattle.config.specs.inner.Tests.{tests}
 use Rattle.packet.specs.Layout.{Words32}
@@ -26,7 +23,7 @@ use Rattle.sender.proofs.Parts.{front-behind, commands-parts}
 use Rattle.sender.proofs.Queued.{check-divides, settings-few}
 use Rattle.command.proofs.Messages.{words-append, words-one}
 use Rattle.sender_log.specs.Book.{Book, freed, pushedIn, pushedAllIn, joinedLast, joinedIn, roomIn, needIn, queuedIn, QueueIn, sentIn, absentIn, RequestIn, requestedIn}
-use Rattle.receiver_log.proofs.Choices.{by-cond}
+use Rattle.config.specs.inner.Choices.{by-cond, by-check}
 use Rattle.delivery.specs.Commands.{Command}
 use Rattle.delivery.specs.Console.{taken}
 use Rattle.delivery.proofs.Lists.{All, all-append, length-none}
@@ -51,11 +48,6 @@ Agrees c b accepted w = Agreed c (b .first) (b .written) (b .unwritten) accepted
 pub nothing-agrees : (c : ℕ) → Agreed c 0 [] [] [] []
 unfolding wordsIn size
 nothing-agrees c = record { gone = []; oldest = refl; wire = wire-empty; words = refl; old = tt; new = tt; room = omega arith }
-
--- a property of a test's result
-pub by-check : {A : Type 0} (P : A → Type 0) (k : Check) (no′ : Refusal → A) (go : A) → ((why : Refusal) → P (no′ why)) → (k ≡ Passed → P go) → P (tested k no′ go)
-by-check P (CheckRefused why) no′ go f g = f why
-by-check P Passed no′ go f g = g refl
 
 module _ (c : ℕ) where
   -- ---- the oldest leave, and other commands are unwritten

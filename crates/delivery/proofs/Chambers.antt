@@ -21,7 +21,7 @@ use Rattle.receiver.specs.declared.receiver.Hearing.the-variants.{Delivery as D
 use Rattle.receiver_log.specs.Calls.{Entry, data-entry, poll-entry, error-entry, nak-entry, take-entry}
 use Rattle.receiver_log.specs.Log.{Report, reportOf, origin, place, high, times, lost, Missing}
 use Rattle.receiver_log.specs.Promise.{Promise}
-use Rattle.receiver_log.proofs.Choices.{never}
+use Rattle.config.specs.inner.Choices.{never}
 use Rattle.receiver_log.proofs.Numbers.{read-ahead, read-behind}
 use Rattle.delivery.specs.Chamber.{isHeard, delivered, joined, listed, AllHanded}
 use Rattle.delivery.specs.Sentence.{NoLoss}

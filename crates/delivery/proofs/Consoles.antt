@@ -1,7 +1,7 @@
 -- After every list of a console's calls: what its sender holds agrees with the log, and each payload holds what the log says.
 use Prim.Native.Nat.{ℕ, _≤_, _<_}
 use mathlib.Core.Path.{_≡_, refl}
-use mathlib.Core.Bool.{Bool, true, false, cond, not, _&&_}
+use mathlib.Core.Bool.{Bool, true, false, cond, _&&_}
 use mathlib.Core.List.{List, [], _∷_, _++_}
 use native.Mathlib.Omega.{arith}
 use lib.Dec.{leb, ltb}
@@ -9,7 +9,8 @@ use borrow.Author.Tests.{leb-true, not-false}
 use lib.ListN.{length}
 use Rattle.config.specs.Range.{within, outside}
 use Rattle.config.specs.Settings.{checkOf}
-use Rattle.config.specs.declared.settings.Check.the-variants.{Passed}
+use Rattle.config.specs.declared.answer.Outcome.{Outcome}
+use Rattle.config.specs.declared.answer.Outcome.the-variants.{Done}
 use Rattle.config.specs.declared.settings.StreamConfig.{StreamConfig}
 use Rattle.config.specs.inner.Tests.{tests, and-right}
 use Rattle.packet.specs.Layout.{Words32}
@@ -21,30 +22,28 @@ use Rattle.command.specs.declared.retransmit.RetransmitRequest.{RetransmitReque
 use Rattle.sender.specs.State.{validOf}
 use Rattle.sender.specs.Answers.{newAnswer, writeAnswer}
 use Rattle.sender.specs.declared.sender.Sender.{Sender}
-use Rattle.sender.specs.declared.sender.Send.{Send}
-use Rattle.sender.specs.declared.sender.Start.the-variants.{Done}
 use Rattle.sender.specs.declared.sender.Wrote.{Wrote}
 use Rattle.sender_log.specs.Book.{Book, nothing, sentIn, requestedIn}
 use Rattle.sender_log.specs.Writes.{writeIn}
 use Rattle.sender_log.specs.Calls.{TypedConfig}
 use Rattle.sender_log.proofs.Follows.{Follows, start-follows, send-follows, request-follows, write-follows}
-use Rattle.receiver_log.proofs.Choices.{by-cond}
+use Rattle.config.specs.inner.Choices.{by-cond, by-check}
 use Rattle.delivery.specs.Commands.{Command, dataIn}
 use Rattle.delivery.specs.Console.{Lent, Call, open-payload, lend-again, queue-words, retransmit-request, write-into, put-into, write-astray, Entry, queued, noted, Console, Step, noting, payloadAt, openStep, lentAgain, putStep, putInto, writeStep, stepOf, logFrom, freshConsole, Allowed, AllAllowed, accepted, added, held, written, commands, Was, was}
 use Rattle.delivery.proofs.Payloads.{Holds}
-use Rattle.delivery.proofs.Books.{Agrees, nothing-agrees, by-check, sent-agrees, requested-agrees}
+use Rattle.delivery.proofs.Books.{Agrees, nothing-agrees, sent-agrees, requested-agrees}
 use Rattle.delivery.proofs.Writing.{write-grown}
 use Rattle.delivery.proofs.Tags.{on, commands-tagged}
 use Rattle.delivery.proofs.Lent.{Reads, reads-opened, reads-lent, reads-put, reads-more, reads-added, Payloads, none-opened, payloads-quiet, payloads-opened, payloads-stood, payloads-wrote}
 
 -- ---- a write that is refused for its settings or for its payload's state
 
-not-both : (b : Bool) → not (b && false) ≡ true
+not-both : (b : Bool) → (b && false) ≡ false
 not-both true = refl
 not-both false = refl
 
 -- changes neither sender nor history
-pub astray-keeps : (s : Sender) (cfg : StreamConfig) (now : ℕ) (p : PayloadWriter) (b ring : List ℕ) → (checkOf cfg ≡ Passed → payloadValid p (length b) ≡ false)
+pub astray-keeps : (s : Sender) (cfg : StreamConfig) (now : ℕ) (p : PayloadWriter) (b ring : List ℕ) → (checkOf cfg ≡ Done → payloadValid p (length b) ≡ false)
     → (writeAnswer s cfg now p b ring .0 .sender ≡ s) × (writeAnswer s cfg now p b ring .2 ≡ ring)
 unfolding writeAnswer
 astray-keeps s cfg now p b ring h = by-check Kept (checkOf cfg) _ _ (λ why. (refl, refl)) (λ passed. rw (h passed, not-both (validOf s ring)) (refl, refl))
@@ -73,7 +72,7 @@ module _ (c q : ℕ) where
   pub quiet-noted : (t : List Entry) (k : ℕ) (v : Lent) → Was (noted ∷ t) k v → Was t k v
   quiet-noted t k v (was e h) = h
 
-  pub quiet-queued : (t : List Entry) (cfg : StreamConfig) (ws : List ℕ) (a : Send) (k : ℕ) (v : Lent) → Was (queued cfg ws a ∷ t) k v → Was t k v
+  pub quiet-queued : (t : List Entry) (cfg : StreamConfig) (ws : List ℕ) (a : Outcome) (k : ℕ) (v : Lent) → Was (queued cfg ws a ∷ t) k v → Was t k v
   quiet-queued t cfg ws a k v (was e h) = h
 
   unfoldable pub noted-good : (d : Console) (t : List Entry) → Good d t → StepGood t (noting d)

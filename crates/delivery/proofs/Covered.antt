@@ -9,7 +9,7 @@ use native.Mathlib.Omega.{arith}
 use lib.ListN.{length, getD}
 use Rattle.config.specs.Settings.{checkOf}
 use Rattle.config.specs.declared.refusal.Refusal.{Refusal}
-use Rattle.config.specs.declared.settings.Check.the-variants.{Passed}
+use Rattle.config.specs.declared.answer.Outcome.the-variants.{Done}
 use Rattle.config.specs.declared.settings.StreamConfig.{StreamConfig}
 use Rattle.packet.specs.Layout.{Words32}
 use Rattle.packet.specs.Write.{validOf as payloadValid}
@@ -57,7 +57,7 @@ pub every-call : (limit k : ℕ) (buffer ws : List ℕ) (cfg : StreamConfig) (r 
 every-call limit k buffer ws cfg r now call p w f g t d e = (tt, (tt, (w, (tt, ((f, g), ((t, d), (λ passed. e, tt)))))))
 
 -- or for its settings
-pub every-refused : (p : PayloadWriter) (buffer : List ℕ) (cfg : StreamConfig) (now : ℕ) → (checkOf cfg ≡ Passed → ⊥) → Allowed (write-astray p buffer cfg now)
+pub every-refused : (p : PayloadWriter) (buffer : List ℕ) (cfg : StreamConfig) (now : ℕ) → (checkOf cfg ≡ Done → ⊥) → Allowed (write-astray p buffer cfg now)
 every-refused p buffer cfg now h passed = absurd (h passed)
 
 -- of a chamber
@@ -164,7 +164,7 @@ every-pace R s n d calls (retransmit-request cfg r) x h = absurd x
 every-pace R s n d calls (write-into k cfg now) x h = absurd x
 
 -- what is asked of it, with the figures written out: of each write, and of the history
-pub every-write : (R s : ℕ) (cfg : StreamConfig) (v : Lent) → checkOf cfg ≡ Passed → cfg .«fec_repeats» ≡ R → v .payload .len ≡ 0
+pub every-write : (R s : ℕ) (cfg : StreamConfig) (v : Lent) → checkOf cfg ≡ Done → cfg .«fec_repeats» ≡ R → v .payload .len ≡ 0
     → 4 + (R + 1) * (4 + 4 * s) ≤ v .payload .max → 4 + (R + 1) * (4 + 4 * s) ≤ length (v .buffer) → Ready R s cfg v
 every-write R s cfg v a b c d e = record { passes = a; repeats = b; empty = c; limit = d; lent = e }
 

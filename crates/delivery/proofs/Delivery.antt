@@ -19,7 +19,7 @@ use Rattle.receiver.specs.declared.receiver.Hearing.the-variants.{Delivery as D
 use Rattle.receiver_log.specs.Calls.{Entry as Heard, data-entry}
 use Rattle.receiver_log.specs.Log.{Report, heard, reportOf, reports, origin, place, high, hands, times}
 use Rattle.receiver_log.specs.Promise.{Promise}
-use Rattle.receiver_log.proofs.Choices.{never}
+use Rattle.config.specs.inner.Choices.{never}
 use Rattle.receiver_log.proofs.Runs.{receiver-promise}
 use Rattle.delivery.specs.Commands.{Command, dataOf}
 use Rattle.delivery.specs.Console.{Lent, bytes, Console, Entry, accepted, written, positions, positionOf, Was}

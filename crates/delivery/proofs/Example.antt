@@ -39,8 +39,7 @@ use Rattle.sender.specs.State.{validOf}
 use Rattle.sender.specs.Queueing.{roomOf, needOf, joinedTo, pushedAll, queuedTo, queuedOf, wordsCheck, placedOf, sentOf}
 use Rattle.sender.specs.Requests.{requestedOf}
 use Rattle.sender.specs.Writing.{servedIn, servedOf, idledOf, writtenOff, newOf, writtenBy}
-use Rattle.sender.specs.declared.sender.Send.the-variants.{Accepted, Refused as NotQueued}
-use Rattle.sender.specs.declared.sender.Start.the-variants.{Done}
+use Rattle.config.specs.declared.answer.Outcome.the-variants.{Done, Refused}
 use Rattle.sender.specs.declared.sender.Writing.{Writing}
 use Rattle.sender.specs.declared.sender.Writing.the-variants.{Written, Refused as NotWritten}
 use Rattle.window.specs.declared.window.Class.{Class}
@@ -172,12 +171,12 @@ all n = Written record { commands = n; more = false }
 
 abbrev sent : List Entry
 sent =
-    wrote 3 longer3 again3 (all 1) ∷ queued (settings 0) E Accepted ∷ stood 3 longer3
-    ∷ noted ∷ wrote 3 payload3 payload3 (NotWritten IdleGrowth) ∷ queued (settings 0) halfMessage (NotQueued InvalidUmpData)
-    ∷ wrote 3 (partly 12 request3 28) payload3 (all 3) ∷ queued (settings 2) D Accepted ∷ stood 3 (partly 12 request3 28) ∷ stood 3 (empty 40)
+    wrote 3 longer3 again3 (all 1) ∷ queued (settings 0) E Done ∷ stood 3 longer3
+    ∷ noted ∷ wrote 3 payload3 payload3 (NotWritten IdleGrowth) ∷ queued (settings 0) halfMessage (Refused InvalidUmpData)
+    ∷ wrote 3 (partly 12 request3 28) payload3 (all 3) ∷ queued (settings 2) D Done ∷ stood 3 (partly 12 request3 28) ∷ stood 3 (empty 40)
     ∷ wrote 2 (empty 12) payload2 (all 1) ∷ stood 2 (empty 12) ∷ noted
-    ∷ wrote 1 (empty 12) payload1 (all 1) ∷ queued (settings 0) B Accepted ∷ stood 1 (empty 12)
-    ∷ wrote 0 (empty 12) payload0 (all 1) ∷ queued (settings 0) A Accepted ∷ stood 0 (empty 12)
+    ∷ wrote 1 (empty 12) payload1 (all 1) ∷ queued (settings 0) B Done ∷ stood 1 (empty 12)
+    ∷ wrote 0 (empty 12) payload0 (all 1) ∷ queued (settings 0) A Done ∷ stood 0 (empty 12)
     ∷ noted
     ∷ []
 

@@ -10,8 +10,8 @@ use lib.ListN.{length, getD, set, length-append, length-set, List·getD-append}
 use lib.Seq.{getD-at, getD-set-same, getD-set-other, take-at, length-take-le, drop-append-seam}
 use Rattle.config.specs.inner.Tests.{split, tests, lifts}
 use Rattle.packet.specs.Layout.{Packet, payloadOf}
-use Rattle.packet.specs.declared.writer.Write.{Write}
-use Rattle.packet.specs.declared.writer.Write.the-variants.{Done, Refused}
+use Rattle.config.specs.declared.answer.Outcome.{Outcome}
+use Rattle.config.specs.declared.answer.Outcome.the-variants.{Done, Refused}
 use Rattle.command.specs.Calls.{Call, callOf, commandOf, Typed, accepts}
 use Rattle.command.proofs.RoundTrip.{call-outcome, typed-words}
 use Rattle.sender.specs.declared.sender.Writing.{Writing}
@@ -63,10 +63,10 @@ reads-put call v cs typed other r =
       data-are = no-data a ∙ r .data-are;
     }
   where
-    a : Write
+    a : Outcome
     a = callOf call (v .payload) (v .buffer) .0 .answer
 
-    no-data : (a : Write) → dataIn (accepts a (r .packets) (commandOf call)) ≡ dataIn (r .packets)
+    no-data : (a : Outcome) → dataIn (accepts a (r .packets) (commandOf call)) ≡ dataIn (r .packets)
     no-data Done = data-append (r .packets) (commandOf call ∷ []) ∙ rw (other, append-nil)
     no-data (Refused why) = refl
 

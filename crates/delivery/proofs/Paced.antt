@@ -19,7 +19,7 @@ use Rattle.packet.specs.declared.writer.Opened.{Opened}
 use Rattle.sender_log.specs.Book.{nothing}
 use Rattle.sender_log.specs.Calls.{TypedConfig}
 use Rattle.sender_log.proofs.Follows.{start-follows, write-follows}
-use Rattle.receiver_log.proofs.Choices.{by-cond}
+use Rattle.config.specs.inner.Choices.{by-cond}
 use Rattle.delivery.specs.Commands.{Command}
 use Rattle.delivery.specs.Console.{Lent, noPayload, Call, open-payload, lend-again, queue-words, retransmit-request, write-into, put-into, write-astray, Entry, Console, Step, noting, payloadAt, openStep, lentAgain, putStep, putInto, writeStep, stepOf, logFrom, freshConsole, AllAllowed, accepted, written, commands}
 use Rattle.delivery.specs.Repeats.{Brings}

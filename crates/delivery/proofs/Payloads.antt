@@ -7,14 +7,14 @@ use lib.ListN.{length, take, length-append}
 use lib.Seq.{length-take-le}
 use Rattle.packet.specs.Layout.{Packet, signature, encoded, encodedAll, payloadOf, Words32, Encodable, AllEncodable}
 use Rattle.packet.specs.Read.{placed}
-use Rattle.packet.specs.Write.{bytesIn, doneOf, placedOf, writtenOf, Outcome, refused, done}
+use Rattle.packet.specs.Write.{bytesIn, doneOf, placedOf, writtenOf, WriteEnds, refused, done}
 use Rattle.packet.specs.declared.writer.PayloadWriter.{PayloadWriter}
 use Rattle.packet.specs.declared.writer.Wrote.{Wrote}
 use Rattle.packet.proofs.RoundTrip.{items-payload, length-encoded}
 use Rattle.packet.proofs.Outcomes.{outcome, written-grows, written-length}
 use Rattle.command.specs.Calls.{accepts}
 use Rattle.rows.specs.Rows.{Row, oneMore, rowOf}
-use Rattle.receiver_log.proofs.Choices.{by-cond}
+use Rattle.config.specs.inner.Choices.{by-cond}
 use Rattle.delivery.specs.Commands.{Command, isData, dataIn, wholesIn, dataOf}
 use Rattle.delivery.proofs.Lists.{All, all-append}
 
@@ -65,7 +65,7 @@ holds-few p by cs h = omega (arith, h .opened, h .below, ap length (h .bytes), l
 
 -- ---- writing
 
-pub holds-after : (p : PayloadWriter) (by : List ℕ) (c : Packet) (cs : List Packet) (w : Wrote × List ℕ) → Outcome p by c w → Words32 (c .words) → Holds p by cs
+pub holds-after : (p : PayloadWriter) (by : List ℕ) (c : Packet) (cs : List Packet) (w : Wrote × List ℕ) → WriteEnds p by c w → Words32 (c .words) → Holds p by cs
     → Holds (w .0 .payload) (w .1) (accepts (w .0 .answer) cs c)
 holds-after p by c cs w (refused r) e h = h
 holds-after p by c cs w (done f l) e h =
@@ -87,7 +87,7 @@ unfolding rowOf
 holds-row [] p by ds e h = rw append-nil h
 holds-row (c ∷ cs) p by ds e h = go (writtenOf p by c) (outcome p by c) (λ q bytes. holds-row cs q bytes (ds ++ (c ∷ [])) (e .1))
   where
-    go : (w : Wrote × List ℕ) → Outcome p by c w
+    go : (w : Wrote × List ℕ) → WriteEnds p by c w
         → ((q : PayloadWriter) (bytes : List ℕ) → Holds q bytes (ds ++ (c ∷ [])) → RowHolds cs (ds ++ (c ∷ [])) (rowOf q bytes cs))
         → RowHolds (c ∷ cs) ds (oneMore (w .0 .answer) (w .0 .payload) (w .1) (rowOf (w .0 .payload) (w .1) cs))
     go w (refused r) rest = rw append-nil h

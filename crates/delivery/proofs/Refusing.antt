@@ -2,20 +2,20 @@
 use Prim.Native.Nat.{ℕ, _+_}
 use mathlib.Core.Path.{_≡_, refl, ap, sym, _∙_}
 use mathlib.Core.Logic.{_⊎_, inl, inr}
-use mathlib.Core.Bool.{Bool, true, false, cond, not, _||_}
+use mathlib.Core.Bool.{Bool, true, false, not, _||_}
 use mathlib.Core.List.{List, [], _∷_}
 use native.Mathlib.Omega.{arith}
 use lib.Dec.{leb, eqb}
 use lib.ListN.{length}
-use Rattle.config.specs.Settings.{checkOf, tested}
+use Rattle.config.specs.Entry.{entry}
+use Rattle.config.specs.Settings.{checkOf}
 use Rattle.config.specs.declared.refusal.Refusal.{Refusal}
-use Rattle.config.specs.declared.refusal.Refusal.the-variants.{InvalidState}
-use Rattle.config.specs.declared.settings.Check.{Check}
-use Rattle.config.specs.declared.settings.Check.the-variants.{Passed, Refused as CheckRefused}
+use Rattle.config.specs.declared.answer.Outcome.{Outcome}
+use Rattle.config.specs.declared.answer.Outcome.the-variants.{Done, Refused}
 use Rattle.config.specs.declared.settings.StreamConfig.{StreamConfig}
 use Rattle.config.specs.inner.Tests.{tests, lifts}
 use Rattle.packet.specs.Layout.{Packet, sizeOf}
-use Rattle.packet.specs.Write.{openedOf, startOf, doneOf, placedOf, writtenOf, validOf as payloadValid, Outcome, refused, done}
+use Rattle.packet.specs.Write.{openedOf, startOf, doneOf, placedOf, writtenOf, validOf as payloadValid, WriteEnds, refused, done}
 use Rattle.packet.specs.declared.writer.Opened.the-variants.{Payload}
 use Rattle.packet.specs.declared.writer.PayloadWriter.{PayloadWriter}
 use Rattle.packet.specs.declared.writer.Wrote.{Wrote}
@@ -33,7 +33,7 @@ use Rattle.sender_log.specs.Writes.{answerIn, ServedIn, servedIn, idledIn, Writ
 use Rattle.sender_log.specs.Writes as Sender
 use Rattle.sender_log.proofs.Follows.{write-follows}
 use Rattle.sender_log.proofs.Runs.{run-ok}
-use Rattle.receiver_log.proofs.Choices.{by-cond, never}
+use Rattle.config.specs.inner.Choices.{by-cond, never}
 use Rattle.delivery.specs.Console.{Allowed, write-astray}
 
 -- ---- a payload that is empty after a write was empty before it
@@ -43,7 +43,7 @@ unfolding rowOf
 row-empty [] p by z = z
 row-empty (c ∷ cs) p by z = go (writtenOf p by c) (outcome p by c) (λ q bytes y. row-empty cs q bytes y) z
   where
-    go : (w : Wrote × List ℕ) → Outcome p by c w → ((q : PayloadWriter) (bytes : List ℕ) → rowOf q bytes cs .payload .len ≡ 0 → q .len ≡ 0)
+    go : (w : Wrote × List ℕ) → WriteEnds p by c w → ((q : PayloadWriter) (bytes : List ℕ) → rowOf q bytes cs .payload .len ≡ 0 → q .len ≡ 0)
         → oneMore (w .0 .answer) (w .0 .payload) (w .1) (rowOf (w .0 .payload) (w .1) cs) .payload .len ≡ 0 → p .len ≡ 0
     go w (refused r) rest z = z
     go w (done f l) rest z = let n : startOf p + sizeOf c ≡ 0 = rest (doneOf p c .payload) (placedOf p by c) z in let y : ⊥ = omega arith in absurd y
@@ -101,11 +101,11 @@ in-lists : (c : ℕ) (cfg : StreamConfig) (now : ℕ) (b : Book) (p : PayloadWri
 unfolding writeIn
 in-lists c cfg now b p by e = go (checkOf cfg) (payloadValid p (length by)) refl refl e
   where
-    go : (k : Check) (v : Bool) → checkOf cfg ≡ k → payloadValid p (length by) ≡ v
-        → isRefused (tested k (Sender.refused b p by) (cond (not v) (Sender.refused b p by InvalidState) (writtenIn c cfg now b p by)) .answer) ≡ true → Listed cfg now p by
-    go (CheckRefused why) v s i x = inl (λ passed. let z : ⊥ = (let y : _≡_ {A = ℕ} 0 1 = cc in omega arith) in absurd z)
-    go Passed false s i x = inl (λ passed. i)
-    go Passed true s i x = inr (empty-opened p (length by) i (written-refused cfg now c b p by x))
+    go : (k : Outcome) (v : Bool) → checkOf cfg ≡ k → payloadValid p (length by) ≡ v
+        → isRefused (entry k v (Sender.refused b p by) (writtenIn c cfg now b p by) .answer) ≡ true → Listed cfg now p by
+    go (Refused why) v s i x = inl (λ passed. let z : ⊥ = (let y : _≡_ {A = ℕ} 0 1 = cc in omega arith) in absurd z)
+    go Done false s i x = inl (λ passed. i)
+    go Done true s i x = inr (empty-opened p (length by) i (written-refused cfg now c b p by x))
 
 -- after any list of calls on a fresh sender
 pub every-refused-write : (c q : ℕ) (memory : List ℕ) → Started c q memory → (calls : List Call) → AllTyped calls

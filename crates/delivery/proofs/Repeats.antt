@@ -18,7 +18,8 @@ use Rattle.window.specs.Window.{freshOf as allProcessed}
 use Rattle.window.specs.Arrival.{reach}
 use Rattle.window.specs.declared.window.Class.the-variants.{New}
 use Rattle.window.specs.declared.window.Span.the-variants.{Nothing}
-use Rattle.window.proofs.Ranges.{within-below, within-above}
+use Rattle.config.specs.inner.Ranges.{within-below, within-above}
+use Rattle.config.specs.inner.Choices.{by-check}
 use Rattle.receiver.specs.Receiver.{freshOf, restOf, heardOf}
 use Rattle.receiver.specs.Answers.{dataAnswer, hearingRefused, pollAnswer, errorAnswer, nakAnswer, takeAnswer}
 use Rattle.receiver.specs.declared.receiver.Receiver.{Receiver}
@@ -38,7 +39,7 @@ use Rattle.delivery.proofs.Lent.{Payloads}
 use Rattle.delivery.proofs.Chambers.{read-position}
 use Rattle.delivery.proofs.Brought.{length-from, one-each, written-many, sent-holds}
 use Rattle.delivery.proofs.Steady.{Steady, still, steady-from, Last, was-up, was-back, last-of, none-heard}
-use Rattle.delivery.proofs.AtRest.{by-check, rest-polled, rest-errored, rest-naked, rest-taken, rest-next, rest-behind}
+use Rattle.delivery.proofs.AtRest.{rest-polled, rest-errored, rest-naked, rest-taken, rest-next, rest-behind}
 use Rattle.delivery.proofs.Delivery.{good}
 use Rattle.delivery.proofs.InTime.{all-handed-on}
 
@@ -118,7 +119,7 @@ module _ (W : ℕ) (least : 1 ≤ W) (most : W ≤ maxWindow) (C : List (List �
   data-kept r t s now seq ws i k =
       rw (passes r (i .held .valid)) (by-check (λ (x : Heard). Keeps (x .receiver) (data-entry s now seq ws (x .answer) ∷ t)) (checkOf s) (hearingRefused r) (heardOf r s now seq)
       (λ why n st. let a = k n st in rest-quiet n r r t _ a (a .off) (a .is) refl)
-      (heard-kept r t s now seq ws k))
+      (λ e. heard-kept r t s now seq ws k))
 
   step-kept : (r : Receiver) (t : List Entry) (c : Call) → Follows W r t → Keeps r t → Keeps (stepOf r c .receiver) (stepOf r c .entry ∷ t)
   unfolding stepOf

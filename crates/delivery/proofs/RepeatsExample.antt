@@ -23,8 +23,7 @@ use Rattle.sender.specs.State.{validOf}
 use Rattle.sender.specs.Queueing.{roomOf, needOf, joinedTo, pushedAll, queuedTo, queuedOf, wordsCheck, placedOf, sentOf}
 use Rattle.sender.specs.Requests.{requestedOf}
 use Rattle.sender.specs.Writing.{servedIn, servedOf, idledOf, writtenOff, newOf, writtenBy}
-use Rattle.sender.specs.declared.sender.Send.the-variants.{Accepted}
-use Rattle.sender.specs.declared.sender.Start.the-variants.{Done}
+use Rattle.config.specs.declared.answer.Outcome.the-variants.{Done}
 use Rattle.window.specs.declared.window.Class.{Class}
 use Rattle.window.specs.declared.window.Class.the-variants.{New, Duplicate}
 use Rattle.window.specs.declared.window.Span.the-variants.{Nothing}
@@ -78,12 +77,12 @@ payload (suc (suc i)) = full 28 (0x4D494449 ∷ command i ++ (command (1 + i) ++
 
 abbrev sent : List Entry
 sent =
-    wrote 5 (empty 28) (payload 5) (all 3) ∷ queued (settings 2) (note 5) Accepted ∷ stood 5 (empty 28)
-    ∷ wrote 4 (empty 28) (payload 4) (all 3) ∷ queued (settings 2) (note 4) Accepted ∷ stood 4 (empty 28)
-    ∷ wrote 3 (empty 28) (payload 3) (all 3) ∷ queued (settings 2) (note 3) Accepted ∷ stood 3 (empty 28)
-    ∷ wrote 2 (empty 28) (payload 2) (all 3) ∷ queued (settings 2) (note 2) Accepted ∷ stood 2 (empty 28)
-    ∷ wrote 1 (empty 28) (payload 1) (all 2) ∷ queued (settings 2) (note 1) Accepted ∷ stood 1 (empty 28)
-    ∷ wrote 0 (empty 28) (payload 0) (all 1) ∷ queued (settings 2) (note 0) Accepted ∷ stood 0 (empty 28)
+    wrote 5 (empty 28) (payload 5) (all 3) ∷ queued (settings 2) (note 5) Done ∷ stood 5 (empty 28)
+    ∷ wrote 4 (empty 28) (payload 4) (all 3) ∷ queued (settings 2) (note 4) Done ∷ stood 4 (empty 28)
+    ∷ wrote 3 (empty 28) (payload 3) (all 3) ∷ queued (settings 2) (note 3) Done ∷ stood 3 (empty 28)
+    ∷ wrote 2 (empty 28) (payload 2) (all 3) ∷ queued (settings 2) (note 2) Done ∷ stood 2 (empty 28)
+    ∷ wrote 1 (empty 28) (payload 1) (all 2) ∷ queued (settings 2) (note 1) Done ∷ stood 1 (empty 28)
+    ∷ wrote 0 (empty 28) (payload 0) (all 1) ∷ queued (settings 2) (note 0) Done ∷ stood 0 (empty 28)
     ∷ []
 
 sent-is : logFrom (freshConsole 65 1 (zeros 65)) [] calls ≡ sent

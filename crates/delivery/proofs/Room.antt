@@ -26,10 +26,9 @@ use Rattle.sender.proofs.Queued.{check-divides}
 use Rattle.sender_log.specs.Book.{Book, freed, pushedIn, pushedAllIn, joinedLast, joinedIn, roomIn, needIn, queuedIn, QueueIn, sentIn}
 use Rattle.sender_log.specs.Writes.{isEmpty, idledBy, idledIn, writtenOn}
 use Rattle.sender_log.proofs.Words.{length-kept}
-use Rattle.receiver_log.proofs.Choices.{by-cond, or-left}
+use Rattle.config.specs.inner.Choices.{by-cond, or-left, by-check}
 use Rattle.delivery.proofs.Lists.{All, all-append, all-right, length-none}
 use Rattle.delivery.proofs.Sound.{kept-behind}
-use Rattle.delivery.proofs.Books.{by-check}
 
 -- ---- words that make one command
 

@@ -7,10 +7,10 @@ use mathlib.Core.List.{List}
 use lib.Dec.{eqb}
 use lib.ListN.{length}
 use Rattle.config.specs.Settings.{checkOf}
-use Rattle.config.specs.declared.refusal.Refusal.the-variants.{TooLarge, InvalidState}
+use Rattle.config.specs.declared.refusal.Refusal.the-variants.{TooLarge}
 use Rattle.config.specs.declared.settings.StreamConfig.{StreamConfig}
 use Rattle.config.specs.inner.Tests.{split}
-use Rattle.packet.specs.Write.{validOf as payloadValid, writtenOf, Outcome, done, refused as cut}
+use Rattle.packet.specs.Write.{validOf as payloadValid, writtenOf, WriteEnds, done, refused as cut}
 use Rattle.packet.specs.declared.writer.Wrote.{Wrote}
 use Rattle.packet.proofs.Outcomes.{outcome}
 use Rattle.command.specs.Write.{requestPacket}
@@ -23,10 +23,10 @@ use Rattle.receiver.specs.Answers.{takeAnswer}
 use Rattle.receiver.specs.declared.receiver.Asked.the-variants.{Request as AskedFor}
 use Rattle.receiver.specs.declared.receiver.Receiver.{Receiver}
 use Rattle.receiver.specs.declared.receiver.Request.the-variants.{Written}
-use Rattle.receiver_log.proofs.Choices.{by-cond}
+use Rattle.config.specs.inner.Choices.{by-cond}
+use Rattle.config.specs.inner.Entries.{entry-any}
 use Rattle.delivery.specs.Console.{Lent}
 use Rattle.delivery.specs.Take.{Taken, written, not-due, more, refused, TakenBy, Takes}
-use Rattle.delivery.proofs.Books.{by-check}
 
 module _ (r : Receiver) (cfg : StreamConfig) (v : Lent) where
   abbrev asking : RetransmitRequest → Wrote × List ℕ
@@ -36,7 +36,7 @@ module _ (r : Receiver) (cfg : StreamConfig) (v : Lent) where
   unfolding offeredOf
   offered-taken q = go (asking q) refl (outcome (v .payload) (v .buffer) (requestPacket q))
     where
-      go : (w : Wrote × List ℕ) → asking q ≡ w → Outcome (v .payload) (v .buffer) (requestPacket q) w → TakenBy v (takenBy r q (w .0 .payload) (w .0 .answer), w .1)
+      go : (w : Wrote × List ℕ) → asking q ≡ w → WriteEnds (v .payload) (v .buffer) (requestPacket q) w → TakenBy v (takenBy r q (w .0 .payload) (w .0 .answer), w .1)
       go w e (done f l) =
           let x : Taken v Written record { payload = asking q .0 .payload; buffer = asking q .1 } (AskedFor q) = written q (ap (λ (y : Wrote × List ℕ). y .0 .answer) e) in
           rw e at x
@@ -56,6 +56,5 @@ module _ (r : Receiver) (cfg : StreamConfig) (v : Lent) where
 pub takes : Takes
 unfolding takeAnswer
 takes r cfg v =
-    by-check (TakenBy v) (checkOf cfg) _ _ (λ why. refused (r .asked) why) (λ passed.
-    by-cond (TakenBy v) (not (validOf r && payloadValid (v .payload) (length (v .buffer)))) _ _ (λ invalid. refused (r .asked) InvalidState) (λ valid.
-    due-taken r cfg v))
+    entry-any (TakenBy v) _ _ (λ why. refused (r .asked) why) (checkOf cfg) (validOf r && payloadValid (v .payload) (length (v .buffer)))
+    (λ passed valid. due-taken r cfg v)

@@ -27,7 +27,8 @@ use Rattle.rows.specs.Choice.{repeatsOf}
 use Rattle.sender_log.specs.Book.{Book, oldestIn, indexIn, absentIn, withWaiting}
 use Rattle.sender_log.specs.Writes.{writtenFrom, newIn, reachIn, answerIn, ServedIn, servedIn, isEmpty, idledBy, idledIn, againIn, writtenOn, WriteIn, newBy, newWritten, writtenIn, writeIn}
 use Rattle.sender_log.proofs.Packets.{take-data}
-use Rattle.receiver_log.proofs.Choices.{by-cond, or-left}
+use Rattle.config.specs.inner.Choices.{by-cond, or-left}
+use Rattle.config.specs.inner.Entries.{entry-any}
 use Rattle.delivery.specs.Commands.{Command, dataIn}
 use Rattle.delivery.proofs.Lists.{All, all-append, all-right, all-take, all-drop, take-append}
 use Rattle.delivery.proofs.Wires.{onto, onto-append, numberedFrom, wire-nexts}
@@ -35,7 +36,7 @@ use Rattle.delivery.proofs.Packets.{data-append, data-from, from-encoda
 use Rattle.delivery.proofs.Payloads.{Holds, holds-row}
 use Rattle.delivery.proofs.Messages.{whole-nil}
 use Rattle.delivery.proofs.Sound.{Sound, length-size}
-use Rattle.delivery.proofs.Books.{Agrees, by-check, pushed-agrees}
+use Rattle.delivery.proofs.Books.{Agrees, pushed-agrees}
 
 -- packets that write no new position
 pub record Copies (C : List (List ℕ)) (cs : List Packet) : Type 0 where
@@ -241,6 +242,5 @@ module _ (c : ℕ) (most : c ≤ 32768) (accepted : List ℕ) where
       → GrownBy c accepted w cs (writeIn c cfg now b p by)
   unfolding writeIn
   write-grown cfg now b p by w cs l i h =
-      by-check (GrownBy c accepted w cs) (checkOf cfg) _ _ (λ why. unchanged w cs b p by i h) (λ passed.
-      by-cond (GrownBy c accepted w cs) (not (payloadValid p (length by))) _ _ (λ invalid. unchanged w cs b p by i h) (λ valid.
-      written-grown cfg now b p by w cs l i h))
+      entry-any (GrownBy c accepted w cs) _ _ (λ why. unchanged w cs b p by i h) (checkOf cfg) (payloadValid p (length by))
+      (λ passed valid. written-grown cfg now b p by w cs l i h)

@@ -7,7 +7,8 @@ use mathlib.Core.List.{List, [], _∷_, _++_}
 use lib.Dec.{eqb, ltb}
 use lib.ListN.{length, getD, drop, set}
 use Rattle.config.specs.Settings.{checkOf}
-use Rattle.config.specs.declared.settings.Check.the-variants.{Passed}
+use Rattle.config.specs.declared.answer.Outcome.{Outcome}
+use Rattle.config.specs.declared.answer.Outcome.the-variants.{Done, Refused}
 use Rattle.config.specs.declared.settings.StreamConfig.{StreamConfig}
 use Rattle.packet.specs.Layout.{Words32}
 use Rattle.packet.specs.Write.{openedOf, bytesIn, validOf as payloadValid}
@@ -19,8 +20,6 @@ use Rattle.command.specs.Calls as Writes
 use Rattle.command.specs.declared.retransmit.RetransmitRequest.{RetransmitRequest}
 use Rattle.sender.specs.Answers.{newAnswer, sendAnswer, requestAnswer, writeAnswer}
 use Rattle.sender.specs.declared.sender.Sender.{Sender}
-use Rattle.sender.specs.declared.sender.Send.{Send}
-use Rattle.sender.specs.declared.sender.Send.the-variants.{Accepted, Refused}
 use Rattle.sender.specs.declared.sender.Writing.{Writing}
 use Rattle.sender_log.specs.Calls.{TypedConfig}
 use Rattle.delivery.specs.Commands.{Command, isData, dataOf}
@@ -61,7 +60,7 @@ pub data Call : Type 0 where
 
 -- the log: calls with what they were given, answered and left
 pub data Entry : Type 0 where
-  queued : StreamConfig → List ℕ → Send → Entry
+  queued : StreamConfig → List ℕ → Outcome → Entry
   -- payload, as the write found it, as the write left it
   wrote : ℕ → Lent → Lent → Writing → Entry
   -- payload, as another call left it
@@ -144,7 +143,7 @@ Allowed (queue-words cfg ws) = Words32 ws
 Allowed (retransmit-request cfg r) = Unit {0}
 Allowed (write-into k cfg now) = TypedConfig cfg
 Allowed (put-into k call) = WriteTyped call × (isData (commandOf call) ≡ false)
-Allowed (write-astray p b cfg now) = checkOf cfg ≡ Passed → payloadValid p (length b) ≡ false
+Allowed (write-astray p b cfg now) = checkOf cfg ≡ Done → payloadValid p (length b) ≡ false
 
 abbrev pub AllAllowed : List Call → Type 0
 AllAllowed [] = Unit {0}
@@ -153,8 +152,8 @@ AllAllowed (call ∷ calls) = Allowed call × AllAllowed calls
 -- ---- over the log
 
 -- accepted: the words of unrefused queue calls, joined in order
-abbrev pub taken : Send → List ℕ → List ℕ
-taken Accepted ws = ws
+abbrev pub taken : Outcome → List ℕ → List ℕ
+taken Done ws = ws
 taken (Refused why) ws = []
 
 abbrev pub accepted : List Entry → List ℕ

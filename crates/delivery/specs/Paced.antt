@@ -5,7 +5,7 @@ use mathlib.Core.Path.{_≡_}
 use mathlib.Core.List.{List, [], _∷_}
 use lib.ListN.{length}
 use Rattle.config.specs.Settings.{checkOf}
-use Rattle.config.specs.declared.settings.Check.the-variants.{Passed}
+use Rattle.config.specs.declared.answer.Outcome.the-variants.{Done}
 use Rattle.config.specs.declared.settings.StreamConfig.{StreamConfig}
 use Rattle.delivery.specs.Console.{Lent, Call, open-payload, lend-again, queue-words, retransmit-request, write-into, put-into, write-astray, Console, payloadAt, stepOf, freshConsole, positions}
 use Rattle.delivery.specs.Repeats.{Brings, Arrives, heardCommands, writtenPayloads, AllHandedOn}
@@ -21,7 +21,7 @@ historyNeed R s = (R + 1) * (1 + s)
 
 -- a write with settings that pass and R repeats, into a payload that is empty and has the room
 pub record Ready (R s : ℕ) (cfg : StreamConfig) (v : Lent) : Type 0 where
-  pub passes : checkOf cfg ≡ Passed
+  pub passes : checkOf cfg ≡ Done
   pub repeats : cfg .«fec_repeats» ≡ R
   pub empty : v .payload .len ≡ 0
   pub limit : payloadNeed R s ≤ v .payload .max
@@ -56,7 +56,7 @@ roundsFrom k (r ∷ rs) =
     open-payload (r .limit) (r .buffer) ∷ queue-words (r .settings) (r .words) ∷ write-into k (r .settings) (r .now) ∷ roundsFrom (suc k) rs
 
 pub record Fits (R s : ℕ) (r : Round) : Type 0 where
-  pub passes : checkOf (r .settings) ≡ Passed
+  pub passes : checkOf (r .settings) ≡ Done
   pub repeats : r .settings .«fec_repeats» ≡ R
   pub size : s ≤ r .settings .«max_command_words»
   pub few : length (r .words) ≤ s

@@ -20,7 +20,7 @@ use Rattle.receiver_log.specs.Log.{Report, reports, lossOf, origin, high, times
 use Rattle.receiver_log.specs.Promise.{logOf, ReceiverPromise}
 use Rattle.sender.specs.Answers.{newAnswer}
 use Rattle.command.specs.Messages.{wordsIn}
-use Rattle.sender.specs.declared.sender.Start.the-variants.{Done}
+use Rattle.config.specs.declared.answer.Outcome.the-variants.{Done}
 use Rattle.delivery.specs.Commands.{Command, dataOf}
 use Rattle.delivery.specs.Console.{Lent, bytes, Call, Entry, logFrom, freshConsole, AllAllowed, accepted, written, positions, positionOf, Was}
 use Rattle.delivery.specs.Performance.{SamePerformance}

@@ -15,6 +15,7 @@
 // that begin with # answer nothing; a line that is none of these, and one before the first `group`, answers
 // `bad`.
 use command::retransmit::RetransmitError;
+use config::answer::Outcome;
 use held_notes::held;
 use held_notes::held::Given;
 use held_notes::held::HeldNotes;
@@ -119,10 +120,8 @@ fn shown(to: &mut [u8], used: usize, given: Given) -> usize {
     let answer = given.answer;
     let notes = given.notes;
     match answer {
-        held_notes::held::Answer::Done => printed(to, used, GIVES, notes),
-        held_notes::held::Answer::Refused(why) => {
-            say_line(to, used, REFUSES, why.number() as u64)
-        }
+        Outcome::Done => printed(to, used, GIVES, notes),
+        Outcome::Refused(why) => { say_line(to, used, REFUSES, why.number() as u64) }
     }
 }
 

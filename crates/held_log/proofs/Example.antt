@@ -29,8 +29,7 @@ use Rattle.sender.specs.Commands.{fitting, front, behind, commandsIn, commandsO
 use Rattle.sender.specs.State.{validOf}
 use Rattle.sender.specs.Queueing.{roomOf, needOf, joinedTo, pushedAll, queuedTo, queuedOf, wordsCheck, placedOf, sentOf}
 use Rattle.sender.specs.Writing.{servedIn, servedOf, idledOf, writtenOff, newOf, writtenBy}
-use Rattle.sender.specs.declared.sender.Send.the-variants.{Accepted}
-use Rattle.sender.specs.declared.sender.Start.the-variants.{Done}
+use Rattle.config.specs.declared.answer.Outcome.the-variants.{Done}
 use Rattle.window.specs.declared.window.Class.the-variants.{New, Late}
 use Rattle.window.specs.declared.window.Span.the-variants.{Nothing, Of}
 use Rattle.idle.specs.Schedule.{idleNext}
@@ -84,9 +83,9 @@ payload2 = full 12 (0x4D494449 ∷ 0xFF010002 ∷ C)
 
 abbrev sent : List Entry
 sent =
-    wrote 2 (empty 12) payload2 (all 1) ∷ queued (settings 0) C Accepted ∷ stood 2 (empty 12)
-    ∷ wrote 1 (empty 12) payload1 (all 1) ∷ queued (settings 0) B Accepted ∷ stood 1 (empty 12)
-    ∷ wrote 0 (empty 12) payload0 (all 1) ∷ queued (settings 0) A Accepted ∷ stood 0 (empty 12)
+    wrote 2 (empty 12) payload2 (all 1) ∷ queued (settings 0) C Done ∷ stood 2 (empty 12)
+    ∷ wrote 1 (empty 12) payload1 (all 1) ∷ queued (settings 0) B Done ∷ stood 1 (empty 12)
+    ∷ wrote 0 (empty 12) payload0 (all 1) ∷ queued (settings 0) A Done ∷ stood 0 (empty 12)
     ∷ []
 
 sent-is : logFrom (freshConsole 65 4 (zeros 65)) [] calls ≡ sent

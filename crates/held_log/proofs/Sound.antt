@@ -1,6 +1,6 @@
 -- What a receiver's answers say of its log: a New command is above all before, and a loss lies wholly at or below the highest.
 use Prim.Native.Nat.{ℕ, zero, suc, _+_, _-_, _%_, _≤_, _<_, max}
-use mathlib.Core.Path.{_≡_, refl, sym, subst}
+use mathlib.Core.Path.{_≡_, refl}
 use mathlib.Core.Logic.{_⊎_, inl, inr}
 use mathlib.Core.Bool.{Bool, true, false, cond, not, _&&_}
 use mathlib.Core.List.{List, [], _∷_}
@@ -8,21 +8,21 @@ use native.Mathlib.Omega.{arith}
 use lib.Dec.{ltb, leb, eqb}
 use lib.ListN.{length}
 use borrow.Author.Tests.{leb-true, ltb-true, eqb-true}
+use Rattle.config.specs.inner.Choices.{never}
 use Rattle.config.specs.Range.{within}
 use Rattle.config.specs.Sequence.{turn, ahead}
 use Rattle.config.specs.Settings.{checkOf, tested}
-use Rattle.config.specs.declared.refusal.Refusal.the-variants.{InvalidState}
 use Rattle.config.specs.declared.settings.StreamConfig.{StreamConfig}
-use Rattle.config.specs.declared.settings.Check.{Check}
-use Rattle.config.specs.declared.settings.Check.the-variants.{Passed, Refused as CheckRefused}
+use Rattle.config.specs.declared.answer.Outcome.{Outcome}
+use Rattle.config.specs.declared.answer.Outcome.the-variants.{Done, Refused}
 use Rattle.config.specs.inner.Tests.{split, tests, and-left, and-right}
+use Rattle.config.specs.Entry.{entry}
 use Rattle.packet.specs.Write.{validOf as payloadValid}
 use Rattle.packet.specs.declared.writer.PayloadWriter.{PayloadWriter}
 use Rattle.command.specs.declared.retransmit.RetransmitError.{RetransmitError}
 use Rattle.window.specs.Arrival.{reach}
 use Rattle.window.specs.Marking.{inRange}
 use Rattle.window.specs.Set.{maxWindow}
-use Rattle.window.specs.declared.window.Class.{Class}
 use Rattle.window.specs.declared.window.Class.the-variants.{New, Late, Duplicate}
 use Rattle.window.specs.declared.window.Span.{Span}
 use Rattle.window.specs.declared.window.Span.the-variants.{Nothing, Of}
@@ -33,12 +33,11 @@ use Rattle.receiver.specs.declared.receiver.Hearing.the-variants.{Delivery as D
 use Rattle.receiver.specs.declared.receiver.StreamEvent.the-variants.{Refused as EventRefused}
 use Rattle.receiver.specs.declared.receiver.Request.the-variants.{Nothing as NotDue, Refused as RequestRefused}
 use Rattle.receiver_log.specs.Calls.{Call, data-command, poll, retransmit-error, nak, take-request, Entry, data-entry, take-entry}
-use Rattle.receiver_log.specs.Log.{Report, heard, told, lossOf, lossIn, reportOf, reports, origin, isAhead, place, high, times, start, inLoss, lost, unprocessed, Missing}
+use Rattle.receiver_log.specs.Log.{Report, heard, told, lossOf, lossIn, reportOf, reports, origin, isAhead, place, high, times, start, lost, unprocessed, Missing}
 use Rattle.receiver_log.specs.Spans.{Ends, none, ends, widen, endsOf, spanFrom, classIn, lostAt, lostIn, missingEnds, missingIn, requestIn, askedFor}
 use Rattle.receiver_log.specs.Timing.{Tick, waits, asks, gives-up, enabledIn, timerIn, tickAt, dueIn, askedIn}
 use Rattle.receiver_log.specs.Answers.{deliveryIn, pollEvent, errorIn, nakEvent, offered, takeIn, answerOf}
 use Rattle.receiver_log.specs.Promise.{Promise}
-use Rattle.held_notes.proofs.Moments.{never}
 use Rattle.held_log.proofs.Standing.{Rises, LossBelow}
 
 -- ---- ends
@@ -164,17 +163,17 @@ module _ (W : ℕ) (most : W ≤ maxWindow) (t : List Entry) (p : Promise W (rep
   abbrev H : ℕ
   H = high (reports t)
 
-  data-next : (s : StreamConfig) (now seq : ℕ) (ws : List ℕ) (k : Check)
+  data-next : (s : StreamConfig) (now seq : ℕ) (ws : List ℕ) (k : Outcome)
       → Next (reports t) (reportOf (data-entry s now seq ws (tested k HearingRefused (Delivered (deliveryIn W (reports t) seq)))))
-  data-next s now seq ws Passed = (class-rises W most (reports t) p seq ws (lostIn W (reports t) seq), number-below W most (reports t) p seq)
-  data-next s now seq ws (CheckRefused why) = (tt, no-loss H)
+  data-next s now seq ws Done = (class-rises W most (reports t) p seq ws (lostIn W (reports t) seq), number-below W most (reports t) p seq)
+  data-next s now seq ws (Refused why) = (tt, no-loss H)
 
-  loss-of-missing : (m : Span) → LossBelow H m → (k : Check) (tick : Tick) → LossBelow H (lossIn (tested k EventRefused (pollEvent m tick)))
-  loss-of-missing m h (CheckRefused why) tick = no-loss H
-  loss-of-missing m h Passed waits = no-loss H
-  loss-of-missing m h Passed asks = no-loss H
-  loss-of-missing Nothing h Passed gives-up = h
-  loss-of-missing (Of range) h Passed gives-up = h
+  loss-of-missing : (m : Span) → LossBelow H m → (k : Outcome) (tick : Tick) → LossBelow H (lossIn (tested k EventRefused (pollEvent m tick)))
+  loss-of-missing m h (Refused why) tick = no-loss H
+  loss-of-missing m h Done waits = no-loss H
+  loss-of-missing m h Done asks = no-loss H
+  loss-of-missing Nothing h Done gives-up = h
+  loss-of-missing (Of range) h Done gives-up = h
 
   loss-of-error : (e : RetransmitError) (m : Span) → LossBelow H m → LossBelow H (lossIn (errorEvent e m))
   loss-of-error e Nothing h = h
@@ -194,16 +193,15 @@ module _ (W : ℕ) (most : W ≤ maxWindow) (t : List Entry) (p : Promise W (rep
 
   -- taking a request tells nothing
   take-quiet : (s : StreamConfig) (q : PayloadWriter) (b : List ℕ) (offers : Bool) (request : Span) → reportOf (takeIn s q b offers request) ≡ told Nothing
-  take-quiet s q b offers request = by (checkOf s) (not (payloadValid q (length b))) offers request
+  take-quiet s q b offers request = by (checkOf s) (payloadValid q (length b)) offers request
     where
-      by : (k : Check) (invalid offers : Bool) (request : Span)
-          → reportOf (tested k (λ why. take-entry s q b (RequestRefused why) q b)
-          (cond invalid (take-entry s q b (RequestRefused InvalidState) q b) (cond offers (offered s q b request) (take-entry s q b NotDue q b)))) ≡ told Nothing
-      by (CheckRefused why) invalid offers request = refl
-      by Passed true offers request = refl
-      by Passed false false request = refl
-      by Passed false true Nothing = refl
-      by Passed false true (Of range) = refl
+      by : (k : Outcome) (valid offers : Bool) (request : Span)
+          → reportOf (entry k valid (λ why. take-entry s q b (RequestRefused why) q b) (cond offers (offered s q b request) (take-entry s q b NotDue q b))) ≡ told Nothing
+      by (Refused why) valid offers request = refl
+      by Done false offers request = refl
+      by Done true false request = refl
+      by Done true true Nothing = refl
+      by Done true true (Of range) = refl
 
   pub next-sound : (c : Call) → Next (reports t) (reportOf (answerOf W t c))
   unfolding answerOf

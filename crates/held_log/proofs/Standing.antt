@@ -1,12 +1,13 @@
 -- Why a held note was not released: its on was handed on at a place, and what was handed on above that place came later and left it held.
 use Prim.Native.Nat.{ℕ, _≤_, _<_, max}
 use mathlib.Core.Path.{_≡_, refl, sym, _∙_}
-use mathlib.Core.Logic.{_⊎_, inl, inr}
+use mathlib.Core.Logic.{inl, inr}
 use mathlib.Core.Bool.{Bool, true, false, cond, _&&_, _||_}
 use mathlib.Core.List.{List, [], _∷_, _++_}
 use native.Mathlib.Omega.{arith}
 use lib.Dec.{eqb}
-use Rattle.config.specs.inner.Tests.{split, tests, lifts}
+use Rattle.config.specs.inner.Tests.{split, lifts}
+use Rattle.config.specs.inner.Choices.{never, unless}
 use Rattle.command.specs.Messages.{messagesOf}
 use Rattle.window.specs.declared.window.Class.{Class}
 use Rattle.window.specs.declared.window.Class.the-variants.{New, Late, Duplicate}
@@ -15,8 +16,8 @@ use Rattle.window.specs.declared.window.Span.the-variants.{Nothing, Of}
 use Rattle.receiver.specs.declared.receiver.Hearing.the-variants.{Delivery as Delivered, Refused as HearingRefused}
 use Rattle.receiver_log.specs.Calls.{Entry, data-entry, poll-entry, error-entry, nak-entry, take-entry}
 use Rattle.receiver_log.specs.Log.{Report, heard, told, lossOf, lossIn, reports, place, high, hands, handsOn, inLoss, lost}
-use Rattle.held_notes.specs.Calls.{silenced, handed, messages, heldThrough, heldIn}
-use Rattle.held_notes.proofs.Moments.{never, after-silence, through-append, play, play-append, play-any, late-held, late-play}
+use Rattle.held_notes.specs.Calls.{silenced, handed, heldThrough, heldIn}
+use Rattle.held_notes.proofs.Moments.{after-silence, through-append, play, play-append, play-any, late-held, late-play}
 use Rattle.held_log.specs.Log.{callsOf}
 
 -- ---- what is asked of a receiver's log
@@ -58,10 +59,6 @@ none-above (heard seq ws c l ∷ t) x h =
 raises : (r : Report) (t : List Report) → high t ≤ high (r ∷ t)
 raises (heard seq ws c l) t = omega arith
 raises (told l) t = omega arith
-
-pub unless : (y : Bool) → (y ≡ true → ⊥) → y ≡ false
-unless true f = absurd (f refl)
-unless false f = refl
 
 either : (a b : Bool) → a ≡ false → b ≡ false → (a || b) ≡ false
 either a b e f = rw (e, f)

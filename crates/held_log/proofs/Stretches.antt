@@ -6,6 +6,7 @@ use mathlib.Core.Bool.{Bool, true, false}
 use mathlib.Core.List.{List, [], _∷_, _++_, append-nil, append-assoc}
 use native.Mathlib.Omega.{arith}
 use lib.Dec.{ltb, eqb}
+use Rattle.config.specs.inner.Choices.{never}
 use Rattle.config.specs.inner.Tests.{split, tests}
 use Rattle.window.specs.Set.{maxWindow}
 use Rattle.receiver_log.specs.Calls.{Entry, Typed, AllTyped}
@@ -15,7 +16,7 @@ use Rattle.receiver_log.specs.Answers.{answerOf, saidOf}
 use Rattle.receiver_log.specs.Promise.{Promise, logOf, ReceiverPromise, Answered}
 use Rattle.delivery.specs.Sentence.{heardLog, heardIn, Contract, HandedWords}
 use Rattle.held_notes.specs.Calls.{Call, restarted, momentsOf, heldThrough, heldIn}
-use Rattle.held_notes.proofs.Moments.{never, after-silence, play}
+use Rattle.held_notes.proofs.Moments.{after-silence, play}
 use Rattle.held_log.specs.Log.{callsOf, since}
 use Rattle.held_log.specs.Theorems.{leavesHeld, wholeIn, handedAt, HeldHandedOn, HeldAccepted, Unreleased, HeldUnreleased}
 use Rattle.held_log.proofs.Standing.{Sound, Standing, standing, heardAt}

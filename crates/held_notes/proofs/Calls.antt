@@ -19,8 +19,8 @@ use Rattle.held_notes.specs.Calls.{Moment, silence, heldThrough, Call, d
 use Rattle.held_notes.specs.State.{allNotes, has, Leads}
 use Rattle.held_notes.specs.Theorems.{leftBy, listIn, HeldKept, HeldRefused}
 use Rattle.held_notes.specs.Answers.{notesOf, listOf, isLoss, silences, givenBy, doneOf, refusedOf, answerOf, noneHeld, startOf, Follows, Plays}
-use Rattle.held_notes.specs.declared.held.Answer.{Answer}
-use Rattle.held_notes.specs.declared.held.Answer.the-variants.{Done}
+use Rattle.config.specs.declared.answer.Outcome.{Outcome}
+use Rattle.config.specs.declared.answer.Outcome.the-variants.{Done}
 use Rattle.held_notes.specs.declared.listing.Notes.{Notes}
 use Rattle.held_notes.specs.declared.held.HeldNotes.{HeldNotes}
 use Rattle.held_notes.specs.declared.held.Given.{Given}
@@ -68,14 +68,14 @@ start-state g = by (ltb 15 g)
 abbrev stateAs : ℕ → List ℕ → HeldNotes
 stateAs g held = record { group = g; held = held }
 
-abbrev givenAs : HeldNotes → Notes → Answer → Given
+abbrev givenAs : HeldNotes → Notes → Outcome → Given
 givenAs s notes answer = record { state = s; notes = notes; answer = answer }
 
 -- what is given, by its parts
-given-is : (r : Given) (g : ℕ) (held : List ℕ) (notes : Notes) (answer : Answer) → r .state .group ≡ g → r .state .held ≡ held → r .notes ≡ notes → r .answer ≡ answer
+given-is : (r : Given) (g : ℕ) (held : List ℕ) (notes : Notes) (answer : Outcome) → r .state .group ≡ g → r .state .held ≡ held → r .notes ≡ notes → r .answer ≡ answer
     → r ≡ givenAs (stateAs g held) notes answer
 given-is r g held notes answer a b c d =
-    ap₂ (λ (x : HeldNotes) (y : Notes). givenAs x y (r .answer)) (ap₂ stateAs a b) c ∙ ap (λ (x : Answer). givenAs (stateAs g held) notes x) d
+    ap₂ (λ (x : HeldNotes) (y : Notes). givenAs x y (r .answer)) (ap₂ stateAs a b) c ∙ ap (λ (x : Outcome). givenAs (stateAs g held) notes x) d
 
 module _ (s : HeldNotes) (call : Call) where
   answer-refused : 15 < s .group → answerOf s call ≡ refusedOf s

@@ -4,11 +4,12 @@ use mathlib.Core.Path.{_≡_, refl, sym, _∙_, ap}
 use mathlib.Core.Logic.{_⊎_, inl, inr, _↔_}
 use mathlib.Core.Bool.{Bool, true, false, _&&_}
 use mathlib.Core.List.{List, [], _∷_, _++_}
+use Rattle.config.specs.inner.Choices.{never}
 use Rattle.config.specs.inner.Tests.{split, and-left, and-right}
 use Rattle.notes.specs.Notes.{onFor, offFor}
 use Rattle.held_notes.specs.Calls.{Moment, silence, message, heldAfter, heldThrough, Call, momentsOf, momentsIn, heldIn}
 use Rattle.held_notes.specs.Theorems.{Undisturbed, HeldBy, HeldExactly}
-use Rattle.held_notes.proofs.Moments.{never, on-not-off, after-silence, after-off, after-on, after-other, after-held, through-append}
+use Rattle.held_notes.proofs.Moments.{on-not-off, after-silence, after-off, after-on, after-other, after-held, through-append}
 
 module _ (g k : ℕ) where
   earlier : (n : Moment) (ms : List Moment) → HeldBy g k ms → HeldBy g k (n ∷ ms)

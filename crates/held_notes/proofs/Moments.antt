@@ -4,13 +4,10 @@ use mathlib.Core.Path.{_≡_, refl, ap, sym, _∙_}
 use mathlib.Core.Logic.{inl, inr}
 use mathlib.Core.Bool.{Bool, true, false, cond, _&&_}
 use mathlib.Core.List.{List, [], _∷_, _++_}
-use native.Mathlib.Omega.{arith}
+use Rattle.config.specs.inner.Choices.{never}
 use Rattle.config.specs.inner.Tests.{split, and-left, and-right}
 use Rattle.notes.specs.Notes.{Effect, holds, releases, nothing, effectOf, holdsIt, releasesIt, onFor, offFor}
 use Rattle.held_notes.specs.Calls.{Moment, silence, message, messages, heldAfter, heldThrough}
-
-pub never : {y : Bool} → y ≡ true → y ≡ false → ⊥
-never e f = let z : _≡_ {A = ℕ} 0 1 = cc in omega arith
 
 module _ (g k : ℕ) where
   -- no message is both

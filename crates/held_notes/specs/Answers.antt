@@ -14,7 +14,7 @@ use Rattle.held_notes.specs.Calls.{Moment, heldThrough, Call, delivered,
 use Rattle.held_notes.specs.State.{allNotes, has, setOf, notesBelow, Leads}
 use Rattle.held_notes.specs.declared.listing.Notes.{Notes}
 use Rattle.held_notes.specs.declared.held.HeldNotes.{HeldNotes}
-use Rattle.held_notes.specs.declared.held.Answer.the-variants.{Done, Refused}
+use Rattle.config.specs.declared.answer.Outcome.the-variants.{Done, Refused}
 use Rattle.held_notes.specs.declared.held.Given.{Given}
 
 -- ---- notes by value

@@ -10,6 +10,7 @@ ghost use Rattle.held_notes.specs.Answers.{notesOf, isLoss, Follows, Pla
 use super::listing;
 use super::listing::Notes;
 use super::walk;
+use config::answer::Outcome;
 use config::refusal::Refusal;
 use receiver::receiver::Delivery;
 use receiver::receiver::Hearing;
@@ -26,16 +27,11 @@ pub struct HeldNotes {
     pub held: [u64; 32],
 }
 
-pub enum Answer {
-    Done,
-    Refused(Refusal),
-}
-
 pub struct Given {
     pub state: HeldNotes,
     // On a reported loss or a restart, the notes that were held.
     pub notes: Notes,
-    pub answer: Answer,
+    pub answer: Outcome,
 }
 
 fn no_notes() -> Notes
@@ -55,7 +51,7 @@ fn refused(state: HeldNotes) -> Given
     Given {
         state,
         notes,
-        answer: Answer::Refused(Refusal::SizeNotAllowed),
+        answer: Outcome::Refused(Refusal::SizeNotAllowed),
     }
 }
 
@@ -67,7 +63,7 @@ fn unchanged(state: HeldNotes) -> Given
     Given {
         state,
         notes,
-        answer: Answer::Done,
+        answer: Outcome::Done,
     }
 }
 
@@ -83,7 +79,7 @@ fn silence_all(state: HeldNotes) -> Given
             held: [0u64; 32],
         },
         notes,
-        answer: Answer::Done,
+        answer: Outcome::Done,
     }
 }
 
@@ -109,7 +105,7 @@ fn played(given: Given, new: bool, body: &[u8]) -> Given
     Given {
         state: HeldNotes { group, held: after },
         notes,
-        answer: Answer::Done,
+        answer: Outcome::Done,
     }
 }
 
@@ -149,7 +145,7 @@ pub fn start(group: u8) -> Given
     Given {
         state,
         notes,
-        answer: Answer::Done,
+        answer: Outcome::Done,
     }
 }
 

@@ -5,11 +5,11 @@ use mathlib.Core.Bool.{Bool, true, false, _&&_, and-true, and-false}
 use mathlib.Core.List.{List}
 use Prim.Native.Nat.{ℕ, zero, suc, _+_, _-_, _≤_, _<_, min}
 use native.Mathlib.Omega.{arith}
-use borrow.Author.Tests.{lt-ltb, le-ltb, le-leb, lt-leb, eq-eqb, ne-eqb, leb-true, eqb-true, not-true, not-false}
+use borrow.Author.Tests.{lt-ltb, le-ltb, le-leb, lt-leb, eq-eqb, ne-eqb, eqb-true, not-true, not-false}
 use lib.ListN.{length}
-use lib.Dec.{leb, ltb, eqb, eqb·suc-zero}
+use lib.Dec.{leb, eqb, eqb·suc-zero}
 use Rattle.config.specs.Range.{within, outside}
-use Rattle.config.specs.inner.Tests.{split, tests, and-left, and-right}
+use Rattle.config.specs.inner.Tests.{split, tests}
 use Rattle.history.specs.Headers.{nextAt, headerAt, wordsFrom, numbered}
 use Rattle.history.specs.Walk.{newestFrom, passes, Past, Walked}
 use Rattle.history.specs.State.{newestAt, unsentTake, walkOk, stateOk, backAt, Answers}
@@ -95,11 +95,6 @@ module _ (b : List ℕ) (last unsent words k i n u : ℕ) where
           rw (unsent-words, eq-eqb (wordsFrom unsent b at) words t, f, eq-eqb (wordsFrom k b i) u q, and-true, ← newest-at last k b i, g)
 
 -- ---- the state
-
-pub size-bounds : (low high n : ℕ) → outside low high n ≡ false → (low ≤ n) × (n ≤ high)
-size-bounds low high n s =
-    let t = not-false (within low high n) s in
-    (leb-true _ _ (and-left (leb low n) _ t), leb-true _ _ (and-right (leb low n) _ t))
 
 size-in : (n : ℕ) → outside 65 32768 n ≡ false → within 65 32768 n ≡ true
 size-in n s = not-false (within 65 32768 n) s

@@ -13,7 +13,7 @@ use Rattle.config.specs.Settings.{checkOf}
 use Rattle.config.specs.Time.{lastTime, later}
 use Rattle.config.specs.declared.refusal.Refusal.the-variants.{IdleInterval, IdleGrowth, CommandWords}
 use Rattle.config.specs.declared.settings.StreamConfig.{StreamConfig}
-use Rattle.config.specs.declared.settings.Check.the-variants.{Passed, Refused}
+use Rattle.config.specs.declared.answer.Outcome.the-variants.{Done, Refused}
 use Rattle.idle.specs.Schedule.{idleOk, idleStart, grownBy, idleNext}
 use Rattle.idle.specs.declared.idle.Idle.{Idle}
 use Rattle.idle.specs.declared.idle.IdleTimer.{IdleTimer}
@@ -30,11 +30,11 @@ module _ (i g : ℕ) (some : 0 < g) where
   pub grown-product : i ≤ lastTime / g → i * g ≡ grownBy g i
   grown-product h = let l = grown-fits h in omega arith
 
-pub settings-growth : (cfg : StreamConfig) → checkOf cfg ≡ Passed → 0 < cfg .«idle_growth»
+pub settings-growth : (cfg : StreamConfig) → checkOf cfg ≡ Done → 0 < cfg .«idle_growth»
 unfolding checkOf
 settings-growth cfg e = by (outside 1 64 (cfg .«max_command_words»)) (outside 1 300 (cfg .«idle_interval_ms»)) (eqb (cfg .«idle_growth») 0) refl e
   where
-    by : (a b t : Bool) → eqb (cfg .«idle_growth») 0 ≡ t → cond a (Refused CommandWords) (cond b (Refused IdleInterval) (cond t (Refused IdleGrowth) Passed)) ≡ Passed → 0 < cfg .«idle_growth»
+    by : (a b t : Bool) → eqb (cfg .«idle_growth») 0 ≡ t → cond a (Refused CommandWords) (cond b (Refused IdleInterval) (cond t (Refused IdleGrowth) Done)) ≡ Done → 0 < cfg .«idle_growth»
     by true b t f h = absurd (let z : _≡_ {A = ℕ} 0 1 = cc in omega arith)
     by false true t f h = absurd (let z : _≡_ {A = ℕ} 0 1 = cc in omega arith)
     by false false true f h = absurd (let z : _≡_ {A = ℕ} 0 1 = cc in omega arith)

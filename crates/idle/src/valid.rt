@@ -2,7 +2,7 @@
 ghost use mathlib.Core.Path.{_≡_};
 ghost use Prim.Native.Nat.{_≤_, _<_};
 ghost use Rattle.config.specs.Settings.{checkOf};
-ghost use Rattle.config.specs.declared.settings.Check.the-variants.{Passed};
+ghost use Rattle.config.specs.declared.answer.Outcome.the-variants.{Done};
 ghost use Rattle.idle.specs.Schedule.{grownBy, idleNext};
 use super::idle::Idle;
 use super::idle::IdleTimer;
@@ -24,7 +24,7 @@ fn grown(interval: u64, growth: u32) -> u64
 // The schedule after an idle command is queued: 1 + R at steps of T1, then K more, each step G times
 // the one before.
 pub fn next(cfg: StreamConfig, time: u64, i: Idle) -> IdleTimer
-    requires { ⌜ (checkOf cfg ≡ Passed) × (i .step ≤ 510) ⌝ }
+    requires { ⌜ (checkOf cfg ≡ Done) × (i .step ≤ 510) ⌝ }
     ensures { λ r. ⌜ r ≡ idleNext cfg time i ⌝ }
 {
     let step = i.step + 1;

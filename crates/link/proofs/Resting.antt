@@ -1,19 +1,17 @@
 -- An end at rest: queueing no words, writing with nothing to write and polling with nothing to do leave stream, history and payload as they are, whatever the tests say.
-use Prim.Native.Nat.{ℕ, zero, suc, _+_, _%_, _≤_, _<_}
+use Prim.Native.Nat.{ℕ, _%_, _≤_, _<_}
 use mathlib.Core.Path.{_≡_, refl, sym, ap, ap₂, _∙_}
 use mathlib.Core.Bool.{Bool, true, false, cond, not, _&&_, _||_}
-use mathlib.Core.List.{List, [], _∷_}
+use mathlib.Core.List.{List, []}
 use lib.ListN.{length, replicate}
 use lib.Dec.{eqb, ltb}
 use native.Mathlib.Omega.{arith}
 use borrow.Author.Tests.{eq-eqb, ne-eqb, eqb-true}
 use Rattle.config.specs.inner.Tests.{and-left, and-right}
-use Rattle.config.specs.Settings.{checkOf, tested}
-use Rattle.config.specs.declared.refusal.Refusal.{Refusal}
-use Rattle.config.specs.declared.refusal.Refusal.the-variants.{InvalidState}
-use Rattle.config.specs.declared.settings.Check.{Check}
-use Rattle.config.specs.declared.settings.Check.the-variants.{Passed, Refused}
+use Rattle.config.specs.Settings.{checkOf}
 use Rattle.config.specs.declared.settings.StreamConfig.{StreamConfig}
+use Rattle.config.specs.inner.Entries.{entry-any}
+use Rattle.config.specs.inner.Choices.{by-cond}
 use Rattle.packet.specs.Write.{bytesIn, validOf as payloadValid}
 use Rattle.packet.specs.declared.writer.PayloadWriter.{PayloadWriter}
 use Rattle.receiver.specs.Answers as receiver
@@ -35,7 +33,6 @@ use Rattle.sender.specs.declared.sender.Sender.{Sender}
 use Rattle.sender.specs.declared.sender.Sent.{Sent}
 use Rattle.sender.specs.declared.sender.Wrote.{Wrote as SenderWrote}
 use Rattle.stream.specs.Ends.{sendAnswer, pollAnswer, toldBy}
-use Rattle.stream.specs.declared.stream.Told.{Told}
 use Rattle.stream.specs.State.{validOf, withSender, withReceiver}
 use Rattle.stream.specs.Writing.{afterRequest, sentAfter, dataWritten, writeAnswer, writeRefused, countedAlso}
 use Rattle.stream.specs.declared.stream.DataStream.{DataStream}
@@ -54,7 +51,7 @@ use Rattle.link_rules.specs.Link.{empty, blank, carried}
 use Rattle.link_rules.specs.declared.run.Waiting.{Waiting as ErrorWaiting}
 use Rattle.link_rules.specs.declared.run.Waiting.the-variants.{Nothing, Error}
 use Rattle.link.specs.Tally.{tallied, unread}
-use Rattle.link.specs.Turns.{Turn, begun, wroteInto, queuedAt, consoleOf, chamberOf, pollLoss, thereOf, backOf}
+use Rattle.link.specs.Turns.{Turn, wroteInto, queuedAt, chamberOf, pollLoss, thereOf, backOf}
 use Rattle.link.specs.Rests.{idleRests, timerRests, quietOf, noError, consoleRests, chamberRests}
 use Rattle.link.specs.declared.arriving.Arrival.{Arrival}
 use Rattle.link.specs.declared.halves.Gone.{Gone}
@@ -179,16 +176,6 @@ module _ (s : DataStream) (now : ℕ) where
   unfolding chamberRests
   chamber-decides t e f r h = both-on (timerRests (s .receiver .timer) now) (quietOf s now) r (sym e ∙ f) h
 
--- ---- a choice whose ways out agree
-module _ {A B : Type 0} (g : A → B) (v : B) where
-  by-tested : (c : Check) (refuse : Refusal → A) (go : A) → ((why : Refusal) → v ≡ g (refuse why)) → v ≡ g go → v ≡ g (tested c refuse go)
-  by-tested Passed refuse go f h = h
-  by-tested (Refused why) refuse go f h = f why
-
-  by-test : (t : Bool) (x y : A) → v ≡ g x → v ≡ g y → v ≡ g (cond t x y)
-  by-test true x y f h = f
-  by-test false x y f h = h
-
 chosen : {A : Type 0} (t : Bool) (x y : A) → t ≡ true → cond t x y ≡ x
 chosen t x y e = rw e
 
@@ -285,14 +272,11 @@ module _ (s : DataStream) (cfg : StreamConfig) (now : ℕ) (p : PayloadWriter) (
   quiet-turn : quietOf s now ≡ true → _≡_ {A = Turn} (record { stream = s; ring = ring; bytes = bytesIn p b }) (wroteInto s cfg now ring (p, b))
   unfolding wroteInto writeAnswer
   quiet-turn e =
-      by-tested turned left (checkOf cfg) (writeRefused s p b ring) (cond (not tests) (writeRefused s p b ring InvalidState) (dataWritten s cfg now p b ring)) (λ why. refl)
-      (by-test turned left (not tests) (writeRefused s p b ring InvalidState) (dataWritten s cfg now p b ring) refl (sym (ap turned (left-as-is e))))
+      entry-any (λ (w : Wrote × List ℕ × List ℕ). left ≡ turned w) (writeRefused s p b ring) (dataWritten s cfg now p b ring) (λ why. refl)
+      (checkOf cfg) (validOf s ring && payloadValid p (length b)) (λ _ _. sym (ap turned (left-as-is e)))
     where
       left : Turn
       left = record { stream = s; ring = ring; bytes = bytesIn p b }
-
-      tests : Bool
-      tests = validOf s ring && payloadValid p (length b)
 
 -- ---- no words
 module _ (s : DataStream) (cfg : StreamConfig) (ring : List ℕ) where
@@ -302,17 +286,8 @@ module _ (s : DataStream) (cfg : StreamConfig) (ring : List ℕ) where
   no-words : (s, ring) ≡ sent-to (sender.sendAnswer (s .sender) cfg ring [])
   unfolding sender.sendAnswer sentOf
   no-words =
-      by-tested sent-to (s, ring) (checkOf cfg) (unsent x ring) (cond bad (unsent x ring InvalidState) made) (λ why. refl)
-      (by-test sent-to (s, ring) bad (unsent x ring InvalidState) made refl refl)
-    where
-      x : Sender
-      x = s .sender
-
-      bad : Bool
-      bad = not (senderValid x ring)
-
-      made : Sent × List ℕ
-      made = sentOf x ring (cfg .«max_command_words») []
+      entry-any (λ (e : Sent × List ℕ). (s, ring) ≡ sent-to e) (unsent (s .sender) ring) (sentOf (s .sender) ring (cfg .«max_command_words») []) (λ why. refl)
+      (checkOf cfg) (senderValid (s .sender) ring) (λ _ _. refl)
 
   queued-by : (n : ℕ) → n ≡ 0 → (s, ring) ≡ sent-to (sender.sendAnswer (s .sender) cfg ring (replicate n word))
   queued-by n e = rw e no-words
@@ -334,14 +309,8 @@ module _ (s : DataStream) (cfg : StreamConfig) (now : ℕ) (e : timerRests (s .r
   polled-none : (s, 0) ≡ counted (receiver.pollAnswer (s .receiver) cfg now)
   unfolding receiver.pollAnswer polledOf
   polled-none =
-      by-tested counted (s, 0) (checkOf cfg) (receiver.eventRefused (s .receiver)) (cond bad (receiver.eventRefused (s .receiver) InvalidState) made) (λ why. refl)
-      (by-test counted (s, 0) bad (receiver.eventRefused (s .receiver) InvalidState) made refl (sym (ap counted (at-rest (s .receiver .timer) e))))
-    where
-      bad : Bool
-      bad = not (receiverValid (s .receiver))
-
-      made : ReceiverTold
-      made = polledAt (s .receiver) cfg now (s .receiver .timer)
+      entry-any (λ (t : ReceiverTold). (s, 0) ≡ counted t) (receiver.eventRefused (s .receiver)) (polledAt (s .receiver) cfg now (s .receiver .timer)) (λ why. refl)
+      (checkOf cfg) (receiverValid (s .receiver)) (λ _ _. sym (ap counted (at-rest (s .receiver .timer) e)))
 
   stays : s ≡ pollAnswer s cfg now .stream
   unfolding pollAnswer
@@ -357,7 +326,7 @@ unfolding itemsOf signed
 items-none = refl
 
 carried-none : (figure y : ℕ) → carried figure y [] ≡ []
-carried-none figure y = sym (by-test (λ (x : List Item). x) [] (ltb (y % 256) figure) [] (itemsOf []) refl (sym items-none))
+carried-none figure y = sym (by-cond (λ (x : List Item). [] ≡ x) (ltb (y % 256) figure) [] (itemsOf []) (λ _. refl) (λ _. sym items-none))
 
 reads-none : (s : DataStream) (cfg : StreamConfig) (now : ℕ) (ring : List ℕ) (items : List Item) → items ≡ [] → unread s ≡ tallied (unread s) (arrivedOf s cfg now ring items)
 unfolding arrivedOf

@@ -12,13 +12,12 @@ use Rattle.config.specs.Range.{outside}
 use Rattle.config.specs.Settings.{checkOf}
 use Rattle.config.specs.declared.refusal.Refusal.{Refusal}
 use Rattle.config.specs.declared.refusal.Refusal.the-variants.{SizeNotAllowed}
-use Rattle.config.specs.declared.settings.Check.the-variants.{Passed, Refused as CheckRefused}
+use Rattle.config.specs.declared.answer.Outcome.the-variants.{Done as OutcomeDone, Refused as OutcomeRefused}
 use Rattle.config.specs.declared.settings.StreamConfig.{StreamConfig}
 use Rattle.window.specs.Set.{maxWindow}
 use Rattle.stream.specs.State.{fresh}
 use Rattle.stream.specs.Answers.{notStarted, sizesOut, newAnswer}
 use Rattle.stream.specs.declared.stream.DataStream.{DataStream}
-use Rattle.stream.specs.declared.stream.Start.the-variants.{Done as Started, Refused as NotStarted}
 use Rattle.stream.specs.declared.stream.Started.{Started as Starting}
 use Rattle.link_rules.specs.Link.{Ends, stepOf, runOf, startOf, mostSteps, refusesSizes, reportOf, runAnswer}
 use Rattle.link.specs.Turns.{endsOf}
@@ -72,11 +71,11 @@ module _ (cfg : StreamConfig) (window words places seed drop figure budget : ℕ
   starting console chamber =
       record { console = console; chamber = chamber; waiting = Nothing; load = record { last = seed }; line = record { last = drop }; handed = 0; losses = 0 }
 
-  pub run-settings : (why : Refusal) → checkOf cfg ≡ CheckRefused why → (Refused why, ring, other) ≡ answer
+  pub run-settings : (why : Refusal) → checkOf cfg ≡ OutcomeRefused why → (Refused why, ring, other) ≡ answer
   unfolding runAnswer
   run-settings why e = rw e
 
-  module _ (ok : checkOf cfg ≡ Passed) where
+  module _ (ok : checkOf cfg ≡ OutcomeDone) where
     refused-sizes : refusesSizes window words places budget ring other ≡ true → (Refused SizeNotAllowed, ring, other) ≡ answer
     unfolding runAnswer
     refused-sizes e = rw (ok, e)
@@ -92,13 +91,13 @@ module _ (cfg : StreamConfig) (window words places seed drop figure budget : ℕ
         by false true p q = refl
         by false false p q = absurd (f (sizes-length window words places ring p ∙ sym (sizes-length window words places other q)))
 
-    new-is : (r : List ℕ) → newAnswer cfg window words places r ≡ cond (sizesOut window words places r) (notStarted SizeNotAllowed, r) (record { stream = fresh window words places; answer = Started }, replicate (length r) 0)
+    new-is : (r : List ℕ) → newAnswer cfg window words places r ≡ cond (sizesOut window words places r) (notStarted SizeNotAllowed, r) (record { stream = fresh window words places; answer = OutcomeDone }, replicate (length r) 0)
     unfolding newAnswer
     new-is r = rw ok
 
     module _ (first : Starting) (after : List ℕ) (e : (first, after) ≡ newAnswer cfg window words places ring) where
       -- a start that is refused
-      pub run-start : (why : Refusal) → first .answer ≡ NotStarted why → (Refused why, after, other) ≡ answer
+      pub run-start : (why : Refusal) → first .answer ≡ OutcomeRefused why → (Refused why, after, other) ≡ answer
       run-start why f = by (sizesOut window words places ring) refl
         where
           by : (a : Bool) → sizesOut window words places ring ≡ a → (Refused why, after, other) ≡ answer
@@ -107,16 +106,16 @@ module _ (cfg : StreamConfig) (window words places seed drop figure budget : ℕ
               let w : why ≡ SizeNotAllowed = why-is (ap (λ (x : Starting × List ℕ). x .0 .answer) q) in
               _∙_ {b = (Refused SizeNotAllowed, ring, other)} (ap₂ (λ (x : Refusal) (y : List ℕ). (Refused x, y, other)) w (ap (λ (x : Starting × List ℕ). x .1) q)) (refused-sizes (rw p))
             where
-              why-is : first .answer ≡ NotStarted SizeNotAllowed → why ≡ SizeNotAllowed
-              why-is g = let h : NotStarted why ≡ NotStarted SizeNotAllowed = sym f ∙ g in cc
+              why-is : first .answer ≡ OutcomeRefused SizeNotAllowed → why ≡ SizeNotAllowed
+              why-is g = let h : OutcomeRefused why ≡ OutcomeRefused SizeNotAllowed = sym f ∙ g in cc
           by false p =
-              let q : _≡_ {A = Starting × List ℕ} (first, after) (record { stream = fresh window words places; answer = Started }, replicate (length ring) 0) = e ∙ new-is ring ∙ rw p in
-              let g : first .answer ≡ Started = ap (λ (x : Starting × List ℕ). x .0 .answer) q in
-              let h : NotStarted why ≡ Started = sym f ∙ g in
+              let q : _≡_ {A = Starting × List ℕ} (first, after) (record { stream = fresh window words places; answer = OutcomeDone }, replicate (length ring) 0) = e ∙ new-is ring ∙ rw p in
+              let g : first .answer ≡ OutcomeDone = ap (λ (x : Starting × List ℕ). x .0 .answer) q in
+              let h : OutcomeRefused why ≡ OutcomeDone = sym f ∙ g in
               absurd (let z : _≡_ {A = ℕ} 0 1 = cc in let y : ⊥ = omega arith in y)
 
       -- both ends start
-      pub run-starts : first .answer ≡ Started → budget ≤ mostSteps → length ring ≡ length other
+      pub run-starts : first .answer ≡ OutcomeDone → budget ≤ mostSteps → length ring ≡ length other
           → (second : Starting) (last : List ℕ) → (second, last) ≡ newAnswer cfg window words places other
           → (s : State) → s ≡ starting (first .stream) (second .stream)
           → (r : Ran × List ℕ × List ℕ) → r ≡ reportOf (runOf cfg figure (endsOf s 0 after last) budget) → r ≡ answer
@@ -126,13 +125,13 @@ module _ (cfg : StreamConfig) (window words places seed drop figure budget : ℕ
           by : (a : Bool) → sizesOut window words places ring ≡ a → r ≡ answer
           by true p =
               let q : _≡_ {A = Starting × List ℕ} (first, after) (notStarted SizeNotAllowed, ring) = e ∙ new-is ring ∙ rw p in
-              let w : first .answer ≡ NotStarted SizeNotAllowed = ap (λ (x : Starting × List ℕ). x .0 .answer) q in
-              let n : Started ≡ NotStarted SizeNotAllowed = sym f ∙ w in
+              let w : first .answer ≡ OutcomeRefused SizeNotAllowed = ap (λ (x : Starting × List ℕ). x .0 .answer) q in
+              let n : OutcomeDone ≡ OutcomeRefused SizeNotAllowed = sym f ∙ w in
               absurd (let z : _≡_ {A = ℕ} 0 1 = cc in let y : ⊥ = omega arith in y)
           by false p =
               let p′ : sizesOut window words places other ≡ false = sym (sizes-same window words places ring other m) ∙ p in
-              let q : _≡_ {A = Starting × List ℕ} (first, after) (record { stream = fresh window words places; answer = Started }, replicate (length ring) 0) = e ∙ new-is ring ∙ rw p in
-              let q′ : _≡_ {A = Starting × List ℕ} (second, last) (record { stream = fresh window words places; answer = Started }, replicate (length other) 0) = g ∙ new-is other ∙ rw p′ in
+              let q : _≡_ {A = Starting × List ℕ} (first, after) (record { stream = fresh window words places; answer = OutcomeDone }, replicate (length ring) 0) = e ∙ new-is ring ∙ rw p in
+              let q′ : _≡_ {A = Starting × List ℕ} (second, last) (record { stream = fresh window words places; answer = OutcomeDone }, replicate (length other) 0) = g ∙ new-is other ∙ rw p′ in
               let a : length ring ≡ words = sizes-length window words places ring p in
               let b : length other ≡ words = sizes-length window words places other p′ in
               let start : endsOf s 0 after last ≡ startOf window words places seed drop =

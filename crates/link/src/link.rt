@@ -6,15 +6,14 @@ ghost use Rattle.link.specs.Turns.{endsOf, Fits};
 ghost use Rattle.link_rules.specs.declared.run.Ran.the-variants.{Done};
 use super::halves::back;
 use super::halves::there;
+use config::answer::Outcome;
 use config::refusal::Refusal;
-use config::settings::Check;
 use config::settings::StreamConfig;
 use link_rules::run::Ran;
 use link_rules::run::Report;
 use link_rules::run::Waiting;
 use load::load::Load;
 use stream::stream::DataStream;
-use stream::stream::Start;
 
 // The largest step budget.
 const MOST_STEPS: u32 = 65536;
@@ -125,8 +124,8 @@ pub fn run(
     ensures { λ r. ⌜ (r, now (ring .exit), now (other .exit)) ≡ runAnswer cfg window words places seed «drop» figure budget (now (ring .entry)) (now (other .entry)) ⌝ }
 {
     match cfg.check() {
-        Check::Refused(why) => Ran::Refused(why),
-        Check::Passed => {
+        Outcome::Refused(why) => Ran::Refused(why),
+        Outcome::Done => {
             if MOST_STEPS < budget {
                 return Ran::Refused(Refusal::SizeNotAllowed);
             }
@@ -137,8 +136,8 @@ pub fn run(
             let console = first.stream;
             let answer = first.answer;
             match answer {
-                Start::Refused(why) => Ran::Refused(why),
-                Start::Done => {
+                Outcome::Refused(why) => Ran::Refused(why),
+                Outcome::Done => {
                     let second = DataStream::new(cfg, window, words, places, other);
                     let chamber = second.stream;
                     let fresh = State {

@@ -9,12 +9,12 @@ use borrow.Author.Tests.{leb-true, leb-false}
 use Rattle.config.specs.Range.{within}
 use Rattle.config.specs.Settings.{checkOf}
 use Rattle.config.specs.Sequence.{turn}
-use Rattle.config.specs.declared.settings.Check.the-variants.{Passed}
+use Rattle.config.specs.declared.answer.Outcome.the-variants.{Done}
 use Rattle.config.specs.declared.settings.StreamConfig.{StreamConfig}
 use Rattle.config.specs.inner.Tests.{split}
 use Rattle.config.specs.Time.{lastTime}
 use Rattle.window.specs.Set.{maxWindow}
-use Rattle.window.proofs.Ranges.{within-range}
+use Rattle.config.specs.inner.Ranges.{within-range}
 use Rattle.window.proofs.Preserved.{valid-fresh}
 use Rattle.link_rules.specs.Arriving.{gapIn}
 use Rattle.link_rules.specs.Link.{Ends, startOf, callsOf, stepOf, runOf, mostSteps}
@@ -26,7 +26,7 @@ use Rattle.link_rules.proofs.Stepping.{step-polls, step-timed}
 
 module _
     (cfg : StreamConfig) (window words places seed drop figure : ℕ)
-    (ok : checkOf cfg ≡ Passed) (on : cfg .retransmit ≡ true) (delayed : 1 ≤ cfg .«request_delay_ms») (size : within 1 maxWindow window ≡ true) where
+    (ok : checkOf cfg ≡ Done) (on : cfg .retransmit ≡ true) (delayed : 1 ≤ cfg .«request_delay_ms») (size : within 1 maxWindow window ≡ true) where
   abbrev start : Ends
   start = startOf window words places seed drop
 

@@ -5,7 +5,7 @@ use Prim.Native.Nat.{ℕ, _+_, _-_, _*_, _^_, _≤_, _<_}
 use native.Mathlib.Omega.{arith}
 use Rattle.config.specs.Range.{within}
 use Rattle.config.specs.Settings.{checkOf}
-use Rattle.config.specs.declared.settings.Check.the-variants.{Passed}
+use Rattle.config.specs.declared.answer.Outcome.the-variants.{Done}
 use Rattle.config.specs.declared.settings.StreamConfig.{StreamConfig}
 use Rattle.window.specs.Set.{maxWindow}
 use Rattle.link_rules.specs.Link.{Ends, startOf}
@@ -17,7 +17,7 @@ abbrev asking : ℕ → ℕ → StreamConfig
 asking D M =
     record { «idle_interval_ms» = 100; «idle_growth» = 2; «idle_further» = 5; «fec_repeats» = 2; retransmit = true; «request_delay_ms» = D; «max_requests» = M; «max_command_words» = 64 }
 
-every-delay : (D M : ℕ) → checkOf (asking D M) ≡ Passed
+every-delay : (D M : ℕ) → checkOf (asking D M) ≡ Done
 unfolding checkOf
 every-delay D M = refl
 
@@ -25,7 +25,7 @@ every-delay D M = refl
 -- 65,536 steps lasts so long.
 module _
     (cfg : StreamConfig) (window words places seed drop figure budget g : ℕ)
-    (allowed : checkOf cfg ≡ Passed) (size : within 1 maxWindow window ≡ true) (taken : budget ≤ 65536)
+    (allowed : checkOf cfg ≡ Done) (size : within 1 maxWindow window ≡ true) (taken : budget ≤ 65536)
     (enabled : cfg .retransmit ≡ true) (D-some : 1 ≤ cfg .«request_delay_ms») (M-few : cfg .«max_requests» ≤ 8) where
   abbrev start : Ends
   start = startOf window words places seed drop

@@ -10,7 +10,7 @@ use lib.ListN.{length, take, drop, length-append}
 use borrow.Author.Tests.{le-leb, leb-true, leb-false}
 use Rattle.config.specs.Sequence.{after}
 use Rattle.config.specs.Settings.{checkOf}
-use Rattle.config.specs.declared.settings.Check.the-variants.{Passed}
+use Rattle.config.specs.declared.answer.Outcome.the-variants.{Done}
 use Rattle.config.specs.declared.settings.StreamConfig.{StreamConfig}
 use Rattle.config.specs.inner.Tests.{split}
 use Rattle.packet.specs.Layout.{Packet}
@@ -26,7 +26,7 @@ use Rattle.rows.specs.Choice.{repeatsOf}
 use Rattle.sender_log.specs.Book.{Book, oldestIn, indexIn, absentIn, withWaiting, pushedIn, freed}
 use Rattle.sender_log.specs.Promise.{NoRoom}
 use Rattle.sender_log.specs.Writes.{dataFrom, writtenFrom, newIn, reachIn, answerIn, ServedIn, servedIn, isEmpty, idledBy, idledIn, againIn, writtenOn, WriteIn, wrote, newBy, newWritten, writtenIn, writeIn}
-use Rattle.sender_log.proofs.Choices.{by-cond}
+use Rattle.config.specs.inner.Choices.{by-cond}
 use Rattle.sender_log.proofs.More.{Small, few-data, short-drop}
 use Rattle.sender_log.proofs.Rows.{Few, few-take, row-right, row-all, row-start}
 use Rattle.link_rules.proofs.Room.{Room, row-room}
@@ -284,7 +284,7 @@ module _ (c : ℕ) (cfg : StreamConfig) (now : ℕ) (k : Book) where
 
 -- ---- the whole write
 
-module _ (c : ℕ) (cfg : StreamConfig) (ok : checkOf cfg ≡ Passed) (now : ℕ) (k : Book) (small : Small k) (least : 65 ≤ c) (held : size (k .written) + size (k .unwritten) ≤ c)
+module _ (c : ℕ) (cfg : StreamConfig) (ok : checkOf cfg ≡ Done) (now : ℕ) (k : Book) (small : Small k) (least : 65 ≤ c) (held : size (k .written) + size (k .unwritten) ≤ c)
     (few : length (k .waiting) ≤ 16) (p : PayloadWriter) (b : List ℕ) (m : Room p b) (low : startOf p ≤ 20) where
   abbrev served : ServedIn
   served = servedIn k (k .waiting) p b

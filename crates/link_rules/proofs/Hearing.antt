@@ -5,7 +5,7 @@ use mathlib.Core.List.{List, [], _∷_, _++_}
 use Prim.Native.Nat.{ℕ, _+_, _≤_, _<_}
 use Rattle.config.specs.Settings.{checkOf}
 use Rattle.config.specs.Time.{lastTime}
-use Rattle.config.specs.declared.settings.Check.the-variants.{Passed}
+use Rattle.config.specs.declared.answer.Outcome.the-variants.{Done}
 use Rattle.config.specs.declared.settings.StreamConfig.{StreamConfig}
 use Rattle.packet.specs.Read.{Item, whole, cut}
 use Rattle.command.specs.declared.parse.Command.{Command}
@@ -37,7 +37,7 @@ or-right : (a b : Bool) → b ≡ true → (a || b) ≡ true
 or-right true b e = refl
 or-right false b e = e
 
-module _ (cfg : StreamConfig) (ok : checkOf cfg ≡ Passed) (on : cfg .retransmit ≡ true) (delayed : 1 ≤ cfg .«request_delay_ms») (g now : ℕ) (in-time : now < lastTime) (ring : List ℕ) where
+module _ (cfg : StreamConfig) (ok : checkOf cfg ≡ Done) (on : cfg .retransmit ≡ true) (delayed : 1 ≤ cfg .«request_delay_ms») (g now : ℕ) (in-time : now < lastTime) (ring : List ℕ) where
   abbrev T : DataStream → Type 0
   T s = Timed cfg g now (s .receiver)
 

@@ -1,7 +1,7 @@
 -- No call of a run is refused.
 use Prim.Native.Nat.{ℕ, zero, suc, _+_, _-_, _≤_}
 use mathlib.Core.Path.{_≡_, refl, _∙_}
-use mathlib.Core.Bool.{Bool, true, false, not, _||_}
+use mathlib.Core.Bool.{false, not}
 use mathlib.Core.List.{List, [], _∷_, _++_}
 use native.Mathlib.Omega.{arith}
 use lib.Dec.{eqb, leb}
@@ -10,19 +10,18 @@ use borrow.Author.Tests.{leb-true, eqb-true, not-false}
 use Rattle.config.specs.Range.{outside, within}
 use Rattle.config.specs.Sequence.{turn}
 use Rattle.config.specs.Settings.{checkOf}
-use Rattle.config.specs.declared.settings.Check.the-variants.{Passed}
+use Rattle.config.specs.declared.answer.Outcome.the-variants.{Done}
 use Rattle.config.specs.declared.settings.StreamConfig.{StreamConfig}
 use Rattle.config.specs.inner.Tests.{and-left, and-right}
+use Rattle.config.specs.inner.Choices.{or-left, or-right}
 use Rattle.packet.specs.Read.{Item, whole, cut, itemsOf}
 use Rattle.packet.specs.Write.{writtenOf, validOf as payloadValid}
-use Rattle.packet.specs.declared.writer.Write.the-variants.{Done as Put}
 use Rattle.command.specs.Write.{errorPacket, errorWritten}
 use Rattle.command.specs.declared.parse.Command.{Command}
 use Rattle.command.specs.declared.parse.Command.the-variants.{UmpData, RetransmitRequest, RetransmitError, Raw, Refused as Malformed}
 use Rattle.window.specs.Set.{maxWindow}
 use Rattle.window.proofs.Preserved.{valid-fresh}
 use Rattle.sender.specs.Answers as sender
-use Rattle.sender.specs.declared.sender.Send.the-variants.{Accepted}
 use Rattle.sender.specs.declared.sender.RequestOutcome.the-variants.{Queued, Ignored, Error as ErrorOutcome, NotSupported, Refused as NotTaken}
 use Rattle.sender_log.specs.Book.{nothing}
 use Rattle.sender_log.specs.Calls.{TypedConfig}
@@ -71,7 +70,7 @@ errors-defined (a ∷ xs) w d f = errors-defined xs (errorBy w a) (error-defined
 
 -- ---- an end reads
 
-module _ (cfg : StreamConfig) (ok : checkOf cfg ≡ Passed) (c q now : ℕ) (ring : List ℕ) where
+module _ (cfg : StreamConfig) (ok : checkOf cfg ≡ Done) (c q now : ℕ) (ring : List ℕ) where
   -- and as many words are unwritten as were
   record ArrivedSound (unwritten : ℕ) (a : Arrived) : Type 0 where
     stream : Sound c q (a .stream) ring
@@ -118,7 +117,7 @@ unfolding payloadValid
 opened-empty = let l : length blank ≡ 1400 = length-replicate {A = ℕ} 1400 0 in record { max = refl; lent = l; valid = refl }
 
 record OpenedSound (w : Waiting) : Type 0 where
-  answer : openedBy w .0 .answer ≡ Put
+  answer : openedBy w .0 .answer ≡ Done
   room : Room (openedBy w .0 .payload) (openedBy w .1)
   short : openedBy w .0 .payload .len ≤ 12
 
@@ -133,7 +132,7 @@ opened-sound (Error e) d =
 
 -- ---- a step
 
-module _ (cfg : StreamConfig) (ok : checkOf cfg ≡ Passed) (typed : TypedConfig cfg) (c q figure : ℕ) where
+module _ (cfg : StreamConfig) (ok : checkOf cfg ≡ Done) (typed : TypedConfig cfg) (c q figure : ℕ) where
   record Sane (e : Ends) : Type 0 where
     console : Sound c q (e .console) (e .consoleRing)
     chamber : Sound c q (e .chamber) (e .chamberRing)
@@ -142,7 +141,7 @@ module _ (cfg : StreamConfig) (ok : checkOf cfg ≡ Passed) (typed : TypedConfig
     calm : e .console .sender .«unsent_words» + 16 ≤ c
 
   queued-sound : (s : DataStream) (ring : List ℕ) → Sound c q s ring → s .sender .«unsent_words» + 16 ≤ c → (x : ℕ)
-      → (let a = sendAnswer s cfg ring (wordsOf x) in Sound c q (a .0 .stream) (a .1) × (a .0 .answer ≡ Accepted))
+      → (let a = sendAnswer s cfg ring (wordsOf x) in Sound c q (a .0 .stream) (a .1) × (a .0 .answer ≡ Done))
   unfolding sendAnswer
   queued-sound s ring i calm x = (
     record { book = _; follows = send-follows c q (s .sender) ring (i .book) (i .follows) cfg (wordsOf x) .0; window = i .window },
@@ -180,14 +179,6 @@ module _ (cfg : StreamConfig) (ok : checkOf cfg ≡ Passed) (typed : TypedConfig
   run-sane e i (suc n) = step-sane (runOf cfg figure e n) (run-sane e i n) .1
 
 -- ---- a start
-
-or-left : (a b : Bool) → (a || b) ≡ false → a ≡ false
-or-left true b e = e
-or-left false b e = refl
-
-or-right : (a b : Bool) → (a || b) ≡ false → b ≡ false
-or-right true b e = cc
-or-right false b e = e
 
 start-sound : (window words places : ℕ) (ring : List ℕ) → sizesOut window words places ring ≡ false → Sound words places (fresh window words places) (replicate words 0)
 unfolding sender.newAnswer

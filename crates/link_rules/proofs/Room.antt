@@ -7,10 +7,10 @@ use native.Mathlib.Omega.{arith}
 use lib.ListN.{length}
 use borrow.Author.Tests.{le-ltb}
 use Rattle.packet.specs.Layout.{Packet, sizeOf}
-use Rattle.packet.specs.Write.{limitOf, startOf, doneOf, placedOf, writtenOf, validOf, Outcome, refused, done}
+use Rattle.packet.specs.Write.{limitOf, startOf, doneOf, placedOf, writtenOf, validOf, WriteEnds, refused, done}
 use Rattle.packet.specs.declared.writer.PayloadWriter.{PayloadWriter}
-use Rattle.packet.specs.declared.writer.Write.{Write}
-use Rattle.packet.specs.declared.writer.Write.the-variants.{Done as Put, Refused as NotPut}
+use Rattle.config.specs.declared.answer.Outcome.{Outcome}
+use Rattle.config.specs.declared.answer.Outcome.the-variants.{Done, Refused}
 use Rattle.packet.specs.declared.writer.Wrote.{Wrote as Putting}
 use Rattle.packet.proofs.Outcomes.{outcome, written-valid, written-length}
 use Rattle.rows.specs.Rows.{Row, oneMore, rowOf}
@@ -24,7 +24,7 @@ pub record Room (p : PayloadWriter) (b : List ℕ) : Type 0 where
 pub written-room : (p : PayloadWriter) (b : List ℕ) (c : Packet) → Room p b → Room (writtenOf p b c .0 .payload) (writtenOf p b c .1)
 written-room p b c m = by (writtenOf p b c) (outcome p b c)
   where
-    by : (w : Putting × List ℕ) → Outcome p b c w → Room (w .0 .payload) (w .1)
+    by : (w : Putting × List ℕ) → WriteEnds p b c w → Room (w .0 .payload) (w .1)
     by w (refused r) = m
     by w (done f l) =
         let n = written-length p b c w (done f l) in
@@ -43,6 +43,6 @@ row-room (c ∷ cs) p b m =
     let n = written-room p b c m in
     by (w .0 .payload) (w .1) (rowOf (w .0 .payload) (w .1) cs) n (row-room cs (w .0 .payload) (w .1) n) (w .0 .answer)
   where
-    by : (q : PayloadWriter) (d : List ℕ) (r : Row) → Room q d → Room (r .payload) (r .bytes) → (a : Write) → Room (oneMore a q d r .payload) (oneMore a q d r .bytes)
-    by q d r n k Put = k
-    by q d r n k (NotPut why) = n
+    by : (q : PayloadWriter) (d : List ℕ) (r : Row) → Room q d → Room (r .payload) (r .bytes) → (a : Outcome) → Room (oneMore a q d r .payload) (oneMore a q d r .bytes)
+    by q d r n k Done = k
+    by q d r n k (Refused why) = n

@@ -12,7 +12,7 @@ use Rattle.config.specs.Range.{outside}
 use Rattle.config.specs.Sequence.{after}
 use Rattle.config.specs.Settings.{checkOf}
 use Rattle.config.specs.declared.refusal.Refusal.{Refusal}
-use Rattle.config.specs.declared.settings.Check.the-variants.{Passed}
+use Rattle.config.specs.declared.answer.Outcome.the-variants.{Done}
 use Rattle.config.specs.declared.settings.StreamConfig.{StreamConfig}
 use Rattle.config.specs.inner.Tests.{split, and-left}
 use Rattle.packet.specs.Layout.{Packet}
@@ -57,7 +57,6 @@ use Rattle.sender.specs.Requests.{notWritten, outcomeOf, requestedOf}
 use Rattle.sender.specs.State.{validOf as senderValid}
 use Rattle.sender.specs.Writing.{writtenBy}
 use Rattle.sender.specs.declared.sender.Requested.{Requested as SenderRequested}
-use Rattle.sender.specs.declared.sender.Send.the-variants.{Accepted}
 use Rattle.sender.specs.declared.sender.Sender.{Sender}
 use Rattle.sender.specs.declared.sender.Sent.{Sent}
 use Rattle.sender.specs.declared.sender.Writing.{Writing}
@@ -66,7 +65,7 @@ use Rattle.sender.specs.declared.sender.Wrote.{Wrote as SenderWrote}
 use Rattle.sender_log.specs.Book.{Book, oldestIn, withWaiting}
 use Rattle.sender_log.specs.Calls.{TypedConfig}
 use Rattle.sender_log.specs.Writes.{dataFrom, answerIn, ServedIn, servedIn, idledIn, WriteIn, newBy, newWritten, writtenIn, writeIn}
-use Rattle.sender_log.proofs.Choices.{by-cond}
+use Rattle.config.specs.inner.Choices.{by-cond}
 use Rattle.sender_log.proofs.Follows.{Follows, follows-valid, write-follows}
 use Rattle.sender_log.proofs.More.{Small, follows-small, idled-short}
 use Rattle.sender_log.proofs.Ties.{waiting-count}
@@ -101,7 +100,7 @@ unfolding longer
 none-longer max zero l = refl
 none-longer max (suc n) l = rw (le-ltb max 1 l) (none-longer max n l)
 
-words-pass : (max x : ℕ) → 1 ≤ max → wordsCheck max (wordsOf x) ≡ Passed
+words-pass : (max x : ℕ) → 1 ≤ max → wordsCheck max (wordsOf x) ≡ Done
 unfolding wordsCheck wholeOf above
 words-pass max x l = rw (messages-load (countOf x), none-longer max (countOf x) l)
 
@@ -130,7 +129,7 @@ few-needed s ring max x =
 
 -- ---- the receiver's calls keep its window valid
 
-module _ (cfg : StreamConfig) (ok : checkOf cfg ≡ Passed) (r : Receiver) (v : Valid (r .window)) where
+module _ (cfg : StreamConfig) (ok : checkOf cfg ≡ Done) (r : Receiver) (v : Valid (r .window)) where
   able : receiverValid r ≡ true
   able = passes r v
 
@@ -227,7 +226,7 @@ abbrev pub Defined : Waiting → Type 0
 Defined Nothing = Unit {0}
 Defined (Error e) = isDefined e ≡ true
 
-module _ (cfg : StreamConfig) (ok : checkOf cfg ≡ Passed) (c q : ℕ) (s : Sender) (ring : List ℕ) (k : Book) (f : Follows c q s ring k) where
+module _ (cfg : StreamConfig) (ok : checkOf cfg ≡ Done) (c q : ℕ) (s : Sender) (ring : List ℕ) (k : Book) (f : Follows c q s ring k) where
   ready : senderValid s ring ≡ true
   ready = follows-valid c q s ring k f
 
@@ -239,13 +238,13 @@ module _ (cfg : StreamConfig) (ok : checkOf cfg ≡ Passed) (c q : ℕ) (s : Sen
   ]
 
   -- the load's words are accepted where 16 words are free of unwritten ones
-  pub sent-sound : (x : ℕ) → s .«unsent_words» + 16 ≤ c → sender.sendAnswer s cfg ring (wordsOf x) .0 .answer ≡ Accepted
+  pub sent-sound : (x : ℕ) → s .«unsent_words» + 16 ≤ c → sender.sendAnswer s cfg ring (wordsOf x) .0 .answer ≡ Done
   unfolding sender.sendAnswer sentOf queuePlaced queuedOf
   sent-sound x calm =
       let need : ltb (s .history .size - s .«unsent_words») (needOf s ring (cfg .«max_command_words») (wordsOf x)) ≡ false =
       le-ltb (s .history .size - s .«unsent_words») (needOf s ring (cfg .«max_command_words») (wordsOf x)) (omega (arith, few-needed s ring (cfg .«max_command_words») x, f .words, calm)) in
       rw (ok, ready, words-pass (cfg .«max_command_words») x size-some, need)
-      (by-cond (λ (a : Sent × List ℕ). a .0 .answer ≡ Accepted) (eqb (length (wordsOf x)) 0) _ _ (λ _. refl) (λ _. refl))
+      (by-cond (λ (a : Sent × List ℕ). a .0 .answer ≡ Done) (eqb (length (wordsOf x)) 0) _ _ (λ _. refl) (λ _. refl))
 
   pub requested-sound : (r : RetransmitRequest) → (let a = sender.requestAnswer s cfg ring r in
       (outcomeRefuses (a .outcome) ≡ false) × Defined (errorBy Nothing (requested (a .outcome))) × (a .sender .«unsent_words» ≡ s .«unsent_words»))
@@ -263,7 +262,7 @@ module _ (cfg : StreamConfig) (ok : checkOf cfg ≡ Passed) (c q : ℕ) (s : Sen
 
 -- ---- a write of the sender
 
-module _ (cfg : StreamConfig) (ok : checkOf cfg ≡ Passed) (now : ℕ) where
+module _ (cfg : StreamConfig) (ok : checkOf cfg ≡ Done) (now : ℕ) where
   served-room : (rs : List RetransmitRequest) (k : Book) (p : PayloadWriter) (b : List ℕ) → Room p b → Room (servedIn k rs p b .payload) (servedIn k rs p b .bytes)
   unfolding servedIn
   served-room [] k p b m = m
@@ -313,7 +312,7 @@ pub sound-valid : (c q : ℕ) (s : DataStream) (ring : List ℕ) → Sound c q s
 unfolding validOf
 sound-valid c q s ring i = rw (passes (s .receiver) (i .window), follows-valid c q (s .sender) ring (i .book) (i .follows))
 
-module _ (cfg : StreamConfig) (ok : checkOf cfg ≡ Passed) (typed : TypedConfig cfg) (c q now : ℕ) (s : DataStream) (ring : List ℕ) (i : Sound c q s ring) where
+module _ (cfg : StreamConfig) (ok : checkOf cfg ≡ Done) (typed : TypedConfig cfg) (c q now : ℕ) (s : DataStream) (ring : List ℕ) (i : Sound c q s ring) where
   pub record WriteSound (w : Wrote × List ℕ × List ℕ) : Type 0 where
     pub stream : Sound c q (w .0 .stream) (w .2)
     pub answer : writeRefuses (w .0 .answer) ≡ false

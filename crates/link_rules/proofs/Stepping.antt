@@ -1,13 +1,13 @@
 -- The chamber polls and writes; a step.
 use mathlib.Core.Path.{_≡_, sym, subst}
-use mathlib.Core.Bool.{true, not, _&&_}
+use mathlib.Core.Bool.{true, _&&_}
 use mathlib.Core.List.{List}
 use Prim.Native.Nat.{ℕ, _+_, _≤_, _<_}
 use native.Mathlib.Omega.{arith}
 use lib.ListN.{length}
 use Rattle.config.specs.Settings.{checkOf}
 use Rattle.config.specs.Time.{lastTime}
-use Rattle.config.specs.declared.settings.Check.the-variants.{Passed}
+use Rattle.config.specs.declared.answer.Outcome.the-variants.{Done}
 use Rattle.config.specs.declared.settings.StreamConfig.{StreamConfig}
 use Rattle.packet.specs.Write.{validOf as payloadValid}
 use Rattle.packet.specs.declared.writer.PayloadWriter.{PayloadWriter}
@@ -16,7 +16,7 @@ use Rattle.receiver.specs.Answers as receiver
 use Rattle.receiver.specs.declared.receiver.Told.{Told}
 use Rattle.receiver.specs.declared.receiver.Request.{Request}
 use Rattle.receiver.specs.declared.receiver.Request.the-variants.{Nothing as NotDue, Written as Taken, More as NoSpace, Refused as NotTaken}
-use Rattle.receiver_log.proofs.Choices.{by-cond}
+use Rattle.config.specs.inner.Choices.{by-cond}
 use Rattle.receiver_log.proofs.Follows.{passes}
 use Rattle.stream.specs.State.{validOf, withReceiver}
 use Rattle.stream.specs.Ends.{pollAnswer}
@@ -29,7 +29,7 @@ use Rattle.link_rules.specs.Link.{Ends, empty, blank, payloadOf, carried
 use Rattle.link_rules.proofs.Timed.{Timed, taken-timed, polled-timed}
 use Rattle.link_rules.proofs.Hearing.{arrived-timed}
 
-module _ (cfg : StreamConfig) (ok : checkOf cfg ≡ Passed) (on : cfg .retransmit ≡ true) (delayed : 1 ≤ cfg .«request_delay_ms») (g : ℕ) where
+module _ (cfg : StreamConfig) (ok : checkOf cfg ≡ Done) (on : cfg .retransmit ≡ true) (delayed : 1 ≤ cfg .«request_delay_ms») (g : ℕ) where
   module _ (t now : ℕ) (in-time : t < lastTime) (s : DataStream) (i : Timed cfg g t (s .receiver)) (p : PayloadWriter) (b ring : List ℕ) where
     abbrev P : Wrote × List ℕ × List ℕ → Type 0
     P x = Timed cfg g t (x .0 .stream .receiver)
@@ -45,8 +45,9 @@ module _ (cfg : StreamConfig) (ok : checkOf cfg ≡ Passed) (on : cfg .retransmi
     unfolding writeAnswer dataWritten
     written-timed =
         let k = takenOf (s .receiver) cfg p b in
-        rw ok (by-cond P (not (validOf s ring && payloadValid p (length b))) _ _ (λ _. i)
-        (λ _. after-request (k .0 .answer) (withReceiver s (k .0 .receiver)) (k .0 .payload) (k .1) (taken-timed cfg on delayed g t in-time (s .receiver) i p b)))
+        rw ok (by-cond P (validOf s ring && payloadValid p (length b)) _ _
+        (λ _. after-request (k .0 .answer) (withReceiver s (k .0 .receiver)) (k .0 .payload) (k .1) (taken-timed cfg on delayed g t in-time (s .receiver) i p b))
+        (λ _. i))
 
   module _ (now : ℕ) (in-time : now + 1 < lastTime) where
     poll-timed : (s : DataStream) → Timed cfg g now (s .receiver) → Timed cfg g (now + 1) (pollAnswer s cfg now .stream .receiver)

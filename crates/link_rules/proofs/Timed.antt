@@ -11,8 +11,8 @@ use Rattle.config.specs.Time.{lastTime}
 use Rattle.config.specs.declared.settings.StreamConfig.{StreamConfig}
 use Rattle.packet.specs.Write.{writtenOf}
 use Rattle.packet.specs.declared.writer.PayloadWriter.{PayloadWriter}
-use Rattle.packet.specs.declared.writer.Write.{Write}
-use Rattle.packet.specs.declared.writer.Write.the-variants.{Done, Refused as WriteRefused}
+use Rattle.config.specs.declared.answer.Outcome.{Outcome}
+use Rattle.config.specs.declared.answer.Outcome.the-variants.{Done, Refused}
 use Rattle.command.specs.Write.{requestPacket}
 use Rattle.command.specs.declared.retransmit.RetransmitRequest.{RetransmitRequest}
 use Rattle.command.specs.declared.retransmit.RetransmitError.{RetransmitError}
@@ -32,7 +32,7 @@ use Rattle.receiver.specs.declared.receiver.Asked.the-variants.{Nothing as Unas
 use Rattle.receiver.specs.declared.receiver.Receiver.{Receiver}
 use Rattle.receiver.specs.declared.receiver.Told.{Told}
 use Rattle.receiver.specs.declared.receiver.Requested.{Requested}
-use Rattle.receiver_log.proofs.Choices.{by-cond}
+use Rattle.config.specs.inner.Choices.{by-cond}
 use Rattle.link_rules.proofs.Window.{complete-after, full-missing}
 use Rattle.link_rules.proofs.Times.{sum, due-later, due-most, next-sum, more-sum}
 
@@ -142,9 +142,9 @@ module _ (cfg : StreamConfig) (on : cfg .retransmit ≡ true) (delayed : 1 ≤ c
           q : RetransmitRequest
           q = record { seq = range .first; count = range .count }
 
-          by : (a : Write) → T (takenBy r q (writtenOf p b (requestPacket q) .0 .payload) a .receiver)
+          by : (a : Outcome) → T (takenBy r q (writtenOf p b (requestPacket q) .0 .payload) a .receiver)
           by Done = same (AskedFor q) false k e h
-          by (WriteRefused why) = i
+          by (Refused why) = i
 
       pub taken-timed : T (takenOf r cfg p b .0 .receiver)
       unfolding takenOf

@@ -15,7 +15,7 @@ use Rattle.window.specs.declared.window.ReceiveWindow.{ReceiveWindow}
 use Rattle.window.specs.declared.window.Taken.{Taken}
 use Rattle.window.specs.declared.window.Class.{Class}
 use Rattle.window.specs.declared.window.Class.the-variants.{New, Late, Duplicate}
-use Rattle.window.proofs.Ranges.{within-range}
+use Rattle.config.specs.inner.Ranges.{within-range}
 use Rattle.window.proofs.Digits.{has-above}
 use Rattle.window.proofs.Positions.{unprocessed-in, has-missing}
 use Rattle.window.proofs.Classes.{accept-class, new-at, late-at}

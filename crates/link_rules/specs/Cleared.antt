@@ -5,7 +5,7 @@ use mathlib.Core.Path.{_≡_}
 use mathlib.Core.Bool.{Bool, true, false}
 use Rattle.config.specs.Range.{within}
 use Rattle.config.specs.Settings.{checkOf}
-use Rattle.config.specs.declared.settings.Check.the-variants.{Passed}
+use Rattle.config.specs.declared.answer.Outcome.the-variants.{Done}
 use Rattle.config.specs.declared.settings.StreamConfig.{StreamConfig}
 use Rattle.window.specs.Set.{maxWindow}
 use Rattle.receiver.specs.Receiver.{nothingMissing}
@@ -27,7 +27,7 @@ boundOf cfg = cfg .«request_delay_ms» * (2 ^ (cfg .«max_requests» + 1) - 1)
 abbrev pub Cleared : Type 0
 Cleared =
     (cfg : StreamConfig) (window words places seed drop figure : ℕ)
-    → checkOf cfg ≡ Passed
+    → checkOf cfg ≡ Done
     → within 1 maxWindow window ≡ true
     → cfg .retransmit ≡ true
     → 1 ≤ cfg .«request_delay_ms»

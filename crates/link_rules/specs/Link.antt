@@ -11,7 +11,7 @@ use Rattle.config.specs.declared.settings.StreamConfig.{StreamConfig}
 use Rattle.packet.specs.Read.{Item, itemsOf}
 use Rattle.packet.specs.Write.{bytesIn}
 use Rattle.packet.specs.declared.writer.PayloadWriter.{PayloadWriter}
-use Rattle.packet.specs.declared.writer.Write.the-variants.{Done as Put}
+use Rattle.config.specs.declared.answer.Outcome.the-variants.{Done as OutcomeDone}
 use Rattle.packet.specs.declared.writer.Wrote.{Wrote as Opened}
 use Rattle.command.specs.Write.{errorWritten}
 use Rattle.stream.specs.State.{fresh}
@@ -77,7 +77,7 @@ blank = replicate limit 0
 
 -- a payload with its buffer: empty, or with the error that waits
 abbrev pub openedBy : Waiting → Opened × List ℕ
-openedBy Nothing = (record { payload = empty; answer = Put }, blank)
+openedBy Nothing = (record { payload = empty; answer = OutcomeDone }, blank)
 openedBy (Error e) = errorWritten e empty blank
 
 -- the bytes that a write leaves in its payload

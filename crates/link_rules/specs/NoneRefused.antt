@@ -4,16 +4,14 @@ use mathlib.Core.Path.{_≡_}
 use mathlib.Core.Bool.{Bool, true, false}
 use mathlib.Core.List.{List, [], _∷_}
 use Rattle.config.specs.Settings.{checkOf}
-use Rattle.config.specs.declared.settings.Check.the-variants.{Passed}
+use Rattle.config.specs.declared.answer.Outcome.the-variants.{Done}
 use Rattle.config.specs.declared.settings.StreamConfig.{StreamConfig}
-use Rattle.packet.specs.declared.writer.Write.the-variants.{Done as Put}
 use Rattle.receiver.specs.declared.receiver.Hearing.{Hearing}
 use Rattle.receiver.specs.declared.receiver.Hearing.the-variants.{Delivery as Delivered, Refused as NotHeard}
 use Rattle.receiver.specs.declared.receiver.StreamEvent.{StreamEvent}
 use Rattle.receiver.specs.declared.receiver.StreamEvent.the-variants.{Nothing as NoEvent, DataLoss, ErrorLoss, RetransmitError as ErrorOnly, Refused as NotTold}
 use Rattle.sender.specs.declared.sender.RequestOutcome.{RequestOutcome}
 use Rattle.sender.specs.declared.sender.RequestOutcome.the-variants.{Queued, Ignored, Error, NotSupported, Refused as NotTaken}
-use Rattle.sender.specs.declared.sender.Send.the-variants.{Accepted}
 use Rattle.sender.specs.declared.sender.Writing.{Writing}
 use Rattle.sender.specs.declared.sender.Writing.the-variants.{Written, Refused as NotWritten}
 use Rattle.sender_log.specs.Calls.{TypedConfig}
@@ -55,8 +53,8 @@ NoneRefuses (a ∷ rest) = (refuses a ≡ false) × NoneRefuses rest
 
 -- ---- the calls of a step
 pub record Taken (c : Calls) : Type 0 where
-  pub queued : c .queued .0 .answer ≡ Accepted
-  pub opened : c .opened .0 .answer ≡ Put
+  pub queued : c .queued .0 .answer ≡ Done
+  pub opened : c .opened .0 .answer ≡ Done
   pub wrote : writeRefuses (c .wrote .0 .answer) ≡ false
   pub heard : NoneRefuses (c .heard .answers)
   pub polled : eventRefuses (c .polled .event) ≡ false
@@ -67,7 +65,7 @@ pub record Taken (c : Calls) : Type 0 where
 abbrev pub NoneRefused : Type 0
 NoneRefused =
     (cfg : StreamConfig) (window words places seed drop figure : ℕ) (ring : List ℕ)
-    → checkOf cfg ≡ Passed
+    → checkOf cfg ≡ Done
     → TypedConfig cfg
     → sizesOut window words places ring ≡ false
     → (n : ℕ)

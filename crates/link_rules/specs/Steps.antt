@@ -5,7 +5,7 @@ use mathlib.Core.Bool.{false}
 use mathlib.Core.List.{List}
 use Rattle.config.specs.Settings.{checkOf}
 use Rattle.config.specs.declared.refusal.Refusal.the-variants.{SizeNotAllowed}
-use Rattle.config.specs.declared.settings.Check.the-variants.{Passed}
+use Rattle.config.specs.declared.answer.Outcome.the-variants.{Done as OutcomeDone}
 use Rattle.config.specs.declared.settings.StreamConfig.{StreamConfig}
 use Rattle.stream.specs.Answers.{sizesOut}
 use Rattle.link_rules.specs.Link.{startOf, runOf, runAnswer}
@@ -22,7 +22,7 @@ pub record Steps (cfg : StreamConfig) (window words places seed drop figure budg
 abbrev pub StepsDone : Type 0
 StepsDone =
     (cfg : StreamConfig) (window words places seed drop figure budget : ℕ) (ring other : List ℕ)
-    → checkOf cfg ≡ Passed
+    → checkOf cfg ≡ OutcomeDone
     → sizesOut window words places ring ≡ false
     → sizesOut window words places other ≡ false
     → Steps cfg window words places seed drop figure budget ring other

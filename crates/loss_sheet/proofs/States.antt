@@ -4,12 +4,13 @@ use mathlib.Core.Bool.{Bool, true, false, cond, _||_}
 use mathlib.Core.List.{List}
 use Prim.Native.Nat.{ℕ, _-_, _≤_, _<_}
 use native.Mathlib.Omega.{arith}
-use borrow.Author.Tests.{eq-eqb, ne-eqb, lt-ltb, le-ltb, le-leb, lt-leb, eqb-true, ltb-true, leb-true, not-true, not-false}
+use borrow.Author.Tests.{eq-eqb, ne-eqb, lt-ltb, le-ltb, le-leb, lt-leb, eqb-true, ltb-true, leb-true, not-true}
 use lib.ListN.{length, take, drop, replicate, length-drop}
 use lib.Seq.{take-all}
 use lib.Dec.{ltb, leb, eqb}
 use Rattle.config.specs.Range.{within, outside}
 use mathlib.Core.Logic.{_⊎_, inl, inr}
+use Rattle.config.specs.inner.Ranges.{outside-not, not-outside}
 use Rattle.config.specs.inner.Tests.{split, and-left, and-right}
 use Rattle.loss_sheet.specs.Bytes.{spliced}
 use Rattle.loss_sheet.specs.Records.{allRecords, isBlock, rows}
@@ -59,9 +60,6 @@ pub state-part : (b : List ℕ) (l : ℕ) (t : Bool) → t ≡ allBelow 1 (take 
 state-part b l t e = e ∙ rw (take-all (length b - l) (drop l b) (rw length-drop (omega arith)))
 
 -- ---- the answers
-
-outside-not : (n : ℕ) → outside 1 4096 n ≡ false → within 1 4096 n ≡ true
-outside-not n h = not-false (within 1 4096 n) h
 
 module _ (s : Sheet) (b bs : List ℕ) (room : ℕ) where
   pub answer-12 : outside 1 4096 (s .n) ≡ true → 12 ≡ answerOf s b bs room
@@ -122,7 +120,7 @@ good s b o t =
     let t₃ = and-right (leb (s .len) (s .n)) _ t₂ in
     record {
       ring = eqb-true (length b) (s .n) (and-left (eqb (length b) (s .n)) _ t);
-      most = leb-true (s .n) 4096 (and-right (leb 1 (s .n)) (leb (s .n) 4096) (outside-not (s .n) o));
+      most = not-outside 1 4096 (s .n) o .1;
       inside = ltb-true (s .head) (s .n) (and-left (ltb (s .head) (s .n)) _ t₁);
       room = leb-true (s .len) (s .n) (and-left (leb (s .len) (s .n)) _ t₂);
       first = either (s .head) (s .len) (s .n) (and-left (eqb (s .head) 0 || eqb (s .len) (s .n)) _ t₃);
@@ -138,11 +136,11 @@ module _ (n : ℕ) (b : List ℕ) where
   module _ (o : outside 1 4096 n ≡ false) where
     pub start-ring : (a : ℕ) → a ≡ 12 → (length b ≡ n → ⊥) → (record { sheet = fresh n; refusal = a }, b) ≡ startOf n b
     unfolding startOf
-    start-ring a e h = rw (outside-not n o, ne-eqb (length b) n h, e)
+    start-ring a e h = rw (outside-not 1 4096 n o, ne-eqb (length b) n h, e)
 
     pub started : (b′ : List ℕ) → length b ≡ n → b′ ≡ replicate (length b) 0 → (record { sheet = fresh n; refusal = 0 }, b′) ≡ startOf n b
     unfolding startOf
-    started b′ h e = rw (outside-not n o, eq-eqb (length b) n h) (ap (λ (l : List ℕ). (record { sheet = fresh n; refusal = 0 }, l)) (e ∙ ap (λ (k : ℕ). replicate k 0) h))
+    started b′ h e = rw (outside-not 1 4096 n o, eq-eqb (length b) n h) (ap (λ (l : List ℕ). (record { sheet = fresh n; refusal = 0 }, l)) (e ∙ ap (λ (k : ℕ). replicate k 0) h))
 
 -- ---- the block
 

@@ -14,13 +14,13 @@ use Rattle.config.specs.declared.refusal.Refusal.the-variants.{InvalidValue, In
 use Rattle.config.specs.inner.Tests.{split, tests, lifts, and-left, and-right}
 use Rattle.packet.specs.Bytes.{bytesOf, spliced}
 use Rattle.packet.specs.Layout.{Packet, signature, encoded, sizeOf, encodedAll, payloadOf}
-use Rattle.packet.specs.Write.{limitOf, validOf, startOf, noFit, refusedOf, doneOf, placedOf, writtenOf, bytesIn, Outcome, refused, done}
+use Rattle.packet.specs.Write.{limitOf, validOf, startOf, noFit, refusedOf, doneOf, placedOf, writtenOf, bytesIn, WriteEnds, refused, done}
 use Rattle.packet.specs.declared.writer.PayloadWriter.{PayloadWriter}
 use Rattle.packet.specs.declared.writer.Wrote.{Wrote}
 use Rattle.packet.proofs.Splice.{length-spliced, take-spliced, drop-spliced, take-before-spliced}
 use Rattle.packet.proofs.RoundTrip.{length-encoded, encodedAll-append}
 
-pub outcome : (p : PayloadWriter) (b : List ℕ) (c : Packet) → Outcome p b c (writtenOf p b c)
+pub outcome : (p : PayloadWriter) (b : List ℕ) (c : Packet) → WriteEnds p b c (writtenOf p b c)
 unfolding writtenOf
 outcome p b c = elim (split (validOf p (length b))) [
   | inr v ↦ rw v (refused InvalidState)
@@ -73,7 +73,7 @@ valid-by n max room a b c d e =
     rw (t₁, t₂, t₃, t₄, t₅, t₆)
 
 -- a write leaves a payload that passes it
-pub written-valid : (p : PayloadWriter) (b : List ℕ) (c : Packet) (w : Wrote × List ℕ) → Outcome p b c w → validOf p (length b) ≡ true
+pub written-valid : (p : PayloadWriter) (b : List ℕ) (c : Packet) (w : Wrote × List ℕ) → WriteEnds p b c w → validOf p (length b) ≡ true
     → validOf (w .0 .payload) (length b) ≡ true
 written-valid p b c w (refused r) v = v
 written-valid p b c w (done f l) v =
@@ -97,18 +97,18 @@ placed-fits p b c f =
           rw (z, ← n) (length-spliced b (p .len) (encoded c) (omega arith), drop-spliced b (p .len) (encoded c) (omega arith))
     ]
 
-pub written-length : (p : PayloadWriter) (b : List ℕ) (c : Packet) (w : Wrote × List ℕ) → Outcome p b c w → length (w .1) ≡ length b
+pub written-length : (p : PayloadWriter) (b : List ℕ) (c : Packet) (w : Wrote × List ℕ) → WriteEnds p b c w → length (w .1) ≡ length b
 written-length p b c w (refused r) = refl
 written-length p b c w (done f l) = placed-fits p b c f .0
 
 -- no byte at or past the new length is touched
-pub written-after : (p : PayloadWriter) (b : List ℕ) (c : Packet) (w : Wrote × List ℕ) → Outcome p b c w
+pub written-after : (p : PayloadWriter) (b : List ℕ) (c : Packet) (w : Wrote × List ℕ) → WriteEnds p b c w
     → drop (w .0 .payload .len) (w .1) ≡ drop (w .0 .payload .len) b
 written-after p b c w (refused r) = refl
 written-after p b c w (done f l) = placed-fits p b c f .1
 
 -- nor one below the old length, but for the signature of an empty payload
-pub written-before : (p : PayloadWriter) (b : List ℕ) (c : Packet) (w : Wrote × List ℕ) → Outcome p b c w → bytesIn p (w .1) ≡ bytesIn p b
+pub written-before : (p : PayloadWriter) (b : List ℕ) (c : Packet) (w : Wrote × List ℕ) → WriteEnds p b c w → bytesIn p (w .1) ≡ bytesIn p b
 written-before p b c w (refused r) = refl
 written-before p b c w (done f l) = elim (split (eqb (p .len) 0)) [
   | inl z ↦ let e : p .len ≡ 0 = eqb-true _ _ z in rw e

@@ -16,7 +16,7 @@ use Rattle.packet.specs.Layout.{Packet, packet, signature, encoded, size
 use Rattle.packet.specs.Write.{limitOf, validOf, startOf, begunOf, noFit, refusedOf, doneOf, placedOf, writtenOf}
 use Rattle.packet.specs.declared.writer.PayloadWriter.{PayloadWriter}
 use Rattle.packet.specs.declared.writer.Wrote.{Wrote}
-use Rattle.packet.specs.declared.writer.Write.the-variants.{Done}
+use Rattle.config.specs.declared.answer.Outcome.the-variants.{Done}
 use Rattle.packet.proofs.Splice.{length-spliced, spliced-append}
 use Rattle.packet.proofs.Words.{length-bytesOf, bytesOf-append}
 

@@ -12,8 +12,8 @@ use Rattle.packet.specs.Layout.{Packet, signature, encoded, sizeOf}
 use Rattle.packet.specs.declared.writer.PayloadWriter.{PayloadWriter}
 use Rattle.packet.specs.declared.writer.Opened.{Opened}
 use Rattle.packet.specs.declared.writer.Opened.the-variants.{Payload, Refused as OpenRefused}
-use Rattle.packet.specs.declared.writer.Write.{Write}
-use Rattle.packet.specs.declared.writer.Write.the-variants.{Done, Refused}
+use Rattle.config.specs.declared.answer.Outcome.{Outcome}
+use Rattle.config.specs.declared.answer.Outcome.the-variants.{Done, Refused}
 use Rattle.packet.specs.declared.writer.Wrote.{Wrote}
 
 -- 4 when the limit isn't 8 to 1,400 bytes
@@ -69,6 +69,6 @@ abbrev pub bytesIn : PayloadWriter → List ℕ → List ℕ
 bytesIn p b = take (p .len) b
 
 -- what a write can come to: a refusal, which changes nothing, or the command written
-pub data Outcome (p : PayloadWriter) (b : List ℕ) (c : Packet) : Wrote × List ℕ → Type 0 where
-  refused : (r : Refusal) → Outcome p b c (refusedOf p r, b)
-  done : startOf p + sizeOf c ≤ limitOf p (length b) → length (c .words) ≤ 255 → Outcome p b c (doneOf p c, placedOf p b c)
+pub data WriteEnds (p : PayloadWriter) (b : List ℕ) (c : Packet) : Wrote × List ℕ → Type 0 where
+  refused : (r : Refusal) → WriteEnds p b c (refusedOf p r, b)
+  done : startOf p + sizeOf c ≤ limitOf p (length b) → length (c .words) ≤ 255 → WriteEnds p b c (doneOf p c, placedOf p b c)

@@ -13,8 +13,8 @@ use super::bytes::put_words;
 use super::writer::MAX_PAYLOAD;
 use super::writer::MIN_PAYLOAD;
 use super::writer::PayloadWriter;
-use super::writer::Write;
 use super::writer::Wrote;
+use config::answer::Outcome;
 use config::range::least;
 use config::range::outside;
 use config::refusal::Refusal;
@@ -94,12 +94,12 @@ fn refuse_fit(p: PayloadWriter) -> Wrote
     if p.len == 0 {
         return Wrote {
             payload: p,
-            answer: Write::Refused(Refusal::TooLarge),
+            answer: Outcome::Refused(Refusal::TooLarge),
         };
     }
     Wrote {
         payload: p,
-        answer: Write::Refused(Refusal::Overflow),
+        answer: Outcome::Refused(Refusal::Overflow),
     }
 }
 
@@ -160,13 +160,13 @@ pub fn command_runs(
     if 255 < n {
         return Wrote {
             payload: p,
-            answer: Write::Refused(Refusal::InvalidValue),
+            answer: Outcome::Refused(Refusal::InvalidValue),
         };
     }
     let len = put_runs(p, buf, code, csd1, csd2, first, second);
     Wrote {
         payload: PayloadWriter { len, max: p.max },
-        answer: Write::Done,
+        answer: Outcome::Done,
     }
 }
 
@@ -188,12 +188,12 @@ pub fn command(
     if 255 < words.len() {
         return Wrote {
             payload: p,
-            answer: Write::Refused(Refusal::InvalidValue),
+            answer: Outcome::Refused(Refusal::InvalidValue),
         };
     }
     let len = put(p, buf, code, csd1, csd2, words);
     Wrote {
         payload: PayloadWriter { len, max: p.max },
-        answer: Write::Done,
+        answer: Outcome::Done,
     }
 }

@@ -8,6 +8,7 @@ ghost use mathlib.Core.Path.{_≡_};
 ghost use Rattle.packet.specs.Write.{openedOf, writtenOf};
 ghost use Rattle.packet.specs.Layout.{packet};
 use super::valid;
+use config::answer::Outcome;
 use config::range::outside;
 use config::refusal::Refusal;
 
@@ -28,15 +29,10 @@ pub enum Opened {
     Refused(Refusal),
 }
 
-pub enum Write {
-    Done,
-    Refused(Refusal),
-}
-
 // The payload after a write, as it was where the write was refused.
 pub struct Wrote {
     pub payload: PayloadWriter,
-    pub answer: Write,
+    pub answer: Outcome,
 }
 
 impl PayloadWriter {
@@ -61,7 +57,7 @@ impl PayloadWriter {
         }
         Wrote {
             payload: self,
-            answer: Write::Refused(Refusal::InvalidState),
+            answer: Outcome::Refused(Refusal::InvalidState),
         }
     }
 }

@@ -7,7 +7,7 @@ use Rattle.config.specs.declared.settings.StreamConfig.{StreamConfig}
 use Rattle.config.specs.declared.refusal.Refusal.{Refusal}
 use Rattle.packet.specs.Write.{writtenOf}
 use Rattle.packet.specs.declared.writer.PayloadWriter.{PayloadWriter}
-use Rattle.packet.specs.declared.writer.Write.the-variants.{Done, Refused as WriteRefused}
+use Rattle.config.specs.declared.answer.Outcome.the-variants.{Done, Refused}
 use Rattle.packet.specs.declared.writer.Wrote.{Wrote}
 use Rattle.command.specs.Write.{requestPacket}
 use Rattle.command.specs.declared.retransmit.RetransmitRequest.{RetransmitRequest}
@@ -35,7 +35,7 @@ module _ (r : Receiver) (q : RetransmitRequest) (p : PayloadWriter) (b : List �
   offered-done next n a = offered _ (rw n (ap (takenBy r q (wrote .payload)) (sym a)))
 
   pub offered-refused :
-      (why : Refusal) (answer : Request) → answer ≡ noFit (wrote .payload) → wrote .answer ≡ WriteRefused why
+      (why : Refusal) (answer : Request) → answer ≡ noFit (wrote .payload) → wrote .answer ≡ Refused why
       → (record { receiver = r; payload = wrote .payload; answer = answer }, after) ≡ offeredOf r q p b
   offered-refused why answer e a = offered _ (rw e (ap (takenBy r q (wrote .payload)) (sym a)))
 

@@ -1,12 +1,13 @@
--- The answers of the entry points: settings tested first (9, 7, 8), then the state (13); a refused call changes nothing.
+-- The answers of the entry points: settings first (9, 7, 8), then the state (13); a refused call changes nothing.
 use Prim.Native.Nat.{ℕ}
-use mathlib.Core.Bool.{cond, not, _&&_}
+use mathlib.Core.Bool.{cond, _&&_}
 use mathlib.Core.List.{List}
 use lib.ListN.{length}
-use Rattle.config.specs.Settings.{checkOf, tested}
+use Rattle.config.specs.Entry.{onState, entry}
+use Rattle.config.specs.Settings.{checkOf}
 use Rattle.config.specs.Range.{outside}
 use Rattle.config.specs.declared.refusal.Refusal.{Refusal}
-use Rattle.config.specs.declared.refusal.Refusal.the-variants.{SizeNotAllowed, InvalidState}
+use Rattle.config.specs.declared.refusal.Refusal.the-variants.{SizeNotAllowed}
 use Rattle.config.specs.declared.settings.StreamConfig.{StreamConfig}
 use Rattle.packet.specs.Write.{validOf as payloadValid}
 use Rattle.packet.specs.declared.writer.PayloadWriter.{PayloadWriter}
@@ -22,57 +23,49 @@ use Rattle.receiver.specs.declared.receiver.Request.the-variants.{Refuse
 use Rattle.receiver.specs.declared.receiver.Requested.{Requested}
 use Rattle.receiver.specs.declared.receiver.Start.{Start}
 use Rattle.receiver.specs.declared.receiver.Start.the-variants.{Receiver as Started, Refused as StartRefused}
-use Rattle.receiver.specs.declared.receiver.Reset.the-variants.{Done, Refused as ResetRefused}
+use Rattle.config.specs.declared.answer.Outcome.the-variants.{Done, Refused}
+use Rattle.config.specs.declared.answer.Answered.{Answered}
+use Rattle.config.specs.declared.answer.Answered.the-variants.{Is, Refused as AnsweredRefused}
+use Rattle.config.specs.declared.answer.Deadline.{Deadline}
+use Rattle.config.specs.declared.answer.Deadline.the-variants.{Refused as DeadlineRefused}
 use Rattle.receiver.specs.declared.receiver.WasReset.{WasReset}
-use Rattle.receiver.specs.declared.receiver.Deadline.{Deadline}
-use Rattle.receiver.specs.declared.receiver.Deadline.the-variants.{Refused as DeadlineRefused}
-use Rattle.receiver.specs.declared.receiver.Due.{Due}
-use Rattle.receiver.specs.declared.receiver.Due.the-variants.{Is, Refused as DueRefused}
 
 -- 12 when W isn't 1 to 128
 unfoldable pub newAnswer : ℕ → Start
 newAnswer size = cond (outside 1 maxWindow size) (StartRefused SizeNotAllowed) (Started (freshOf size))
 
+abbrev pub resetRefused : Receiver → Refusal → WasReset
+resetRefused r why = record { receiver = r; answer = Refused why }
+
 unfoldable pub resetAnswer : Receiver → WasReset
-resetAnswer r =
-    cond (not (validOf r)) (record { receiver = r; answer = ResetRefused InvalidState })
-    (record { receiver = freshOf (r .window .size); answer = Done })
+resetAnswer r = onState (validOf r) (resetRefused r) record { receiver = freshOf (r .window .size); answer = Done }
 
 abbrev pub hearingRefused : Receiver → Refusal → Heard
 hearingRefused r why = record { receiver = r; answer = HearingRefused why }
 
 unfoldable pub dataAnswer : Receiver → StreamConfig → ℕ → ℕ → Heard
-dataAnswer r s now seq =
-    tested (checkOf s) (hearingRefused r)
-    (cond (not (validOf r)) (hearingRefused r InvalidState)
-    (heardOf r s now seq))
+dataAnswer r s now seq = entry (checkOf s) (validOf r) (hearingRefused r) (heardOf r s now seq)
 
 abbrev pub eventRefused : Receiver → Refusal → Told
 eventRefused r why = record { receiver = r; event = EventRefused why }
 
 unfoldable pub pollAnswer : Receiver → StreamConfig → ℕ → Told
-pollAnswer r s now =
-    tested (checkOf s) (eventRefused r)
-    (cond (not (validOf r)) (eventRefused r InvalidState)
-    (polledOf r s now))
+pollAnswer r s now = entry (checkOf s) (validOf r) (eventRefused r) (polledOf r s now)
 
 unfoldable pub errorAnswer : Receiver → RetransmitError → Told
-errorAnswer r e = cond (not (validOf r)) (eventRefused r InvalidState) (erroredOf r e)
+errorAnswer r e = onState (validOf r) (eventRefused r) (erroredOf r e)
 
 unfoldable pub nakAnswer : Receiver → Told
-nakAnswer r = cond (not (validOf r)) (eventRefused r InvalidState) (nakedOf r)
+nakAnswer r = onState (validOf r) (eventRefused r) (nakedOf r)
 
 abbrev pub requestRefused : Receiver → PayloadWriter → List ℕ → Refusal → Requested × List ℕ
 requestRefused r p b why = (record { receiver = r; payload = p; answer = RequestRefused why }, b)
 
 unfoldable pub takeAnswer : Receiver → StreamConfig → PayloadWriter → List ℕ → Requested × List ℕ
-takeAnswer r s p b =
-    tested (checkOf s) (requestRefused r p b)
-    (cond (not (validOf r && payloadValid p (length b))) (requestRefused r p b InvalidState)
-    (takenOf r s p b))
+takeAnswer r s p b = entry (checkOf s) (validOf r && payloadValid p (length b)) (requestRefused r p b) (takenOf r s p b)
 
 unfoldable pub deadlineAnswer : Receiver → Deadline
-deadlineAnswer r = cond (not (validOf r)) (DeadlineRefused InvalidState) (deadlineOf r)
+deadlineAnswer r = onState (validOf r) DeadlineRefused (deadlineOf r)
 
-unfoldable pub dueAnswer : Receiver → Due
-dueAnswer r = cond (not (validOf r)) (DueRefused InvalidState) (Is (r .«request_due»))
+unfoldable pub dueAnswer : Receiver → Answered
+dueAnswer r = onState (validOf r) AnsweredRefused (Is (r .«request_due»))

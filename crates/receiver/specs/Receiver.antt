@@ -9,8 +9,10 @@ use Rattle.config.specs.declared.refusal.Refusal.the-variants.{TooLarge}
 use Rattle.config.specs.declared.settings.StreamConfig.{StreamConfig}
 use Rattle.packet.specs.Write.{writtenOf}
 use Rattle.packet.specs.declared.writer.PayloadWriter.{PayloadWriter}
-use Rattle.packet.specs.declared.writer.Write.{Write}
-use Rattle.packet.specs.declared.writer.Write.the-variants.{Done, Refused as WriteRefused}
+use Rattle.config.specs.declared.answer.Outcome.{Outcome}
+use Rattle.config.specs.declared.answer.Outcome.the-variants.{Done, Refused as OutcomeRefused}
+use Rattle.config.specs.declared.answer.Deadline.{Deadline}
+use Rattle.config.specs.declared.answer.Deadline.the-variants.{Nothing as DeadlineNothing, At}
 use Rattle.command.specs.Write.{requestPacket}
 use Rattle.command.specs.declared.retransmit.RetransmitRequest.{RetransmitRequest}
 use Rattle.command.specs.declared.retransmit.RetransmitError.{RetransmitError}
@@ -35,8 +37,6 @@ use Rattle.receiver.specs.declared.receiver.Told.{Told}
 use Rattle.receiver.specs.declared.receiver.Request.{Request}
 use Rattle.receiver.specs.declared.receiver.Request.the-variants.{Nothing as NotDue, Written, More, Refused}
 use Rattle.receiver.specs.declared.receiver.Requested.{Requested}
-use Rattle.receiver.specs.declared.receiver.Deadline.{Deadline}
-use Rattle.receiver.specs.declared.receiver.Deadline.the-variants.{Nothing as NoDeadline, At}
 
 -- ---- the state
 unfoldable pub validOf : Receiver → Bool
@@ -160,9 +160,9 @@ abbrev pub noFit : PayloadWriter → Request
 noFit p = cond (eqb (p .len) 0) (Refused TooLarge) More
 
 -- written, and then unanswered; or as before where it doesn't fit
-abbrev pub takenBy : Receiver → RetransmitRequest → PayloadWriter → Write → Requested
+abbrev pub takenBy : Receiver → RetransmitRequest → PayloadWriter → Outcome → Requested
 takenBy r q p Done = record { receiver = withAsked r (AskedFor q); payload = p; answer = Written }
-takenBy r q p (WriteRefused why) = record { receiver = r; payload = p; answer = noFit p }
+takenBy r q p (OutcomeRefused why) = record { receiver = r; payload = p; answer = noFit p }
 
 unfoldable pub offeredOf : Receiver → RetransmitRequest → PayloadWriter → List ℕ → Requested × List ℕ
 offeredOf r q p b =
@@ -182,7 +182,7 @@ takenOf r s p b =
 
 -- ---- questions
 abbrev pub deadlineAt : Timer → Deadline
-deadlineAt Stopped = NoDeadline
+deadlineAt Stopped = DeadlineNothing
 deadlineAt (Running t) = At (t .due)
 
 unfoldable pub deadlineOf : Receiver → Deadline

@@ -5,9 +5,11 @@ use super::valid;
 use command::data::UmpData;
 use command::retransmit::RetransmitError;
 use command::retransmit::RetransmitRequest;
+use config::answer::Answered;
+use config::answer::Deadline;
+use config::answer::Outcome;
 use config::refusal::Refusal;
 use config::sequence::SeqNum;
-use config::settings::Check;
 use config::settings::StreamConfig;
 use packet::writer::PayloadWriter;
 use window::window::Class;
@@ -100,25 +102,9 @@ pub enum Start {
     Refused(Refusal),
 }
 
-pub enum Reset {
-    Done,
-    Refused(Refusal),
-}
-
 pub struct WasReset {
     pub receiver: Receiver,
-    pub answer: Reset,
-}
-
-pub enum Deadline {
-    Nothing,
-    At(u64),
-    Refused(Refusal),
-}
-
-pub enum Due {
-    Is(bool),
-    Refused(Refusal),
+    pub answer: Outcome,
 }
 
 impl Receiver {
@@ -145,12 +131,12 @@ impl Receiver {
         if valid::is_valid(self) {
             return WasReset {
                 receiver: valid::reset(self),
-                answer: Reset::Done,
+                answer: Outcome::Done,
             };
         }
         WasReset {
             receiver: self,
-            answer: Reset::Refused(Refusal::InvalidState),
+            answer: Outcome::Refused(Refusal::InvalidState),
         }
     }
 
@@ -159,11 +145,11 @@ impl Receiver {
         ensures { λ r. ⌜ r ≡ dataAnswer self cfg now («data» .seq) ⌝ }
     {
         match cfg.check() {
-            Check::Refused(why) => Heard {
+            Outcome::Refused(why) => Heard {
                 receiver: self,
                 answer: Hearing::Refused(why),
             },
-            Check::Passed => {
+            Outcome::Done => {
                 if valid::is_valid(self) {
                     return valid::on_ump_data(self, cfg, now, data.seq);
                 }
@@ -180,11 +166,11 @@ impl Receiver {
         ensures { λ r. ⌜ r ≡ pollAnswer self cfg now ⌝ }
     {
         match cfg.check() {
-            Check::Refused(why) => Told {
+            Outcome::Refused(why) => Told {
                 receiver: self,
                 event: StreamEvent::Refused(why),
             },
-            Check::Passed => {
+            Outcome::Done => {
                 if valid::is_valid(self) {
                     return valid::poll(self, cfg, now);
                 }
@@ -227,12 +213,12 @@ impl Receiver {
         ensures { λ r. ⌜ (r, now (buf .exit)) ≡ takeAnswer self cfg p (now (buf .entry)) ⌝ }
     {
         match cfg.check() {
-            Check::Refused(why) => Requested {
+            Outcome::Refused(why) => Requested {
                 receiver: self,
                 payload: p,
                 answer: Request::Refused(why),
             },
-            Check::Passed => {
+            Outcome::Done => {
                 if valid::is_valid(self) {
                     if packet::valid::is_valid(p, buf.len()) {
                         return valid::write_request(self, cfg, p, buf);
@@ -258,12 +244,12 @@ impl Receiver {
     }
 
     // Whether a request waits to be taken.
-    pub fn request_due(self) -> Due
+    pub fn request_due(self) -> Answered
         ensures { λ r. ⌜ r ≡ dueAnswer self ⌝ }
     {
         if valid::is_valid(self) {
-            return Due::Is(self.request_due);
+            return Answered::Is(self.request_due);
         }
-        Due::Refused(Refusal::InvalidState)
+        Answered::Refused(Refusal::InvalidState)
     }
 }

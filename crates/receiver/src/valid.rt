@@ -11,7 +11,6 @@ ghost use Rattle.window.specs.Window.{Valid};
 ghost use Rattle.window.specs.Arrival.{reach, inOrder};
 ghost use Rattle.receiver.specs.Receiver.{validOf, restOf, freshOf, enabledOf, dueAfter, gapOf, isGap, restarts, settledOf, heardOf, quietOf, gaveUp, polledAt, polledOf, erroredBy, erroredOf, markedBy, nakedOf, withAsked, notDue, noFit, offeredOf, takenOf, deadlineOf};
 use super::receiver::Asked;
-use super::receiver::Deadline;
 use super::receiver::Delivery;
 use super::receiver::Heard;
 use super::receiver::Hearing;
@@ -24,13 +23,14 @@ use super::receiver::Timer;
 use super::receiver::Told;
 use command::retransmit::RetransmitError;
 use command::retransmit::RetransmitRequest;
+use config::answer::Deadline;
+use config::answer::Outcome;
 use config::refusal::Refusal;
 use config::sequence;
 use config::sequence::SeqNum;
 use config::settings::StreamConfig;
 use config::time::later_by;
 use packet::writer::PayloadWriter;
-use packet::writer::Write;
 use window::window::Class;
 use window::window::ReceiveWindow;
 use window::window::SeqRange;
@@ -443,12 +443,12 @@ fn offer(r: Receiver, req: RetransmitRequest, p: PayloadWriter, buf: &mut [u8]) 
     let payload = wrote.payload;
     let answer = wrote.answer;
     match answer {
-        Write::Done => Requested {
+        Outcome::Done => Requested {
             receiver: with_asked(r, Asked::Request(req)),
             payload,
             answer: Request::Written,
         },
-        Write::Refused(_) => Requested {
+        Outcome::Refused(_) => Requested {
             receiver: r,
             payload,
             answer: no_fit(payload),

@@ -20,7 +20,7 @@ use Rattle.window.proofs.AfterMark.{processed-late}
 use Rattle.window.proofs.Preserved.{valid-new, valid-late}
 use Rattle.receiver_log.specs.Log.{Report, heard, origin, isAhead, place, high, times, inLoss, unprocessed}
 use Rattle.receiver_log.specs.Spans.{endsOf, spanFrom, lostAt}
-use Rattle.receiver_log.proofs.Choices.{never}
+use Rattle.config.specs.inner.Choices.{never}
 use Rattle.receiver_log.proofs.Settled.{settled, open-is, unprocessed-is, before-0}
 use Rattle.receiver_log.proofs.Numbers.{high-behind, place-behind, behind-by}
 use Rattle.receiver_log.proofs.Losses.{loss-marks, loss-below}

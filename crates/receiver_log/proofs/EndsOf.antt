@@ -7,7 +7,7 @@ use native.Mathlib.Omega.{arith}
 use lib.Dec.{eqb}
 use Rattle.config.specs.inner.Tests.{split, tests}
 use Rattle.receiver_log.specs.Spans.{Ends, none, ends, widen, endsOf}
-use Rattle.receiver_log.proofs.Choices.{never}
+use Rattle.config.specs.inner.Choices.{never}
 
 abbrev pub EndsOk : (ℕ → Bool) → ℕ → ℕ → Ends → Type 0
 EndsOk f low n none = (b : ℕ) → low ≤ b → b < low + n → f b ≡ false

@@ -25,7 +25,7 @@ use Rattle.receiver_log.specs.Spans.{Ends, none, ends, isNone, endsOf, m
 use Rattle.receiver_log.specs.Timing.{nakAfter, nakIn, timerAfter, timerIn, dueThen, dueIn, askedAfter, askedIn}
 use Rattle.receiver_log.specs.Answers.{answerOf}
 use Rattle.receiver_log.proofs.EndsOf.{EndsOk, ends-ok}
-use Rattle.receiver_log.proofs.Choices.{never}
+use Rattle.config.specs.inner.Choices.{never}
 use Rattle.receiver_log.proofs.Held.{Held, held-quiet, open-in}
 use Rattle.receiver_log.proofs.SpanIs.{missing-none}
 

@@ -8,8 +8,8 @@ use Rattle.config.specs.Sequence.{turn}
 use Rattle.config.specs.Settings.{checkOf}
 use Rattle.config.specs.declared.refusal.Refusal.{Refusal}
 use Rattle.config.specs.declared.settings.StreamConfig.{StreamConfig}
-use Rattle.config.specs.declared.settings.Check.{Check}
-use Rattle.config.specs.declared.settings.Check.the-variants.{Passed, Refused as CheckRefused}
+use Rattle.config.specs.declared.answer.Outcome.{Outcome}
+use Rattle.config.specs.declared.answer.Outcome.the-variants.{Done, Refused}
 use Rattle.window.specs.Window.{missingOf}
 use Rattle.window.specs.Arrival.{acceptOf}
 use Rattle.window.specs.declared.window.Taken.{Taken}
@@ -27,7 +27,7 @@ use Rattle.receiver_log.specs.Log.{reports}
 use Rattle.receiver_log.specs.Spans.{nothingMissing}
 use Rattle.receiver_log.specs.Timing.{enabledIn, timerAfter, timerIn}
 use Rattle.receiver_log.specs.Answers.{answerOf}
-use Rattle.receiver_log.proofs.Choices.{cond-true, cond-false, by-cond}
+use Rattle.config.specs.inner.Choices.{cond-true, cond-false, by-cond}
 use Rattle.receiver_log.proofs.Taken.{TakenOk, accept-ok}
 use Rattle.receiver_log.proofs.Follows.{Follows, StepOk, passes, none-missing, follows-rest, follows-on, follows-same}
 
@@ -43,17 +43,17 @@ module _ (r : Receiver) (t : List Entry) (s : StreamConfig) (now seq : ℕ) (ws 
 
   -- ---- refused
 
-  refused-answer : (why : Refusal) → checkOf s ≡ CheckRefused why → dataAnswer r s now seq ≡ hearingRefused r why
+  refused-answer : (why : Refusal) → checkOf s ≡ Refused why → dataAnswer r s now seq ≡ hearingRefused r why
   unfolding dataAnswer
   refused-answer why e = rw e
 
-  refused-ok : (why : Refusal) → checkOf s ≡ CheckRefused why → Ok (stepFrom (hearingRefused r why))
+  refused-ok : (why : Refusal) → checkOf s ≡ Refused why → Ok (stepFrom (hearingRefused r why))
   unfolding answerOf
   refused-ok why e = record { follows = follows-same W r _ t i refl refl refl refl refl; says = rw e }
 
   -- ---- heard
 
-  heard-answer : checkOf s ≡ Passed → dataAnswer r s now seq ≡ heardOf r s now seq
+  heard-answer : checkOf s ≡ Done → dataAnswer r s now seq ≡ heardOf r s now seq
   unfolding dataAnswer
   heard-answer e = rw (e, passes r (i .held .valid))
 
@@ -90,7 +90,7 @@ module _ (r : Receiver) (t : List Entry) (s : StreamConfig) (now seq : ℕ) (ws 
         (λ g. going started (sym missing ∙ n) (cond-true started (timerIn W t) (sym (starts (k .class)) ∙ g)))
         (λ g. going (r .timer) (sym missing ∙ n) (i .timer ∙ cond-false started (timerIn W t) (sym (starts (k .class)) ∙ g))))
 
-  heard-ok : seq < turn → checkOf s ≡ Passed → Ok (stepFrom (heardOf r s now seq))
+  heard-ok : seq < turn → checkOf s ≡ Done → Ok (stepFrom (heardOf r s now seq))
   unfolding heardOf answerOf
   heard-ok l e =
       let a = accept-ok (r .window) (reports t) seq ws (i .held) l in
@@ -103,6 +103,6 @@ module _ (r : Receiver) (t : List Entry) (s : StreamConfig) (now seq : ℕ) (ws 
   unfolding stepOf
   data-ok l = go (checkOf s) refl
     where
-      go : (k : Check) → checkOf s ≡ k → Ok (stepFrom (dataAnswer r s now seq))
-      go (CheckRefused why) e = subst (λ (h : Heard). Ok (stepFrom h)) (sym (refused-answer why e)) (refused-ok why e)
-      go Passed e = subst (λ (h : Heard). Ok (stepFrom h)) (sym (heard-answer e)) (heard-ok l e)
+      go : (k : Outcome) → checkOf s ≡ k → Ok (stepFrom (dataAnswer r s now seq))
+      go (Refused why) e = subst (λ (h : Heard). Ok (stepFrom h)) (sym (refused-answer why e)) (refused-ok why e)
+      go Done e = subst (λ (h : Heard). Ok (stepFrom h)) (sym (heard-answer e)) (heard-ok l e)

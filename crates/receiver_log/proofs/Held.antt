@@ -16,7 +16,7 @@ use Rattle.window.specs.declared.window.Span.the-variants.{Nothing}
 use Rattle.window.proofs.Positions.{processed-fresh, unprocessed-in}
 use Rattle.window.proofs.Preserved.{valid-fresh}
 use Rattle.receiver_log.specs.Log.{Report, told, origin, high, times, unprocessed}
-use Rattle.receiver_log.proofs.Choices.{never, not-true}
+use Rattle.config.specs.inner.Choices.{never, not-true}
 use Rattle.receiver_log.proofs.Settled.{settled, unprocessed-is, before-0}
 
 pub record Held (w : ReceiveWindow) (t : List Report) : Type 0 where

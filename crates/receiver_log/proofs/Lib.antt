@@ -1,5 +1,4 @@
 -- Laws that this crate's proofs cite, and, marked `pub`, those of the crates above.
-pub mod Choices
 pub mod Numbers
 mod EndsOf
 pub mod Settled

@@ -10,7 +10,7 @@ use Rattle.config.specs.inner.Tests.{split, tests, lifts, and-left, and-right}
 use Rattle.receiver_log.specs.Log.{inLoss}
 use Rattle.receiver_log.specs.Spans.{Ends, none, ends, endsOf, spanFrom}
 use Rattle.receiver_log.proofs.EndsOf.{EndsOk, ends-ok}
-use Rattle.receiver_log.proofs.Choices.{never, unless, and-both}
+use Rattle.config.specs.inner.Choices.{never, unless, and-both}
 use Rattle.receiver_log.proofs.Numbers.{start-at}
 
 module _ (H low n : ℕ) (f p q : ℕ → Bool)

@@ -14,7 +14,7 @@ use Rattle.window.specs.Window.{Valid, behind, freshOf, processed}
 use Rattle.window.specs.Marking.{inRange, markOf}
 use Rattle.window.specs.declared.window.ReceiveWindow.{ReceiveWindow}
 use Rattle.window.specs.declared.window.SeqRange.{SeqRange}
-use Rattle.window.proofs.Ranges.{within-yes}
+use Rattle.config.specs.inner.Ranges.{within-yes}
 use Rattle.window.proofs.Positions.{processed-fresh, unprocessed-in}
 use Rattle.window.proofs.AfterMark.{processed-mark}
 use Rattle.window.proofs.Preserved.{valid-all, valid-mark}

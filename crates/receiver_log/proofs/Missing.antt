@@ -15,7 +15,7 @@ use Rattle.receiver_log.specs.Log.{Report, origin, high, times, lost, un
 use Rattle.receiver_log.specs.Spans.{Ends, none, ends, endsOf, spanFrom, missingEnds}
 use Rattle.receiver_log.specs.Promise.{Promise, FromTo, nothing, from}
 use Rattle.receiver_log.proofs.EndsOf.{EndsOk, ends-ok}
-use Rattle.receiver_log.proofs.Choices.{never, not-true}
+use Rattle.config.specs.inner.Choices.{never, not-true}
 use Rattle.receiver_log.proofs.Settled.{settled, open-is, is-open, unprocessed-is}
 use Rattle.receiver_log.proofs.Held.{Held, open-in}
 use Rattle.receiver_log.proofs.SpanIs.{missing-span}

@@ -8,8 +8,8 @@ use lib.Dec.{eqb, ltb}
 use Rattle.config.specs.Settings.{checkOf}
 use Rattle.config.specs.declared.refusal.Refusal.{Refusal}
 use Rattle.config.specs.declared.settings.StreamConfig.{StreamConfig}
-use Rattle.config.specs.declared.settings.Check.{Check}
-use Rattle.config.specs.declared.settings.Check.the-variants.{Passed, Refused as CheckRefused}
+use Rattle.config.specs.declared.answer.Outcome.{Outcome}
+use Rattle.config.specs.declared.answer.Outcome.the-variants.{Done, Refused}
 use Rattle.window.specs.Window.{missingOf, missingSpan}
 use Rattle.receiver.specs.Receiver.{enabledOf, dueAfter, quietOf, lossOf, gaveUp, polledAt, polledOf}
 use Rattle.receiver.specs.Answers.{pollAnswer, eventRefused}
@@ -25,7 +25,7 @@ use Rattle.receiver_log.specs.Log.{reports}
 use Rattle.receiver_log.specs.Spans.{isNone, missingIn, nothingMissing}
 use Rattle.receiver_log.specs.Timing.{enabledIn, Tick, waits, asks, gives-up, tickAt, later, ticked, timerIn, duePolled, dueIn}
 use Rattle.receiver_log.specs.Answers.{pollEvent, answerOf}
-use Rattle.receiver_log.proofs.Choices.{never, unless, by-cond}
+use Rattle.config.specs.inner.Choices.{never, unless, by-cond}
 use Rattle.receiver_log.proofs.Held.{held-quiet}
 use Rattle.receiver_log.proofs.SpanIs.{missing-span}
 use Rattle.receiver_log.proofs.Follows.{Follows, StepOk, passes, none-missing, quiet-ends, idle, follows-on, follows-same}
@@ -46,21 +46,21 @@ module _ (r : Receiver) (t : List Entry) (s : StreamConfig) (now : ℕ) (i : Fol
 
   -- ---- refused
 
-  refused-answer : (why : Refusal) → checkOf s ≡ CheckRefused why → pollAnswer r s now ≡ eventRefused r why
+  refused-answer : (why : Refusal) → checkOf s ≡ Refused why → pollAnswer r s now ≡ eventRefused r why
   unfolding pollAnswer
   refused-answer why e = rw e
 
-  refused-ok : (why : Refusal) → checkOf s ≡ CheckRefused why → Ok (stepFrom (eventRefused r why))
+  refused-ok : (why : Refusal) → checkOf s ≡ Refused why → Ok (stepFrom (eventRefused r why))
   unfolding answerOf
   refused-ok why e = record { follows = follows-same W r _ t i refl refl refl refl refl; says = rw e }
 
   -- ---- polled
 
-  polled-answer : checkOf s ≡ Passed → pollAnswer r s now ≡ polledAt r s now (r .timer)
+  polled-answer : checkOf s ≡ Done → pollAnswer r s now ≡ polledAt r s now (r .timer)
   unfolding pollAnswer polledOf
   polled-answer e = rw (e, passes r (i .held .valid))
 
-  module _ (e : checkOf s ≡ Passed) where
+  module _ (e : checkOf s ≡ Done) where
     answers : (x : Tick) (event : StreamEvent) → tick ≡ x → event ≡ pollEvent (missingIn W (reports t)) x → poll-entry s now event ≡ answerOf W t (poll s now)
     unfolding answerOf
     answers x event k f = ap (poll-entry s now) (f ∙ ap (pollEvent (missingIn W (reports t))) (sym k)) ∙ rw e
@@ -129,6 +129,6 @@ module _ (r : Receiver) (t : List Entry) (s : StreamConfig) (now : ℕ) (i : Fol
   unfolding stepOf
   poll-ok = go (checkOf s) refl
     where
-      go : (k : Check) → checkOf s ≡ k → Ok (stepFrom (pollAnswer r s now))
-      go (CheckRefused why) e = subst (λ (h : Told). Ok (stepFrom h)) (sym (refused-answer why e)) (refused-ok why e)
-      go Passed e = subst (λ (h : Told). Ok (stepFrom h)) (sym (polled-answer e)) (polled-ok e (r .timer) refl)
+      go : (k : Outcome) → checkOf s ≡ k → Ok (stepFrom (pollAnswer r s now))
+      go (Refused why) e = subst (λ (h : Told). Ok (stepFrom h)) (sym (refused-answer why e)) (refused-ok why e)
+      go Done e = subst (λ (h : Told). Ok (stepFrom h)) (sym (polled-answer e)) (polled-ok e (r .timer) refl)

@@ -25,7 +25,7 @@ use Rattle.receiver_log.specs.Log.{told, reports}
 use Rattle.receiver_log.specs.Spans.{nothingMissing, missingIn}
 use Rattle.receiver_log.specs.Timing.{askedAfter, askedIn, nakIn}
 use Rattle.receiver_log.specs.Answers.{errorIn, nakEvent, answerOf}
-use Rattle.receiver_log.proofs.Choices.{by-cond}
+use Rattle.config.specs.inner.Choices.{by-cond}
 use Rattle.receiver_log.proofs.Held.{Held, held-quiet}
 use Rattle.receiver_log.proofs.Marks.{held-mark}
 use Rattle.receiver_log.proofs.SpanIs.{missing-span, marked-span}

@@ -2,14 +2,14 @@
 -- the one after that gives up.
 use Prim.Native.Nat.{ℕ, zero, suc, _+_, _-_, _≤_, _<_}
 use mathlib.Core.Path.{_≡_, refl, sym, ap, _∙_, subst}
-use mathlib.Core.Bool.{Bool, true, false, cond, not, _&&_}
+use mathlib.Core.Bool.{Bool, true, false, not, _&&_}
 use mathlib.Core.List.{List, [], _∷_}
 use native.Mathlib.Omega.{arith}
 use lib.Dec.{ltb, leb, eqb}
-use Rattle.config.specs.Settings.{checkOf, tested}
-use Rattle.config.specs.declared.refusal.Refusal.the-variants.{InvalidState}
-use Rattle.config.specs.declared.settings.Check.{Check}
-use Rattle.config.specs.declared.settings.Check.the-variants.{Passed, Refused as CheckRefused}
+use Rattle.config.specs.Entry.{entry}
+use Rattle.config.specs.Settings.{checkOf}
+use Rattle.config.specs.declared.answer.Outcome.{Outcome}
+use Rattle.config.specs.declared.answer.Outcome.the-variants.{Done, Refused}
 use Rattle.config.specs.declared.settings.StreamConfig.{StreamConfig}
 use Rattle.config.specs.inner.Tests.{lifts}
 use Rattle.window.specs.Window.{validOf as windowValid, processed, missingOf, missingSpan}
@@ -33,14 +33,14 @@ use Rattle.receiver_log.specs.Log.{Report, reports, high, unprocessed}
 use Rattle.receiver_log.specs.Spans.{Ends, none, ends, isNone, endsOf, missingEnds, missingIn, nothingMissing}
 use Rattle.receiver_log.specs.Timing.{timerIn}
 use Rattle.receiver_log.specs.RequestTimes.{Poll, polled, pollsOf, delayed, requestsFrom, RequestTimes}
-use Rattle.receiver_log.proofs.Choices.{never, by-cond}
+use Rattle.config.specs.inner.Choices.{never, by-cond}
 use Rattle.receiver_log.proofs.EndsOf.{EndsOk, ends-ok}
 use Rattle.receiver_log.proofs.Held.{open-at}
 use Rattle.receiver_log.proofs.SpanIs.{missing-span}
 use Rattle.receiver_log.proofs.Follows.{Follows, passes, none-missing}
 use Rattle.receiver_log.proofs.Runs.{step-ok, run-ok}
 
-module _ (cfg : StreamConfig) (w : ReceiveWindow) (refused : Bool) (passed : checkOf cfg ≡ Passed) (valid : windowValid w ≡ true) (some : eqb (missingOf w) 0 ≡ false) (on : (cfg .retransmit && not refused) ≡ true) where
+module _ (cfg : StreamConfig) (w : ReceiveWindow) (refused : Bool) (passed : checkOf cfg ≡ Done) (valid : windowValid w ≡ true) (some : eqb (missingOf w) 0 ≡ false) (on : (cfg .retransmit && not refused) ≡ true) where
   abbrev D : ℕ
   D = cfg .«request_delay_ms»
 
@@ -109,13 +109,13 @@ settled-window r cfg now w c =
 
 -- a data command that is answered is heard
 module _ (r : Receiver) (cfg : StreamConfig) (now seq : ℕ) (v : validOf r ≡ true) (d : Delivery) where
-  heard-passed : dataAnswer r cfg now seq .answer ≡ Delivered d → checkOf cfg ≡ Passed
+  heard-passed : dataAnswer r cfg now seq .answer ≡ Delivered d → checkOf cfg ≡ Done
   unfolding dataAnswer
   heard-passed e = go (checkOf cfg) refl e
     where
-      go : (k : Check) → checkOf cfg ≡ k → tested k (hearingRefused r) (cond (not (validOf r)) (hearingRefused r InvalidState) (heardOf r cfg now seq)) .answer ≡ Delivered d → checkOf cfg ≡ Passed
-      go Passed f g = f
-      go (CheckRefused why) f g = absurd (let z : _≡_ {A = ℕ} 0 1 = cc in omega arith)
+      go : (k : Outcome) → checkOf cfg ≡ k → entry k (validOf r) (hearingRefused r) (heardOf r cfg now seq) .answer ≡ Delivered d → checkOf cfg ≡ Done
+      go Done f g = f
+      go (Refused why) f g = absurd (let z : _≡_ {A = ℕ} 0 1 = cc in omega arith)
 
   heard-window : dataAnswer r cfg now seq .answer ≡ Delivered d
       → (acceptOf (r .window) seq .class ≡ d .class) × (dataAnswer r cfg now seq .receiver .window ≡ acceptOf (r .window) seq .window)

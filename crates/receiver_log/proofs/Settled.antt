@@ -8,7 +8,7 @@ use native.Mathlib.Omega.{arith}
 use lib.Dec.{ltb, leb, eqb}
 use Rattle.config.specs.inner.Tests.{split, tests, lifts, and-left, and-right}
 use Rattle.receiver_log.specs.Log.{Report, lossOf, origin, high, handsOn, times, inLoss, lost, unprocessed}
-use Rattle.receiver_log.proofs.Choices.{never, unless, not-true, or-left, or-right}
+use Rattle.config.specs.inner.Choices.{never, unless, not-true, or-left, or-right}
 
 abbrev pub settled : List Report → ℕ → Bool
 settled [] x = ltb x origin

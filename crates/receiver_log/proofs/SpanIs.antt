@@ -25,8 +25,7 @@ use Rattle.window.proofs.AfterMark.{has-hits}
 use Rattle.receiver_log.specs.Log.{Report, origin, high, unprocessed}
 use Rattle.receiver_log.specs.Spans.{Ends, none, ends, isNone, endsOf, spanFrom, requestFrom, lostAt, missingEnds, missingIn, requestIn, askedFor}
 use Rattle.receiver_log.proofs.EndsOf.{EndsOk, ends-ok}
-use Rattle.receiver_log.proofs.Choices.{never, unless}
-use Rattle.receiver_log.proofs.Settled.{before-0}
+use Rattle.config.specs.inner.Choices.{never, unless}
 use Rattle.receiver_log.proofs.Numbers.{number-behind}
 use Rattle.receiver_log.proofs.Held.{Held, open-at, near}
 use Rattle.receiver_log.proofs.Arrivals.{shifted-far, open-shifted, lost-near}

@@ -14,12 +14,12 @@ use Rattle.window.specs.declared.window.ReceiveWindow.{ReceiveWindow}
 use Rattle.window.specs.declared.window.Taken.{Taken}
 use Rattle.window.specs.declared.window.Class.the-variants.{New, Late, Duplicate}
 use Rattle.window.specs.declared.window.Span.{Span}
-use Rattle.window.proofs.Ranges.{within-yes}
+use Rattle.config.specs.inner.Ranges.{within-yes}
 use Rattle.window.proofs.Positions.{unprocessed-in}
 use Rattle.window.proofs.Accepts.{accept-as-new, accept-as-late, accept-as-duplicate}
 use Rattle.receiver_log.specs.Log.{Report, heard, isAhead, place, high, unprocessed}
 use Rattle.receiver_log.specs.Spans.{classIn, lostAt, lostIn}
-use Rattle.receiver_log.proofs.Choices.{and-both, cond-true}
+use Rattle.config.specs.inner.Choices.{and-both, cond-true}
 use Rattle.receiver_log.proofs.Numbers.{ahead-by, place-ahead, high-ahead, place-behind, behind-by, number-ahead}
 use Rattle.receiver_log.proofs.Held.{Held, open-at}
 use Rattle.receiver_log.proofs.Arrivals.{held-late, held-duplicate, held-new}

@@ -13,12 +13,10 @@ use Rattle.config.specs.inner.Tests.{split}
 use Rattle.config.specs.declared.refusal.Refusal.{Refusal}
 use Rattle.config.specs.declared.refusal.Refusal.the-variants.{TooLarge, InvalidState}
 use Rattle.config.specs.declared.settings.StreamConfig.{StreamConfig}
-use Rattle.config.specs.declared.settings.Check.{Check}
-use Rattle.config.specs.declared.settings.Check.the-variants.{Passed, Refused as CheckRefused}
+use Rattle.config.specs.declared.answer.Outcome.{Outcome}
+use Rattle.config.specs.declared.answer.Outcome.the-variants.{Done, Refused}
 use Rattle.packet.specs.Write.{writtenOf, validOf as payloadValid}
 use Rattle.packet.specs.declared.writer.PayloadWriter.{PayloadWriter}
-use Rattle.packet.specs.declared.writer.Write.{Write}
-use Rattle.packet.specs.declared.writer.Write.the-variants.{Done, Refused as WriteRefused}
 use Rattle.packet.specs.declared.writer.Wrote.{Wrote}
 use Rattle.command.specs.Write.{requestPacket}
 use Rattle.command.specs.declared.retransmit.RetransmitRequest.{RetransmitRequest}
@@ -36,7 +34,7 @@ use Rattle.receiver_log.specs.Spans.{Ends, none, ends, isNone, requestFr
 use Rattle.receiver_log.specs.Timing.{enabledIn, dueTaken, dueIn, asking, askedTaken, askedIn}
 use Rattle.receiver_log.specs.Answers.{writeAnswer, offered, answerOf}
 use Rattle.receiver_log.proofs.EndsOf.{EndsOk, ends-ok}
-use Rattle.receiver_log.proofs.Choices.{never, unless, by-cond}
+use Rattle.config.specs.inner.Choices.{never, unless, by-cond}
 use Rattle.receiver_log.proofs.Held.{held-quiet}
 use Rattle.receiver_log.proofs.SpanIs.{request-is}
 use Rattle.receiver_log.proofs.Follows.{Follows, StepOk, passes, quiet-ends, idle, follows-on, follows-same}
@@ -60,15 +58,15 @@ module _ (r : Receiver) (t : List Entry) (s : StreamConfig) (p : PayloadWriter) 
 
   -- ---- refused
 
-  settings-answer : (why : Refusal) → checkOf s ≡ CheckRefused why → takeAnswer r s p b ≡ requestRefused r p b why
+  settings-answer : (why : Refusal) → checkOf s ≡ Refused why → takeAnswer r s p b ≡ requestRefused r p b why
   unfolding takeAnswer
   settings-answer why e = rw e
 
-  settings-ok : (why : Refusal) → checkOf s ≡ CheckRefused why → Ok (requestRefused r p b why)
+  settings-ok : (why : Refusal) → checkOf s ≡ Refused why → Ok (requestRefused r p b why)
   unfolding answerOf
   settings-ok why e = record { follows = follows-same W r _ t i refl refl refl refl refl; says = rw e }
 
-  module _ (e : checkOf s ≡ Passed) where
+  module _ (e : checkOf s ≡ Done) where
     payload-answer : payloadValid p (length b) ≡ false → takeAnswer r s p b ≡ requestRefused r p b InvalidState
     unfolding takeAnswer
     payload-answer v = rw (e, passes r (i .held .valid), v)
@@ -130,14 +128,14 @@ module _ (r : Receiver) (t : List Entry) (s : StreamConfig) (p : PayloadWriter) 
           abbrev w : Wrote × List ℕ
           w = writtenOf p b (requestPacket q)
 
-          abbrev entryFor : Write → Entry
+          abbrev entryFor : Outcome → Entry
           entryFor a = take-entry s p b (writeAnswer (w .0 .payload) a) (w .0 .payload) (w .1)
 
-          offer-says : (a : Write) → w .0 .answer ≡ a → entryFor a ≡ answerOf W t (take-request s p b)
+          offer-says : (a : Outcome) → w .0 .answer ≡ a → entryFor a ≡ answerOf W t (take-request s p b)
           offer-says a k =
               ap entryFor (sym k) ∙ ap (λ (z : Ends). offered s p b (requestFrom (high (reports t)) z)) (sym m) ∙ answers true on
 
-          offered-ok : (a : Write) → w .0 .answer ≡ a → Ok (takenBy r q (w .0 .payload) a, w .1)
+          offered-ok : (a : Outcome) → w .0 .answer ≡ a → Ok (takenBy r q (w .0 .payload) a, w .1)
           offered-ok Done k = record {
             follows =
                 follows-on W (r .window) (entryFor Done) t (held-quiet (i .held)) refl (r .timer) false (r .refused) (AskedFor q)
@@ -145,12 +143,12 @@ module _ (r : Receiver) (t : List Entry) (s : StreamConfig) (p : PayloadWriter) 
                 (ap (λ (z : Ends). asking (requestFrom (high (reports t)) z)) (sym m)) (omega arith, ends-within W (reports t) x y m);
             says = offer-says Done k;
           }
-          offered-ok (WriteRefused why) k = record {
+          offered-ok (Refused why) k = record {
             follows =
-                follows-same W r (entryFor (WriteRefused why)) t i refl refl
+                follows-same W r (entryFor (Refused why)) t i refl refl
                 (by-cond (λ z. dueTaken (dueIn W t) z ≡ dueIn W t) (eqb (w .0 .payload .len) 0) (RequestRefused TooLarge) More (λ n. refl) (λ n. refl)) refl
                 (by-cond (λ z. askedTaken (askedIn W t) (requestIn W (reports t)) z ≡ askedIn W t) (eqb (w .0 .payload .len) 0) (RequestRefused TooLarge) More (λ n. refl) (λ n. refl));
-            says = offer-says (WriteRefused why) k;
+            says = offer-says (Refused why) k;
           }
 
         span-ok : enabledOf r s ≡ true → (z : Ends) → missingEnds W (reports t) ≡ z → Ok (takenSpan r p b (requestFrom (high (reports t)) z))
@@ -175,9 +173,9 @@ module _ (r : Receiver) (t : List Entry) (s : StreamConfig) (p : PayloadWriter) 
   unfolding stepOf
   take-ok = go (checkOf s) refl
     where
-      go : (k : Check) → checkOf s ≡ k → Ok (takeAnswer r s p b)
-      go (CheckRefused why) e = subst Ok (sym (settings-answer why e)) (settings-ok why e)
-      go Passed e = elim (split (payloadValid p (length b))) [
+      go : (k : Outcome) → checkOf s ≡ k → Ok (takeAnswer r s p b)
+      go (Refused why) e = subst Ok (sym (settings-answer why e)) (settings-ok why e)
+      go Done e = elim (split (payloadValid p (length b))) [
         | inl v ↦ subst Ok (sym (taken-answer e v)) (taken-ok e v)
         | inr v ↦ subst Ok (sym (payload-answer e v)) (payload-ok e v)
       ]

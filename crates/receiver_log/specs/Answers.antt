@@ -1,16 +1,16 @@
 -- What the next call answers, from the past calls and answers alone. The receiver's state is never refused: 13 is left for a payload's.
 use Prim.Native.Nat.{ℕ, _%_}
-use mathlib.Core.Bool.{Bool, cond, not, _&&_}
+use mathlib.Core.Bool.{Bool, cond, _&&_}
 use mathlib.Core.List.{List, [], _∷_}
 use lib.ListN.{length}
+use Rattle.config.specs.Entry.{entry}
 use Rattle.config.specs.Sequence.{turn}
 use Rattle.config.specs.Settings.{checkOf, tested}
-use Rattle.config.specs.declared.refusal.Refusal.the-variants.{InvalidState}
 use Rattle.config.specs.declared.settings.StreamConfig.{StreamConfig}
 use Rattle.packet.specs.Write.{writtenOf, validOf as payloadValid}
 use Rattle.packet.specs.declared.writer.PayloadWriter.{PayloadWriter}
-use Rattle.packet.specs.declared.writer.Write.{Write}
-use Rattle.packet.specs.declared.writer.Write.the-variants.{Done, Refused as WriteRefused}
+use Rattle.config.specs.declared.answer.Outcome.{Outcome}
+use Rattle.config.specs.declared.answer.Outcome.the-variants.{Done, Refused}
 use Rattle.command.specs.Write.{requestPacket}
 use Rattle.command.specs.declared.retransmit.RetransmitError.{RetransmitError}
 use Rattle.window.specs.declared.window.Span.{Span}
@@ -50,9 +50,9 @@ nakEvent missing Unasked = NoEvent
 nakEvent missing (AskedFor q) = lossOf missing
 
 -- a due request is written, or doesn't fit
-abbrev pub writeAnswer : PayloadWriter → Write → Request
+abbrev pub writeAnswer : PayloadWriter → Outcome → Request
 writeAnswer p Done = Written
-writeAnswer p (WriteRefused why) = noFit p
+writeAnswer p (Refused why) = noFit p
 
 abbrev pub offered : StreamConfig → PayloadWriter → List ℕ → Span → Entry
 offered s p b NoSpan = take-entry s p b NotDue p b
@@ -63,9 +63,7 @@ offered s p b (Of range) =
 -- nothing due, or dropped since requests are disabled; otherwise offered to the payload
 abbrev pub takeIn : StreamConfig → PayloadWriter → List ℕ → Bool → Span → Entry
 takeIn s p b offers request =
-    tested (checkOf s) (λ why. take-entry s p b (RequestRefused why) p b)
-    (cond (not (payloadValid p (length b))) (take-entry s p b (RequestRefused InvalidState) p b)
-    (cond offers (offered s p b request) (take-entry s p b NotDue p b)))
+    entry (checkOf s) (payloadValid p (length b)) (λ why. take-entry s p b (RequestRefused why) p b) (cond offers (offered s p b request) (take-entry s p b NotDue p b))
 
 unfoldable pub answerOf : ℕ → List Entry → Call → Entry
 answerOf W t (data-command s now seq ws) = data-entry s now seq ws (tested (checkOf s) HearingRefused (Delivered (deliveryIn W (reports t) seq)))

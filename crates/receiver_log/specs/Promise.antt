@@ -2,12 +2,12 @@
 use Prim.Native.Nat.{ℕ, _+_, _-_, _%_, _≤_, _<_}
 use mathlib.Core.Path.{_≡_}
 use mathlib.Core.Logic.{_⊎_}
-use mathlib.Core.Bool.{true, cond, not}
+use mathlib.Core.Bool.{true, not}
 use mathlib.Core.List.{List, []}
 use lib.ListN.{length}
+use Rattle.config.specs.Entry.{entry}
 use Rattle.config.specs.Sequence.{turn}
 use Rattle.config.specs.Settings.{checkOf, tested}
-use Rattle.config.specs.declared.refusal.Refusal.the-variants.{InvalidState}
 use Rattle.config.specs.declared.settings.StreamConfig.{StreamConfig}
 use Rattle.packet.specs.Write.{validOf as payloadValid}
 use Rattle.packet.specs.declared.writer.PayloadWriter.{PayloadWriter}
@@ -66,7 +66,7 @@ pub record StateTaken (r : Receiver) : Type 0 where
   pub nak : nakAnswer r ≡ nakedOf r
   pub take-request : (s : StreamConfig) (p : PayloadWriter) (b : List ℕ)
       → takeAnswer r s p b
-      ≡ tested (checkOf s) (requestRefused r p b) (cond (not (payloadValid p (length b))) (requestRefused r p b InvalidState) (takenOf r s p b))
+      ≡ entry (checkOf s) (payloadValid p (length b)) (requestRefused r p b) (takenOf r s p b)
 
 -- ---- the theorems
 

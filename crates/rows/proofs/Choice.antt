@@ -10,7 +10,7 @@ use lib.Dec.{eqb, ltb}
 use borrow.Author.Tests.{lt-ltb, le-ltb, le-leb, lt-leb, eq-eqb, ne-eqb}
 use Rattle.config.specs.inner.Tests.{split, tests}
 use Rattle.packet.specs.Layout.{Packet, sizeOf}
-use Rattle.packet.specs.Write.{validOf as payloadValid, limitOf, startOf, freeOf, doneOf, placedOf, writtenOf, Outcome, done}
+use Rattle.packet.specs.Write.{validOf as payloadValid, limitOf, startOf, freeOf, doneOf, placedOf, writtenOf, WriteEnds, done}
 use Rattle.packet.specs.declared.writer.PayloadWriter.{PayloadWriter}
 use Rattle.packet.proofs.Outcomes.{written-valid, written-length}
 use Rattle.history.specs.Headers.{lengthAt, nextAt, wordsFrom, entriesFrom}
@@ -93,7 +93,7 @@ entries-all (suc k) (suc m) ring i p b l v s f =
     let z = entry-size ring i in
     let g : startOf p + sizeOf c ≤ limitOf p (length b) = omega arith in
     let few : length (c .words) ≤ 255 = omega (arith, entry-few ring i (rw length-read at (s .0))) in
-    let o : Outcome p b c (doneOf p c, placedOf p b c) = done g few in
+    let o : WriteEnds p b c (doneOf p c, placedOf p b c) = done g few in
     let e = written-length p b c _ o in
     let d = start-done p c in
     rw (written-fits p b c v g few)

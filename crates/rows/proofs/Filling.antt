@@ -12,10 +12,10 @@ use Rattle.config.specs.Range.{within}
 use Rattle.config.specs.inner.Tests.{split, and-left, and-right}
 use Rattle.config.specs.declared.refusal.Refusal.{Refusal}
 use Rattle.packet.specs.Layout.{Packet, sizeOf}
-use Rattle.packet.specs.Write.{validOf as payloadValid, limitOf, startOf, doneOf, placedOf, writtenOf, Outcome, refused, done}
+use Rattle.packet.specs.Write.{validOf as payloadValid, limitOf, startOf, doneOf, placedOf, writtenOf, WriteEnds, refused, done}
 use Rattle.packet.specs.declared.writer.PayloadWriter.{PayloadWriter}
-use Rattle.packet.specs.declared.writer.Write.{Write}
-use Rattle.packet.specs.declared.writer.Write.the-variants.{Done, Refused}
+use Rattle.config.specs.declared.answer.Outcome.{Outcome}
+use Rattle.config.specs.declared.answer.Outcome.the-variants.{Done, Refused}
 use Rattle.packet.specs.declared.writer.Wrote.{Wrote}
 use Rattle.packet.proofs.Outcomes.{outcome, valid-max, written-valid, written-length}
 use Rattle.command.specs.Write.{errorPacket, errorWritten}
@@ -46,12 +46,12 @@ module _ (p : PayloadWriter) (b bytes : List ℕ) (c : Packet) (w : Wrote) (put 
   row-done n cs e =
       let r = rowOf (w .payload) bytes cs in
       let s : n + (1 + r .written) ≡ n + 1 + r .written = omega arith in
-      ap (also n) (first cs) ∙ ap (λ (a : Write). also n (oneMore a (w .payload) bytes r)) e ∙ ap (λ (m : ℕ). rowWith (r .payload) (r .bytes) m (r .whole)) s
+      ap (also n) (first cs) ∙ ap (λ (a : Outcome). also n (oneMore a (w .payload) bytes r)) e ∙ ap (λ (m : ℕ). rowWith (r .payload) (r .bytes) m (r .whole)) s
 
   pub row-stop : (n : ℕ) (cs : List Packet) (why : Refusal) → w .answer ≡ Refused why → also n (rowOf p b (c ∷ cs)) ≡ rowWith (w .payload) bytes n false
   row-stop n cs why e =
       let s : n + 0 ≡ n = omega arith in
-      ap (also n) (first cs) ∙ ap (λ (a : Write). also n (oneMore a (w .payload) bytes (rowOf (w .payload) bytes cs))) e ∙ ap (λ (m : ℕ). rowWith (w .payload) bytes m false) s
+      ap (also n) (first cs) ∙ ap (λ (a : Outcome). also n (oneMore a (w .payload) bytes (rowOf (w .payload) bytes cs))) e ∙ ap (λ (m : ℕ). rowWith (w .payload) bytes m false) s
 
   -- what one command leaves
   pub one-valid : payloadValid p (length b) ≡ true → payloadValid (w .payload) (length bytes) ≡ true
@@ -101,12 +101,12 @@ entries-end p b ring i k n z l inv =
 -- the first command is not written, or it is, and the rest comes behind it
 by-outcome : (P : Row → Type 0) (p : PayloadWriter) (b : List ℕ) (c : Packet) (cs : List Packet)
     → P (rowWith p b 0 false)
-    → (startOf p + sizeOf c ≤ limitOf p (length b) → Outcome p b c (doneOf p c, placedOf p b c) → P (also 1 (rowOf (doneOf p c .payload) (placedOf p b c) cs)))
+    → (startOf p + sizeOf c ≤ limitOf p (length b) → WriteEnds p b c (doneOf p c, placedOf p b c) → P (also 1 (rowOf (doneOf p c .payload) (placedOf p b c) cs)))
     → P (rowOf p b (c ∷ cs))
 unfolding rowOf
 by-outcome P p b c cs stop go = by (writtenOf p b c) (outcome p b c)
   where
-    by : (w : Wrote × List ℕ) → Outcome p b c w → P (oneMore (w .0 .answer) (w .0 .payload) (w .1) (rowOf (w .0 .payload) (w .1) cs))
+    by : (w : Wrote × List ℕ) → WriteEnds p b c w → P (oneMore (w .0 .answer) (w .0 .payload) (w .1) (rowOf (w .0 .payload) (w .1) cs))
     by w (refused r) = stop
     by w (done f l) = go f (done f l)
 

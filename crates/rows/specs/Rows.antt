@@ -7,8 +7,8 @@ use lib.Dec.{leb, ltb}
 use Rattle.packet.specs.Layout.{Packet, sizeOf}
 use Rattle.packet.specs.Write.{limitOf, startOf, writtenOf}
 use Rattle.packet.specs.declared.writer.PayloadWriter.{PayloadWriter}
-use Rattle.packet.specs.declared.writer.Write.{Write}
-use Rattle.packet.specs.declared.writer.Write.the-variants.{Done, Refused}
+use Rattle.config.specs.declared.answer.Outcome.{Outcome}
+use Rattle.config.specs.declared.answer.Outcome.the-variants.{Done, Refused}
 use Rattle.history.specs.Headers.{nextAt, entriesFrom}
 use Rattle.history.specs.Entries.{Short}
 use Rattle.history.specs.Written.{entryPacket}
@@ -26,7 +26,7 @@ pub record Row : Type 0 where
 abbrev pub leaving : Left → List ℕ → Row
 leaving r b = record { payload = r .payload; bytes = b; written = r .written; whole = r .whole }
 
-abbrev pub oneMore : Write → PayloadWriter → List ℕ → Row → Row
+abbrev pub oneMore : Outcome → PayloadWriter → List ℕ → Row → Row
 oneMore Done p b r = record { payload = r .payload; bytes = r .bytes; written = 1 + r .written; whole = r .whole }
 oneMore (Refused why) p b r = record { payload = p; bytes = b; written = 0; whole = false }
 

@@ -14,8 +14,8 @@ use super::rows::Repeated;
 use super::rows::Row;
 use super::rows::Walked;
 use command::retransmit::RetransmitError;
+use config::answer::Outcome;
 use packet::writer::PayloadWriter;
-use packet::writer::Write;
 
 // Writes `k` entries of the history from the header at `at` on.
 pub fn write_entries(p: PayloadWriter, buf: &mut [u8], ring: &[u32], at: usize, k: usize) -> Row
@@ -30,14 +30,14 @@ pub fn write_entries(p: PayloadWriter, buf: &mut [u8], ring: &[u32], at: usize, 
         let answer = wrote.answer;
         q = wrote.payload;
         match answer {
-            Write::Refused(_) => {
+            Outcome::Refused(_) => {
                 return Row {
                     payload: q,
                     written: n,
                     whole: false,
                 };
             }
-            Write::Done => {
+            Outcome::Done => {
                 i = history::valid::next_index(ring, i);
                 n += 1;
             }
@@ -59,12 +59,12 @@ pub fn write_error(err: RetransmitError, p: PayloadWriter, buf: &mut [u8]) -> Ro
     let payload = wrote.payload;
     let answer = wrote.answer;
     match answer {
-        Write::Done => Row {
+        Outcome::Done => Row {
             payload,
             written: 1,
             whole: true,
         },
-        Write::Refused(_) => Row {
+        Outcome::Refused(_) => Row {
             payload,
             written: 0,
             whole: false,

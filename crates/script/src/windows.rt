@@ -5,6 +5,7 @@ use super::answers::of;
 use super::answers::plain;
 use super::calls;
 use super::calls::Call;
+use config::answer::Answered;
 use config::refusal::Refusal;
 use config::sequence::SeqNum;
 use text::forms;
@@ -13,7 +14,6 @@ use window::window::Class;
 use window::window::Classification;
 use window::window::Extended;
 use window::window::Extent;
-use window::window::Knowledge;
 use window::window::ReceiveWindow;
 use window::window::SeqRange;
 use window::window::Span;
@@ -70,10 +70,10 @@ fn class(c: Classification) -> Answer {
     }
 }
 
-fn processed(k: Knowledge) -> Answer {
+fn processed(k: Answered) -> Answer {
     match k {
-        Knowledge::Processed(is) => of(PROCESSED, bit(is), 0, 0),
-        Knowledge::Refused(why) => refused(why),
+        Answered::Is(is) => of(PROCESSED, bit(is), 0, 0),
+        Answered::Refused(why) => refused(why),
     }
 }
 

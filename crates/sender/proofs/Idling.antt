@@ -1,6 +1,6 @@
 -- The idle command: when one is queued, and the state that this leaves.
 use mathlib.Core.Path.{_≡_, refl, sym, ap, subst, _∙_}
-use mathlib.Core.Bool.{Bool, true, false, _||_}
+use mathlib.Core.Bool.{true, _||_}
 use mathlib.Core.Logic.{inl, inr}
 use mathlib.Core.List.{List, []}
 use Prim.Native.Nat.{ℕ, _-_, _≤_, _<_}
@@ -12,6 +12,7 @@ use borrow.Author.Tests.{lt-ltb, le-ltb, ltb-false}
 use Rattle.config.specs.inner.Tests.{split, tests}
 use Rattle.config.specs.Sequence.{turn}
 use Rattle.config.specs.declared.settings.StreamConfig.{StreamConfig}
+use Rattle.config.specs.inner.Choices.{or-left}
 use Rattle.history.specs.Push.{pushed}
 use Rattle.history.specs.Entries.{size, entriesOf}
 use Rattle.history.specs.declared.history.SendHistory.{SendHistory}
@@ -53,10 +54,6 @@ module _ (s : Sender) (cfg : StreamConfig) (now : ℕ) (ring : List ℕ) where
           → (withIdle (holding s h 1 1) t, next) ≡ idledOf s cfg now ring
       unfolding idledOf
       idled-queued h next t l p f = sym (ap (idledBy s cfg now ring) e ∙ rw (le-ltb _ _ none, le-ltb _ _ l, ← p, f))
-
-or-left : (a b : Bool) → (a || b) ≡ false → a ≡ false
-or-left true b e = e
-or-left false b e = refl
 
 -- ---- the state stays one that passes the test
 -- no command is unwritten, and no word

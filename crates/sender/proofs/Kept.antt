@@ -11,8 +11,8 @@ use Rattle.config.specs.Settings.{tested}
 use Rattle.config.specs.Sequence.{turn}
 use Rattle.config.specs.declared.refusal.Refusal.the-variants.{Full}
 use Rattle.config.specs.declared.settings.StreamConfig.{StreamConfig}
-use Rattle.config.specs.declared.settings.Check.{Check}
-use Rattle.config.specs.declared.settings.Check.the-variants.{Passed, Refused as CheckRefused}
+use Rattle.config.specs.declared.answer.Outcome.{Outcome}
+use Rattle.config.specs.declared.answer.Outcome.the-variants.{Done, Refused}
 use Rattle.packet.specs.Layout.{Packet}
 use Rattle.packet.specs.Write.{validOf as payloadValid}
 use Rattle.packet.specs.declared.writer.PayloadWriter.{PayloadWriter}
@@ -40,7 +40,6 @@ use Rattle.sender.specs.Requests.{writtenCount, notWritten, withQueue, t
 use Rattle.sender.specs.Commands.{front, behind}
 use Rattle.sender.specs.Queueing.{roomOf, joining, further, needOf, joinedTo, pushedAll, queuedTo, sent, unsent, queuedOf, wordsCheck, placedOf, sentOf}
 use Rattle.sender.specs.Writing.{commandsAt, idledOf, writtenOff, wrote, refused, newRow, newBy, newOf, servedOf, writtenBy}
-use Rattle.sender.specs.declared.sender.Send.the-variants.{Accepted}
 use Rattle.sender.specs.declared.sender.Wrote.{Wrote}
 use Rattle.sender.specs.declared.sender.Sender.{Sender}
 use Rattle.sender.specs.declared.sender.RequestOutcome.the-variants.{Error, NotSupported}
@@ -172,11 +171,11 @@ module _ (s : Sender) (ring : List ℕ) (max : ℕ) (ws : List ℕ) (v : validOf
   unfolding sentOf
   sent-kept = by (eqb (length ws) 0) (wordsCheck max ws) refl
     where
-      by : (t : Bool) (k : Check) → wordsCheck max ws ≡ k
-          → validOf (cond t (sent s Accepted, ring) (tested k (unsent s ring) (placedOf s ring max ws)) .0 .sender) (cond t (sent s Accepted, ring) (tested k (unsent s ring) (placedOf s ring max ws)) .1) ≡ true
+      by : (t : Bool) (k : Outcome) → wordsCheck max ws ≡ k
+          → validOf (cond t (sent s Done, ring) (tested k (unsent s ring) (placedOf s ring max ws)) .0 .sender) (cond t (sent s Done, ring) (tested k (unsent s ring) (placedOf s ring max ws)) .1) ≡ true
       by true k e = v
-      by false (CheckRefused why) e = v
-      by false Passed e = placed-kept (check-divides max ws e)
+      by false (Refused why) e = v
+      by false Done e = placed-kept (check-divides max ws e)
 
 -- ---- a write
 off-state : (n : ℕ) (h : SendHistory) (ring : List ℕ) (unsent words : ℕ) → h .oldest < turn → n ≤ unsent → unsent ≤ h .count → stateOk h ring unsent words ≡ true

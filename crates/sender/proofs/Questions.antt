@@ -20,7 +20,7 @@ use Rattle.sender.specs.Requests.{writtenCount, notInBuffer, withQueue, 
 use Rattle.sender.specs.declared.sender.Sender.{Sender}
 use Rattle.sender.specs.declared.sender.RequestOutcome.{RequestOutcome}
 use Rattle.sender.specs.declared.sender.RequestOutcome.the-variants.{Error, NotSupported}
-use Rattle.sender.specs.declared.sender.Deadline.the-variants.{Nothing}
+use Rattle.config.specs.declared.answer.Deadline.the-variants.{Nothing}
 
 -- ---- a start
 pub start-made : (words places : ℕ) (ring after : List ℕ) (h : SendHistory) (q : RetransmitQueue)

@@ -15,8 +15,8 @@ use Rattle.config.specs.Sequence.{turn}
 use Rattle.config.specs.declared.refusal.Refusal.{Refusal}
 use Rattle.config.specs.declared.refusal.Refusal.the-variants.{CommandWords, InvalidUmpData, TooLarge, Full}
 use Rattle.config.specs.declared.settings.StreamConfig.{StreamConfig}
-use Rattle.config.specs.declared.settings.Check.{Check}
-use Rattle.config.specs.declared.settings.Check.the-variants.{Passed, Refused as CheckRefused}
+use Rattle.config.specs.declared.answer.Outcome.{Outcome}
+use Rattle.config.specs.declared.answer.Outcome.the-variants.{Done, Refused}
 use Rattle.command.specs.Messages.{wholeOf}
 use Rattle.history.specs.Headers.{lengthAt}
 use Rattle.history.specs.State.{Good, stateOk}
@@ -34,7 +34,6 @@ use Rattle.sender.specs.Queueing.{roomOf, joining, further, needOf, join
 use Rattle.sender.proofs.Fronts.{Divides, part-of, divides-behind, command-fits, commands-turn, commands-end, commands-at}
 use Rattle.sender.proofs.Validity.{valid-history, valid-unsent}
 use Rattle.sender.specs.declared.sender.Sender.{Sender}
-use Rattle.sender.specs.declared.sender.Send.the-variants.{Accepted}
 
 -- ---- the room of the newest unwritten command
 module _ (s : Sender) (ring : List ℕ) (max : ℕ) where
@@ -63,37 +62,37 @@ joined-some h ring (w ∷ ws) e = refl
 
 -- ---- the tests of queued words
 module _ (max : ℕ) (ws : List ℕ) where
-  pub check-parts : wholeOf ws ≡ false → CheckRefused InvalidUmpData ≡ wordsCheck max ws
+  pub check-parts : wholeOf ws ≡ false → Refused InvalidUmpData ≡ wordsCheck max ws
   unfolding wordsCheck
   check-parts w = rw w
 
-  pub check-long : wholeOf ws ≡ true → (b : Bool) → b ≡ not (above max ws) → b ≡ false → CheckRefused TooLarge ≡ wordsCheck max ws
+  pub check-long : wholeOf ws ≡ true → (b : Bool) → b ≡ not (above max ws) → b ≡ false → Refused TooLarge ≡ wordsCheck max ws
   unfolding wordsCheck
   check-long w b e f = rw w (by (above max ws) (sym e ∙ f))
     where
-      by : (t : Bool) → not t ≡ false → CheckRefused TooLarge ≡ cond t (CheckRefused TooLarge) Passed
+      by : (t : Bool) → not t ≡ false → Refused TooLarge ≡ cond t (Refused TooLarge) Done
       by true g = refl
       by false g = absurd (let y : _≡_ {A = ℕ} 0 1 = cc in omega arith)
 
-  pub check-passed : wholeOf ws ≡ true → (b : Bool) → b ≡ not (above max ws) → b ≡ true → Passed ≡ wordsCheck max ws
+  pub check-passed : wholeOf ws ≡ true → (b : Bool) → b ≡ not (above max ws) → b ≡ true → Done ≡ wordsCheck max ws
   unfolding wordsCheck
   check-passed w b e f = rw w (by (above max ws) (sym e ∙ f))
     where
-      by : (t : Bool) → not t ≡ true → Passed ≡ cond t (CheckRefused TooLarge) Passed
+      by : (t : Bool) → not t ≡ true → Done ≡ cond t (Refused TooLarge) Done
       by true g = absurd (let y : _≡_ {A = ℕ} 0 1 = cc in omega arith)
       by false g = refl
 
 -- ---- the answers of `send_ump`
 module _ (s : Sender) (ring : List ℕ) (max : ℕ) (ws : List ℕ) where
-  pub sent-none : length ws ≡ 0 → (sent s Accepted, ring) ≡ sentOf s ring max ws
+  pub sent-none : length ws ≡ 0 → (sent s Done, ring) ≡ sentOf s ring max ws
   unfolding sentOf
   sent-none e = rw (eq-eqb _ _ e)
 
-  pub sent-refused : (length ws ≡ 0 → ⊥) → (why : Refusal) → wordsCheck max ws ≡ CheckRefused why → unsent s ring why ≡ sentOf s ring max ws
+  pub sent-refused : (length ws ≡ 0 → ⊥) → (why : Refusal) → wordsCheck max ws ≡ Refused why → unsent s ring why ≡ sentOf s ring max ws
   unfolding sentOf
   sent-refused n why e = rw (ne-eqb _ _ n, e)
 
-  pub sent-placed : (length ws ≡ 0 → ⊥) → wordsCheck max ws ≡ Passed → placedOf s ring max ws ≡ sentOf s ring max ws
+  pub sent-placed : (length ws ≡ 0 → ⊥) → wordsCheck max ws ≡ Done → placedOf s ring max ws ≡ sentOf s ring max ws
   unfolding sentOf
   sent-placed n e = rw (ne-eqb _ _ n, e)
 
@@ -140,11 +139,11 @@ unfolding pushedAll
 push-end g ring max ws at z h inv = rw (commands-end max ws at h) at inv
 
 -- ---- words that passed the tests
-pub check-divides : (max : ℕ) (ws : List ℕ) → wordsCheck max ws ≡ Passed → Divides max ws
+pub check-divides : (max : ℕ) (ws : List ℕ) → wordsCheck max ws ≡ Done → Divides max ws
 unfolding wordsCheck
 check-divides max ws e = by (wholeOf ws) (above max ws) refl refl e
   where
-    by : (w a : Bool) → wholeOf ws ≡ w → above max ws ≡ a → cond (not w) (CheckRefused InvalidUmpData) (cond a (CheckRefused TooLarge) Passed) ≡ Passed → Divides max ws
+    by : (w a : Bool) → wholeOf ws ≡ w → above max ws ≡ a → cond (not w) (Refused InvalidUmpData) (cond a (Refused TooLarge) Done) ≡ Done → Divides max ws
     by true false f g h = record { whole = f; small = g }
     by true true f g h = absurd (let z : _≡_ {A = ℕ} 0 1 = cc in omega arith)
     by false a f g h = absurd (let z : _≡_ {A = ℕ} 0 1 = cc in omega arith)
@@ -153,11 +152,11 @@ pub split-divides : (max n split : ℕ) (ws : List ℕ) → Divides max ws → s
 unfolding behind
 split-divides max n split ws d e = rw e (divides-behind max n ws d)
 
-pub settings-few : (cfg : StreamConfig) → checkOf cfg ≡ Passed → cfg .«max_command_words» ≤ 64
+pub settings-few : (cfg : StreamConfig) → checkOf cfg ≡ Done → cfg .«max_command_words» ≤ 64
 unfolding checkOf
 settings-few cfg e = by _ (outside 1 64 (cfg .«max_command_words»)) refl e
   where
-    by : (rest : Check) (t : Bool) → outside 1 64 (cfg .«max_command_words») ≡ t → cond t (CheckRefused CommandWords) rest ≡ Passed → cfg .«max_command_words» ≤ 64
+    by : (rest : Outcome) (t : Bool) → outside 1 64 (cfg .«max_command_words») ≡ t → cond t (Refused CommandWords) rest ≡ Done → cfg .«max_command_words» ≤ 64
     by rest true f h = absurd (let z : _≡_ {A = ℕ} 0 1 = cc in omega arith)
     by rest false f h = leb-true _ _ (and-right (leb 1 (cfg .«max_command_words»)) _ (not-false (within 1 64 (cfg .«max_command_words»)) f))
 
@@ -234,7 +233,7 @@ module _ (s : Sender) (ring : List ℕ) (max : ℕ) (ws : List ℕ) (room split 
   pub placed-queued : (j g : SendHistory) (next last : List ℕ) → wholeOf ws ≡ true → length ws + k ≤ s .history .size - s .«unsent_words»
       → (j, next) ≡ joinedTo (s .history) ring (take split ws)
       → (g, last) ≡ pushedAll j next (commandsOf max (take (length ws - split) (drop split ws)))
-      → (sent (holding s g k (length ws + k)) Accepted, last) ≡ placedOf s ring max ws
+      → (sent (holding s g k (length ws + k)) Done, last) ≡ placedOf s ring max ws
   unfolding placedOf queuedOf queuedTo
   placed-queued j g next last w h p q =
       let front-room : take split ws ≡ front room ws = rw f (sym (part-of room ws w .part)) in

@@ -5,9 +5,10 @@ use mathlib.Core.List.{List}
 use lib.ListN.{length}
 use lib.Dec.{eqb}
 use Rattle.config.specs.Range.{outside}
-use Rattle.config.specs.Settings.{checkOf, tested}
+use Rattle.config.specs.Entry.{onState, entry}
+use Rattle.config.specs.Settings.{checkOf}
 use Rattle.config.specs.declared.refusal.Refusal.{Refusal}
-use Rattle.config.specs.declared.refusal.Refusal.the-variants.{SizeNotAllowed, InvalidState}
+use Rattle.config.specs.declared.refusal.Refusal.the-variants.{SizeNotAllowed}
 use Rattle.config.specs.declared.settings.StreamConfig.{StreamConfig}
 use Rattle.packet.specs.Write.{validOf as payloadValid}
 use Rattle.packet.specs.declared.writer.PayloadWriter.{PayloadWriter}
@@ -17,18 +18,16 @@ use Rattle.sender.specs.Queueing.{unsent, sentOf}
 use Rattle.sender.specs.Requests.{told, requestedOf, deadlineOf, wantsOf, nextOf}
 use Rattle.sender.specs.Writing.{writtenBy}
 use Rattle.sender.specs.declared.sender.Sender.{Sender}
-use Rattle.sender.specs.declared.sender.Start.{Start}
-use Rattle.sender.specs.declared.sender.Start.the-variants.{Done, Refused as StartRefused}
+use Rattle.config.specs.declared.answer.Outcome.the-variants.{Done, Refused}
+use Rattle.config.specs.declared.answer.Answered.{Answered}
+use Rattle.config.specs.declared.answer.Answered.the-variants.{Is, Refused as AnsweredRefused}
+use Rattle.config.specs.declared.answer.Deadline.{Deadline}
+use Rattle.config.specs.declared.answer.Deadline.the-variants.{Refused as DeadlineRefused}
 use Rattle.sender.specs.declared.sender.Started.{Started}
-use Rattle.sender.specs.declared.sender.Reset.the-variants.{Done as ResetDone, Refused as ResetRefused}
 use Rattle.sender.specs.declared.sender.WasReset.{WasReset}
 use Rattle.sender.specs.declared.sender.Sent.{Sent}
 use Rattle.sender.specs.declared.sender.RequestOutcome.the-variants.{Refused as RequestRefused}
 use Rattle.sender.specs.declared.sender.Requested.{Requested}
-use Rattle.sender.specs.declared.sender.Deadline.{Deadline}
-use Rattle.sender.specs.declared.sender.Deadline.the-variants.{Refused as DeadlineRefused}
-use Rattle.sender.specs.declared.sender.Wants.{Wants}
-use Rattle.sender.specs.declared.sender.Wants.the-variants.{Is, Refused as WantsRefused}
 use Rattle.sender.specs.declared.sender.Next.{Next}
 use Rattle.sender.specs.declared.sender.Next.the-variants.{Number, Refused as NextRefused}
 use Rattle.sender.specs.declared.sender.Writing.the-variants.{Refused as WritingRefused}
@@ -39,7 +38,7 @@ abbrev pub nobody : Sender
 nobody = fresh 0 0
 
 abbrev pub notStarted : Started
-notStarted = record { sender = nobody; answer = StartRefused SizeNotAllowed }
+notStarted = record { sender = nobody; answer = Refused SizeNotAllowed }
 
 -- 12 when the history isn't 65 to 32,768 words or not what is lent, or the ring isn't 1 to 16
 unfoldable pub newAnswer : ℕ → ℕ → List ℕ → Started × List ℕ
@@ -47,34 +46,29 @@ newAnswer words places ring =
     cond (outside 65 32768 words || (not (eqb (length ring) words) || outside 1 16 places)) (notStarted, ring)
     (record { sender = startOf words places ring .0; answer = Done }, startOf words places ring .1)
 
+abbrev pub resetRefused : Sender → List ℕ → Refusal → WasReset × List ℕ
+resetRefused s ring why = (record { sender = s; answer = Refused why }, ring)
+
 unfoldable pub resetAnswer : Sender → List ℕ → WasReset × List ℕ
-resetAnswer s ring =
-    cond (not (validOf s ring)) (record { sender = s; answer = ResetRefused InvalidState }, ring)
-    (record { sender = resetOf s ring .0; answer = ResetDone }, resetOf s ring .1)
+resetAnswer s ring = onState (validOf s ring) (resetRefused s ring) (record { sender = resetOf s ring .0; answer = Done }, resetOf s ring .1)
 
 unfoldable pub sendAnswer : Sender → StreamConfig → List ℕ → List ℕ → Sent × List ℕ
-sendAnswer s cfg ring ws =
-    tested (checkOf cfg) (unsent s ring)
-    (cond (not (validOf s ring)) (unsent s ring InvalidState)
-    (sentOf s ring (cfg .«max_command_words») ws))
+sendAnswer s cfg ring ws = entry (checkOf cfg) (validOf s ring) (unsent s ring) (sentOf s ring (cfg .«max_command_words») ws)
 
 abbrev pub requestRefused : Sender → Refusal → Requested
 requestRefused s why = told s (RequestRefused why)
 
 unfoldable pub requestAnswer : Sender → StreamConfig → List ℕ → RetransmitRequest → Requested
-requestAnswer s cfg ring r =
-    tested (checkOf cfg) (requestRefused s)
-    (cond (not (validOf s ring)) (requestRefused s InvalidState)
-    (requestedOf s cfg r))
+requestAnswer s cfg ring r = entry (checkOf cfg) (validOf s ring) (requestRefused s) (requestedOf s cfg r)
 
 unfoldable pub deadlineAnswer : Sender → List ℕ → Deadline
-deadlineAnswer s ring = cond (not (validOf s ring)) (DeadlineRefused InvalidState) (deadlineOf s)
+deadlineAnswer s ring = onState (validOf s ring) DeadlineRefused (deadlineOf s)
 
-unfoldable pub wantsAnswer : Sender → List ℕ → ℕ → Wants
-wantsAnswer s ring now = cond (not (validOf s ring)) (WantsRefused InvalidState) (Is (wantsOf s now))
+unfoldable pub wantsAnswer : Sender → List ℕ → ℕ → Answered
+wantsAnswer s ring now = onState (validOf s ring) AnsweredRefused (Is (wantsOf s now))
 
 unfoldable pub nextAnswer : Sender → List ℕ → Next
-nextAnswer s ring = cond (not (validOf s ring)) (NextRefused InvalidState) (Number (nextOf s))
+nextAnswer s ring = onState (validOf s ring) NextRefused (Number (nextOf s))
 
 -- the sender with the payload, the payload's bytes and the lent history
 abbrev pub writeRefused : Sender → PayloadWriter → List ℕ → List ℕ → Refusal → Wrote × List ℕ × List ℕ
@@ -82,6 +76,4 @@ writeRefused s p b ring why = (record { sender = s; payload = p; answer = Writin
 
 unfoldable pub writeAnswer : Sender → StreamConfig → ℕ → PayloadWriter → List ℕ → List ℕ → Wrote × List ℕ × List ℕ
 writeAnswer s cfg now p b ring =
-    tested (checkOf cfg) (writeRefused s p b ring)
-    (cond (not (validOf s ring && payloadValid p (length b))) (writeRefused s p b ring InvalidState)
-    (writtenBy s cfg now p b ring))
+    entry (checkOf cfg) (validOf s ring && payloadValid p (length b)) (writeRefused s p b ring) (writtenBy s cfg now p b ring)

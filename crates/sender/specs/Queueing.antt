@@ -7,16 +7,14 @@ use lib.Dec.{ltb, eqb}
 use Rattle.config.specs.Settings.{tested}
 use Rattle.config.specs.declared.refusal.Refusal.{Refusal}
 use Rattle.config.specs.declared.refusal.Refusal.the-variants.{InvalidUmpData, TooLarge, Full}
-use Rattle.config.specs.declared.settings.Check.{Check}
-use Rattle.config.specs.declared.settings.Check.the-variants.{Passed, Refused as CheckRefused}
+use Rattle.config.specs.declared.answer.Outcome.{Outcome}
+use Rattle.config.specs.declared.answer.Outcome.the-variants.{Done, Refused}
 use Rattle.command.specs.Messages.{wholeOf}
 use Rattle.history.specs.Headers.{lengthAt}
 use Rattle.history.specs.Push.{pushed, appended}
 use Rattle.history.specs.declared.history.SendHistory.{SendHistory}
 use Rattle.sender.specs.Commands.{front, behind, commandsOf, above}
 use Rattle.sender.specs.declared.sender.Sender.{Sender}
-use Rattle.sender.specs.declared.sender.Send.{Send}
-use Rattle.sender.specs.declared.sender.Send.the-variants.{Accepted, Refused}
 use Rattle.sender.specs.declared.sender.Sent.{Sent}
 
 -- the words that the newest unwritten command still takes; none when nothing is unwritten
@@ -54,7 +52,7 @@ abbrev pub holding : Sender → SendHistory → ℕ → ℕ → Sender
 holding s h commands need =
     record { history = h; queue = s .queue; unsent = s .unsent + commands; «unsent_words» = s .«unsent_words» + need; idle = s .idle }
 
-abbrev pub sent : Sender → Send → Sent
+abbrev pub sent : Sender → Outcome → Sent
 sent s a = record { sender = s; answer = a }
 
 abbrev pub unsent : Sender → List ℕ → Refusal → Sent × List ℕ
@@ -63,14 +61,14 @@ unsent s ring why = (sent s (Refused why), ring)
 unfoldable pub queuedOf : Sender → List ℕ → ℕ → List ℕ → Sent × List ℕ
 queuedOf s ring max ws =
     let q = queuedTo s ring max ws in
-    (sent (holding s (q .0) (length (further s ring max ws)) (needOf s ring max ws)) Accepted, q .1)
+    (sent (holding s (q .0) (length (further s ring max ws)) (needOf s ring max ws)) Done, q .1)
 
 -- 5 not whole messages; 3 a message above the set size
-unfoldable pub wordsCheck : ℕ → List ℕ → Check
+unfoldable pub wordsCheck : ℕ → List ℕ → Outcome
 wordsCheck max ws =
-    cond (not (wholeOf ws)) (CheckRefused InvalidUmpData)
-    (cond (above max ws) (CheckRefused TooLarge)
-    Passed)
+    cond (not (wholeOf ws)) (Refused InvalidUmpData)
+    (cond (above max ws) (Refused TooLarge)
+    Done)
 
 -- 6 words and new headers exceed the history less unwritten words and their headers
 unfoldable pub placedOf : Sender → List ℕ → ℕ → List ℕ → Sent × List ℕ
@@ -81,6 +79,6 @@ placedOf s ring max ws =
 -- an empty list is accepted and changes nothing
 unfoldable pub sentOf : Sender → List ℕ → ℕ → List ℕ → Sent × List ℕ
 sentOf s ring max ws =
-    cond (eqb (length ws) 0) (sent s Accepted, ring)
+    cond (eqb (length ws) 0) (sent s Done, ring)
     (tested (wordsCheck max ws) (unsent s ring)
     (placedOf s ring max ws))

@@ -18,8 +18,8 @@ use Rattle.sender.specs.declared.sender.Sender.{Sender}
 use Rattle.sender.specs.declared.sender.RequestOutcome.{RequestOutcome}
 use Rattle.sender.specs.declared.sender.RequestOutcome.the-variants.{Queued, Ignored, Error, NotSupported}
 use Rattle.sender.specs.declared.sender.Requested.{Requested}
-use Rattle.sender.specs.declared.sender.Deadline.{Deadline}
-use Rattle.sender.specs.declared.sender.Deadline.the-variants.{Nothing, At}
+use Rattle.config.specs.declared.answer.Deadline.{Deadline}
+use Rattle.config.specs.declared.answer.Deadline.the-variants.{Nothing, At}
 
 -- how many commands are written: the oldest of those held
 abbrev pub writtenCount : Sender → ℕ

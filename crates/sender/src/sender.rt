@@ -6,10 +6,12 @@ use super::valid;
 use super::writing;
 use command::retransmit::RetransmitError;
 use command::retransmit::RetransmitRequest;
+use config::answer::Answered;
+use config::answer::Deadline;
+use config::answer::Outcome;
 use config::range::outside;
 use config::refusal::Refusal;
 use config::sequence::SeqNum;
-use config::settings::Check;
 use config::settings::StreamConfig;
 use history::history::MAX_WORDS;
 use history::history::MIN_WORDS;
@@ -31,35 +33,20 @@ pub struct Sender {
     pub idle: IdleTimer,
 }
 
-pub enum Start {
-    Done,
-    Refused(Refusal),
-}
-
 // A fresh sender; where the start is refused, one that every call refuses.
 pub struct Started {
     pub sender: Sender,
-    pub answer: Start,
-}
-
-pub enum Reset {
-    Done,
-    Refused(Refusal),
+    pub answer: Outcome,
 }
 
 pub struct WasReset {
     pub sender: Sender,
-    pub answer: Reset,
-}
-
-pub enum Send {
-    Accepted,
-    Refused(Refusal),
+    pub answer: Outcome,
 }
 
 pub struct Sent {
     pub sender: Sender,
-    pub answer: Send,
+    pub answer: Outcome,
 }
 
 pub enum RequestOutcome {
@@ -75,17 +62,6 @@ pub enum RequestOutcome {
 pub struct Requested {
     pub sender: Sender,
     pub outcome: RequestOutcome,
-}
-
-pub enum Deadline {
-    Nothing,
-    At(u64),
-    Refused(Refusal),
-}
-
-pub enum Wants {
-    Is(bool),
-    Refused(Refusal),
 }
 
 pub enum Next {
@@ -128,7 +104,7 @@ impl Sender {
         }
         Started {
             sender: valid::start(words, places, ring),
-            answer: Start::Done,
+            answer: Outcome::Done,
         }
     }
 
@@ -139,12 +115,12 @@ impl Sender {
         if valid::is_valid(self, &ring[..]) {
             return WasReset {
                 sender: valid::reset(self, ring),
-                answer: Reset::Done,
+                answer: Outcome::Done,
             };
         }
         WasReset {
             sender: self,
-            answer: Reset::Refused(Refusal::InvalidState),
+            answer: Outcome::Refused(Refusal::InvalidState),
         }
     }
 
@@ -153,17 +129,17 @@ impl Sender {
         ensures { λ r. ⌜ (r, now (ring .exit)) ≡ sendAnswer self cfg (now (ring .entry)) (now (words .entry)) ⌝ }
     {
         match cfg.check() {
-            Check::Refused(why) => Sent {
+            Outcome::Refused(why) => Sent {
                 sender: self,
-                answer: Send::Refused(why),
+                answer: Outcome::Refused(why),
             },
-            Check::Passed => {
+            Outcome::Done => {
                 if valid::is_valid(self, &ring[..]) {
                     return valid::send_ump(self, cfg, ring, words);
                 }
                 Sent {
                     sender: self,
-                    answer: Send::Refused(Refusal::InvalidState),
+                    answer: Outcome::Refused(Refusal::InvalidState),
                 }
             }
         }
@@ -179,11 +155,11 @@ impl Sender {
         ensures { λ r. ⌜ r ≡ requestAnswer self cfg (now (ring .entry)) req ⌝ }
     {
         match cfg.check() {
-            Check::Refused(why) => Requested {
+            Outcome::Refused(why) => Requested {
                 sender: self,
                 outcome: RequestOutcome::Refused(why),
             },
-            Check::Passed => {
+            Outcome::Done => {
                 if valid::is_valid(self, ring) {
                     return valid::on_retransmit_request(self, cfg, req);
                 }
@@ -208,12 +184,12 @@ impl Sender {
         ensures { λ r. ⌜ (r, now (buf .exit), now (ring .exit)) ≡ writeAnswer self cfg time p (now (buf .entry)) (now (ring .entry)) ⌝ }
     {
         match cfg.check() {
-            Check::Refused(why) => Wrote {
+            Outcome::Refused(why) => Wrote {
                 sender: self,
                 payload: p,
                 answer: Writing::Refused(why),
             },
-            Check::Passed => {
+            Outcome::Done => {
                 let tested = valid::test(self, &ring[..], cfg.fec_repeats as usize);
                 if tested.ok {
                     if packet::valid::is_valid(p, buf.len()) {
@@ -245,13 +221,13 @@ impl Sender {
     }
 
     // Whether a write at this time has something to write.
-    pub fn wants_write(self, ring: &[u32], time: u64) -> Wants
+    pub fn wants_write(self, ring: &[u32], time: u64) -> Answered
         ensures { λ r. ⌜ r ≡ wantsAnswer self (now (ring .entry)) time ⌝ }
     {
         if valid::is_valid(self, ring) {
-            return Wants::Is(valid::wants_write(self, time));
+            return Answered::Is(valid::wants_write(self, time));
         }
-        Wants::Refused(Refusal::InvalidState)
+        Answered::Refused(Refusal::InvalidState)
     }
 
     // The number that the next written command gets.

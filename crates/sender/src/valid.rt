@@ -5,7 +5,7 @@ ghost use mathlib.Core.Bool.{true, false};
 ghost use Prim.Native.Nat.{_+_, _≤_, _<_};
 ghost use lib.ListN.{length};
 ghost use Rattle.config.specs.Settings.{checkOf};
-ghost use Rattle.config.specs.declared.settings.Check.the-variants.{Passed};
+ghost use Rattle.config.specs.declared.answer.Outcome.the-variants.{Done};
 ghost use Rattle.config.specs.Sequence.{turn};
 ghost use Rattle.command.specs.Messages.{wholeOf};
 ghost use Rattle.history.specs.State.{Good, Answers};
@@ -17,22 +17,20 @@ ghost use Rattle.sender.specs.Queueing.{roomOf, joinedTo, pushedAll, wor
 ghost use Rattle.sender.specs.Requests.{outcomeOf, requestedOf, dueAt, deadlineOf, wantsOf, nextOf};
 ghost use Rattle.sender.specs.Answers.{notStarted};
 use super::messages;
-use super::sender::Deadline;
 use super::sender::RequestOutcome;
 use super::sender::Requested;
-use super::sender::Send;
 use super::sender::Sender;
 use super::sender::Sent;
-use super::sender::Start;
 use super::sender::Started;
 use command::message::whole_messages;
 use command::retransmit::NOT_IN_BUFFER;
 use command::retransmit::RetransmitError;
 use command::retransmit::RetransmitRequest;
+use config::answer::Deadline;
+use config::answer::Outcome;
 use config::refusal::Refusal;
 use config::sequence;
 use config::sequence::SeqNum;
-use config::settings::Check;
 use config::settings::StreamConfig;
 use history::history::SendHistory;
 use history::history::Tested;
@@ -101,7 +99,7 @@ pub fn not_started() -> Started
             unsent_words: 0,
             idle: IdleTimer::Off,
         },
-        answer: Start::Refused(Refusal::SizeNotAllowed),
+        answer: Outcome::Refused(Refusal::SizeNotAllowed),
     }
 }
 
@@ -129,16 +127,16 @@ pub fn reset(s: Sender, ring: &mut [u32]) -> Sender
 }
 
 // 5 not whole messages; 3 a message above the set size.
-fn check(words: &[u32], max: usize) -> Check
+fn check(words: &[u32], max: usize) -> Outcome
     ensures { λ r. ⌜ r ≡ wordsCheck max (now (words .entry)) ⌝ }
 {
     if whole_messages(words) {
         if messages::fit(words, max) {
-            return Check::Passed;
+            return Outcome::Done;
         }
-        return Check::Refused(Refusal::TooLarge);
+        return Outcome::Refused(Refusal::TooLarge);
     }
-    Check::Refused(Refusal::InvalidUmpData)
+    Outcome::Refused(Refusal::InvalidUmpData)
 }
 
 // The words that the newest unwritten command still takes; none when nothing is unwritten.
@@ -187,7 +185,7 @@ fn push_all(h: SendHistory, ring: &mut [u32], max: usize, words: &[u32]) -> Send
 // Queues messages that passed `check`; 6 when words and new headers exceed the history less what is
 // unwritten.
 fn queue_words(s: Sender, ring: &mut [u32], max: usize, words: &[u32]) -> Sent
-    requires { ⌜ (validOf s (now ring) ≡ true) × (max ≤ 64) × (wordsCheck max (now words) ≡ Passed) ⌝ }
+    requires { ⌜ (validOf s (now ring) ≡ true) × (max ≤ 64) × (wordsCheck max (now words) ≡ Done) ⌝ }
     ensures { λ r. ⌜ (r, now (ring .exit)) ≡ placedOf s (now (ring .entry)) max (now (words .entry)) ⌝ }
 {
     let history = s.history;
@@ -199,7 +197,7 @@ fn queue_words(s: Sender, ring: &mut [u32], max: usize, words: &[u32]) -> Sent
     if history.size - s.unsent_words < need {
         return Sent {
             sender: s,
-            answer: Send::Refused(Refusal::Full),
+            answer: Outcome::Refused(Refusal::Full),
         };
     }
     let joined = join(history, ring, &words[..split]);
@@ -212,27 +210,27 @@ fn queue_words(s: Sender, ring: &mut [u32], max: usize, words: &[u32]) -> Sent
             unsent_words: s.unsent_words + need,
             idle,
         },
-        answer: Send::Accepted,
+        answer: Outcome::Done,
     }
 }
 
 pub fn send_ump(s: Sender, cfg: StreamConfig, ring: &mut [u32], words: &[u32]) -> Sent
-    requires { ⌜ (validOf s (now ring) ≡ true) × (checkOf cfg ≡ Passed) ⌝ }
+    requires { ⌜ (validOf s (now ring) ≡ true) × (checkOf cfg ≡ Done) ⌝ }
     ensures { λ r. ⌜ (r, now (ring .exit)) ≡ sentOf s (now (ring .entry)) (cfg .«max_command_words») (now (words .entry)) ⌝ }
 {
     if words.len() == 0 {
         return Sent {
             sender: s,
-            answer: Send::Accepted,
+            answer: Outcome::Done,
         };
     }
     let max = cfg.max_command_words;
     match check(words, max) {
-        Check::Refused(why) => Sent {
+        Outcome::Refused(why) => Sent {
             sender: s,
-            answer: Send::Refused(why),
+            answer: Outcome::Refused(why),
         },
-        Check::Passed => queue_words(s, ring, max, words),
+        Outcome::Done => queue_words(s, ring, max, words),
     }
 }
 

@@ -10,7 +10,7 @@ ghost use Prim.Native.Nat.{_+_, _-_, _≤_, _<_};
 ghost use lib.ListN.{length};
 ghost use lib.Dec.{eqb, ltb};
 ghost use Rattle.config.specs.Settings.{checkOf};
-ghost use Rattle.config.specs.declared.settings.Check.the-variants.{Passed};
+ghost use Rattle.config.specs.declared.answer.Outcome.the-variants.{Done};
 ghost use Rattle.packet.specs.Write.{validOf as payloadValid};
 ghost use Rattle.history.specs.Headers.{headerAt};
 ghost use Rattle.history.specs.State.{Good};
@@ -142,7 +142,7 @@ fn serve(s: Sender, p: PayloadWriter, buf: &mut [u8], ring: &[u32]) -> Served
 
 // Queues an idle command if one is due and no command is unwritten.
 fn queue_idle(s: Sender, cfg: StreamConfig, time: u64, ring: &mut [u32]) -> Sender
-    requires { ⌜ (checkOf cfg ≡ Passed) × (validOf s (now ring) ≡ true) ⌝ }
+    requires { ⌜ (checkOf cfg ≡ Done) × (validOf s (now ring) ≡ true) ⌝ }
     ensures { λ r. ⌜ (r, now (ring .exit)) ≡ idledOf s cfg time (now (ring .entry)) ⌝ }
 {
     let history = s.history;
@@ -304,7 +304,7 @@ pub fn write(
     ring: &mut [u32],
     place: usize,
 ) -> Wrote
-    requires { ⌜ (checkOf cfg ≡ Passed) × (validOf s (now ring) ≡ true) × (payloadValid p (length (now buf)) ≡ true) × AgainAt s (now ring) (cfg .«fec_repeats») place ⌝ }
+    requires { ⌜ (checkOf cfg ≡ Done) × (validOf s (now ring) ≡ true) × (payloadValid p (length (now buf)) ≡ true) × AgainAt s (now ring) (cfg .«fec_repeats») place ⌝ }
     ensures { λ r. ⌜ (r, now (buf .exit), now (ring .exit)) ≡ writtenBy s cfg time p (now (buf .entry)) (now (ring .entry)) ⌝ }
 {
     let history = s.history;

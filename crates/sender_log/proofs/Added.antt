@@ -11,7 +11,7 @@ use lib.Seq.{take-at, drop-at, length-take-le, take-take}
 use Rattle.config.specs.inner.Tests.{split, tests, lifts}
 use Rattle.packet.specs.Layout.{Packet, signature, encoded, sizeOf, encodedAll, payloadOf, AllEncodable}
 use Rattle.packet.specs.Read.{itemsFrom, itemsOf, placed}
-use Rattle.packet.specs.Write.{limitOf, startOf, bytesIn, doneOf, placedOf, writtenOf, Outcome, refused, done}
+use Rattle.packet.specs.Write.{limitOf, startOf, bytesIn, doneOf, placedOf, writtenOf, WriteEnds, refused, done}
 use Rattle.packet.specs.declared.writer.PayloadWriter.{PayloadWriter}
 use Rattle.packet.specs.declared.writer.Wrote.{Wrote}
 use Rattle.packet.proofs.Splice.{take-spliced}
@@ -64,7 +64,7 @@ unfolding rowOf
 row-appended [] p by = none
 row-appended (c ∷ cs) p by = go (writtenOf p by c) (outcome p by c) (λ q bytes. row-appended cs q bytes)
   where
-    go : (w : Wrote × List ℕ) → Outcome p by c w
+    go : (w : Wrote × List ℕ) → WriteEnds p by c w
         → ((q : PayloadWriter) (bytes : List ℕ) → Appends q bytes (take (rowOf q bytes cs .written) cs) (rowOf q bytes cs .payload) (rowOf q bytes cs .bytes))
         → (let r = oneMore (w .0 .answer) (w .0 .payload) (w .1) (rowOf (w .0 .payload) (w .1) cs) in Appends p by (take (r .written) (c ∷ cs)) (r .payload) (r .bytes))
     go w (refused r) rest = none

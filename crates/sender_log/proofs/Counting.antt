@@ -8,12 +8,13 @@ use native.Mathlib.Omega.{arith}
 use lib.Dec.{ltb, leb, eqb}
 use lib.ListN.{length, take, drop, length-append, length-take}
 use lib.Seq.{drop-at, take-append-le, drop-append-le, take-all, length-take-le}
+use Rattle.config.specs.Entry.{entry}
 use Rattle.config.specs.Sequence.{after}
-use Rattle.config.specs.Settings.{checkOf, tested}
+use Rattle.config.specs.Settings.{checkOf}
 use Rattle.config.specs.declared.refusal.Refusal.{Refusal}
 use Rattle.config.specs.declared.refusal.Refusal.the-variants.{TooLarge, InvalidState}
-use Rattle.config.specs.declared.settings.Check.{Check}
-use Rattle.config.specs.declared.settings.Check.the-variants.{Passed, Refused as CheckRefused}
+use Rattle.config.specs.declared.answer.Outcome.{Outcome}
+use Rattle.config.specs.declared.answer.Outcome.the-variants.{Done, Refused as OutcomeRefused}
 use Rattle.config.specs.declared.settings.StreamConfig.{StreamConfig}
 use Rattle.config.specs.inner.Tests.{split, tests, lifts}
 use Rattle.packet.specs.Layout.{Packet, AllEncodable, Words32}
@@ -36,7 +37,7 @@ use Rattle.sender_log.specs.Requests.{firstLeft}
 use Rattle.sender_log.specs.Counted.{CountedIn}
 use Rattle.sender_log.proofs.Rows.{Few, few-append, few-take, row-left, RowRight, row-right, row-enough, row-start, sizes-append, repeats-few}
 use Rattle.sender_log.proofs.More.{Small, few-data, short-drop, idled-short}
-use Rattle.sender_log.proofs.Choices.{by-cond}
+use Rattle.config.specs.inner.Choices.{by-cond}
 use Rattle.sender_log.proofs.Words.{each-drop, data-encodable, Book32}
 use Rattle.sender_log.proofs.Added.{Appends, none, some, appends-more, row-appended, appends-items, appends-kept, appends-reads}
 
@@ -371,10 +372,10 @@ module _ (c : ℕ) (cfg : StreamConfig) (now : ℕ) (b : Book) (small : Small b)
   unfolding writeIn
   write-out = on (checkOf cfg) (validOf p (length by)) refl
     where
-      on : (k : Check) (t : Bool) → validOf p (length by) ≡ t → OutOf (owedIn b p by (b .waiting) ++ rest) p by (tested k (refused b p by) (cond (not t) (refused b p by InvalidState) (writtenIn c cfg now b p by)))
-      on (CheckRefused why) t v = unchanged why
-      on Passed false v = unchanged InvalidState
-      on Passed true v = written-out v
+      on : (k : Outcome) (t : Bool) → validOf p (length by) ≡ t → OutOf (owedIn b p by (b .waiting) ++ rest) p by (entry k t (refused b p by) (writtenIn c cfg now b p by))
+      on (OutcomeRefused why) t v = unchanged why
+      on Done false v = unchanged InvalidState
+      on Done true v = written-out v
 
 -- a payload that isn't empty is taken
 abbrev pub NotRefused : WriteIn → Type 0
@@ -392,7 +393,7 @@ module _ (c : ℕ) (cfg : StreamConfig) (now : ℕ) (b : Book) (small : Small b)
           (λ over. by-cond NotRefused (eqb (q .len) 0) _ _ (λ empty why e. k (omega (arith, tests))) (λ more why e. let z : _≡_ {A = ℕ} 0 1 = cc in omega arith))
           (λ fits why e. let z : _≡_ {A = ℕ} 0 1 = cc in omega arith)
 
-  pub write-taken : checkOf cfg ≡ Passed → NotRefused (writeIn c cfg now b p by)
+  pub write-taken : checkOf cfg ≡ Done → NotRefused (writeIn c cfg now b p by)
   unfolding writeIn writtenIn
   write-taken e =
       let s = servedIn b (b .waiting) p by in

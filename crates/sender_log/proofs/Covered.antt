@@ -9,7 +9,7 @@ use lib.ListN.{length}
 use Rattle.config.specs.Range.{outside}
 use Rattle.config.specs.Settings.{checkOf}
 use Rattle.config.specs.declared.refusal.Refusal.the-variants.{SizeNotAllowed}
-use Rattle.config.specs.declared.settings.Check.the-variants.{Passed}
+use Rattle.config.specs.declared.answer.Outcome.the-variants.{Done}
 use Rattle.config.specs.declared.settings.StreamConfig.{StreamConfig}
 use Rattle.config.specs.inner.Tests.{lifts}
 use Rattle.config.specs.Time.{later}
@@ -81,7 +81,7 @@ abbrev pacing : ℕ → ℕ → ℕ → ℕ → Bool → ℕ → ℕ → ℕ →
 pacing T1 G K R X D M size =
     record { «idle_interval_ms» = T1; «idle_growth» = G; «idle_further» = K; «fec_repeats» = R; retransmit = X; «request_delay_ms» = D; «max_requests» = M; «max_command_words» = size }
 
-passes : (T1 G K R : ℕ) (X : Bool) (D M size : ℕ) → 1 ≤ T1 → T1 ≤ 300 → 1 ≤ G → 1 ≤ size → size ≤ 64 → checkOf (pacing T1 G K R X D M size) ≡ Passed
+passes : (T1 G K R : ℕ) (X : Bool) (D M size : ℕ) → 1 ≤ T1 → T1 ≤ 300 → 1 ≤ G → 1 ≤ size → size ≤ 64 → checkOf (pacing T1 G K R X D M size) ≡ Done
 unfolding checkOf
 passes T1 G K R X D M size t-least t-most g-least s-least s-most =
     let a : leb 1 size ≡ true = omega (arith, lifts) in

@@ -9,7 +9,7 @@ use lib.ListN.{length, drop, replicate, length-append}
 use Rattle.config.specs.Sequence.{after}
 use Rattle.config.specs.Settings.{checkOf}
 use Rattle.config.specs.Time.{lastTime, later}
-use Rattle.config.specs.declared.settings.Check.the-variants.{Passed}
+use Rattle.config.specs.declared.answer.Outcome.the-variants.{Done}
 use Rattle.config.specs.declared.settings.StreamConfig.{StreamConfig}
 use Rattle.packet.specs.Layout.{Packet}
 use Rattle.packet.specs.Write.{limitOf, startOf, validOf}
@@ -36,7 +36,7 @@ pub record Silent (b : Book) (i : IdleTimer) : Type 0 where
   pub quiet : b .waiting ≡ []
   pub timer : b .idle ≡ i
 
-module _ (c : ℕ) (cfg : StreamConfig) (p : PayloadWriter) (by : List ℕ) (passed : checkOf cfg ≡ Passed) (v : validOf p (length by) ≡ true) (room : startOf p + 4 ≤ limitOf p (length by)) where
+module _ (c : ℕ) (cfg : StreamConfig) (p : PayloadWriter) (by : List ℕ) (passed : checkOf cfg ≡ Done) (v : validOf p (length by) ≡ true) (room : startOf p + 4 ≤ limitOf p (length by)) where
   -- an idle command that is queued is written with the repeats that fit beside it
   module _ (first : ℕ) (ws : List (List ℕ)) (i : IdleTimer) (short : Short ws) (now : ℕ) where
     abbrev queued : Book

@@ -1,5 +1,4 @@
 -- Why the sender over lists of calls holds what it says.
-pub mod Choices
 pub mod Newest
 mod Held
 pub mod Packets

@@ -9,14 +9,16 @@ use borrow.Author.Tests.{leb-true, leb-false, lt-leb, ne-eqb}
 use lib.Dec.{ltb, eqb}
 use lib.ListN.{length, take, drop, length-append, length-take, drop-of-length-le}
 use lib.Seq.{drop-drop, drop-append-add, length-take-le}
+use Rattle.config.specs.Entry.{entry}
 use Rattle.config.specs.Sequence.{turn, after, ahead}
 use Rattle.config.specs.declared.refusal.Refusal.{Refusal}
 use Rattle.config.specs.declared.refusal.Refusal.the-variants.{TooLarge, InvalidState}
-use Rattle.config.specs.Settings.{checkOf, tested}
-use Rattle.config.specs.declared.settings.Check.{Check}
-use Rattle.config.specs.declared.settings.Check.the-variants.{Passed, Refused as CheckRefused}
+use Rattle.config.specs.Settings.{checkOf}
+use Rattle.config.specs.declared.answer.Outcome.{Outcome}
+use Rattle.config.specs.declared.answer.Outcome.the-variants.{Done, Refused}
 use Rattle.config.specs.declared.settings.StreamConfig.{StreamConfig}
 use Rattle.config.specs.inner.Tests.{split}
+use Rattle.config.specs.inner.Choices.{or-left}
 use Rattle.packet.specs.Layout.{Packet}
 use Rattle.packet.specs.Write.{limitOf, startOf, validOf}
 use Rattle.packet.specs.declared.writer.PayloadWriter.{PayloadWriter}
@@ -132,16 +134,12 @@ served-one b small r rs out i false e y j =
       left = λ z. rw (rest-answer b small r (out .written) (l .0)) (l .1);
     }
 
-pub not-whole : (x y : Bool) → (x || y) ≡ false → x ≡ false
-not-whole true y e = e
-not-whole false y e = refl
-
 served-right : (rs : List RetransmitRequest) (b : Book) → Small b → (p : PayloadWriter) (by : List ℕ) → validOf p (length by) ≡ true → ServedRight b (servedIn b rs p by)
 unfolding servedIn
 served-right [] b small p by v = record { valid = v; none = λ z. refl; left = λ z. absurd (let w : _≡_ {A = ℕ} 0 1 = cc in omega arith) }
 served-right (r ∷ rs) b small p by v =
     let i = row-right (answerIn b r) p by (answer-few b small r) v in
-    served-one b small r rs (rowOf p by (answerIn b r)) i (rowOf p by (answerIn b r) .whole || eqb (rowOf p by (answerIn b r) .payload .len) 0) (not-whole _ _) _
+    served-one b small r rs (rowOf p by (answerIn b r)) i (rowOf p by (answerIn b r) .whole || eqb (rowOf p by (answerIn b r) .payload .len) 0) (or-left _ _) _
     (served-right rs b small (rowOf p by (answerIn b r) .payload) (rowOf p by (answerIn b r) .bytes) (i .valid))
 
 -- ---- new commands
@@ -290,10 +288,10 @@ write-right : (c : ℕ) (cfg : StreamConfig) (now : ℕ) (b : Book) → Small b 
 unfolding writeIn writtenIn
 write-right c cfg now b small p by = on (checkOf cfg) (validOf p (length by)) refl
   where
-    on : (k : Check) (t : Bool) → validOf p (length by) ≡ t → WriteRight (tested k (refused b p by) (cond (not t) (refused b p by InvalidState) (writtenIn c cfg now b p by)))
-    on (CheckRefused why) t v = refused-right b p by why
-    on Passed false v = refused-right b p by InvalidState
-    on Passed true v = written-by c cfg now b small (servedIn b (b .waiting) p by) (served-right (b .waiting) b small p by v)
+    on : (k : Outcome) (t : Bool) → validOf p (length by) ≡ t → WriteRight (entry k t (refused b p by) (writtenIn c cfg now b p by))
+    on (Refused why) t v = refused-right b p by why
+    on Done false v = refused-right b p by InvalidState
+    on Done true v = written-by c cfg now b small (servedIn b (b .waiting) p by) (served-right (b .waiting) b small p by v)
 
 -- ---- what calls reach
 

@@ -6,11 +6,11 @@ use Prim.Native.Nat.{ℕ, zero, suc, _+_, _-_, _*_, _/_, _%_, _≤_, _<_, min}
 use native.Mathlib.Omega.{arith}
 use lib.Dec.{ltb, eqb}
 use lib.ListN.{length, take, drop, length-append, length-drop, length-take, drop-of-length-le}
+use Rattle.config.specs.Entry.{entry}
 use Rattle.config.specs.Sequence.{turn, after}
-use Rattle.config.specs.Settings.{checkOf, tested}
-use Rattle.config.specs.declared.settings.Check.{Check}
-use Rattle.config.specs.declared.settings.Check.the-variants.{Passed, Refused as CheckRefused}
-use Rattle.config.specs.declared.refusal.Refusal.the-variants.{InvalidState}
+use Rattle.config.specs.Settings.{checkOf}
+use Rattle.config.specs.declared.answer.Outcome.{Outcome}
+use Rattle.config.specs.declared.answer.Outcome.the-variants.{Done, Refused}
 use Rattle.config.specs.declared.settings.StreamConfig.{StreamConfig}
 use Rattle.config.specs.inner.Tests.{tests, lifts}
 use Rattle.packet.specs.Layout.{Packet, AllEncodable}
@@ -31,7 +31,7 @@ use Rattle.sender_log.specs.Writes.{dataFrom, writtenFrom, newIn, reachI
 use Rattle.sender_log.specs.Added.{itemsAdded, wholesIn, addedIn, opensNext, opensIn}
 use Rattle.sender_log.proofs.Packets.{take-data}
 use Rattle.sender_log.proofs.More.{Small, idled-short}
-use Rattle.sender_log.proofs.Choices.{by-cond}
+use Rattle.config.specs.inner.Choices.{by-cond}
 use Rattle.sender_log.proofs.Words.{length-kept, data-encodable, Book32, idled-32}
 use Rattle.sender_log.proofs.Added.{Appends, appends-more, row-appended, appends-added}
 use Rattle.sender_log.proofs.Counting.{answersIn, turnIn, owedIn, serves, encodable-take, answers-encodable, again-encodable}
@@ -226,7 +226,7 @@ module _ (c : ℕ) (cfg : StreamConfig) (now : ℕ) (b : Book) (small : Small b)
   unfolding writeIn
   write-opens = on (checkOf cfg) (validOf p (length by)) refl
     where
-      on : (k : Check) (t : Bool) → validOf p (length by) ≡ t → Opens (writtenCount b) p (tested k (refused b p by) (cond (not t) (refused b p by InvalidState) (writtenIn c cfg now b p by)))
-      on (CheckRefused why) t v = same-opens
-      on Passed false v = same-opens
-      on Passed true v = written-opens v
+      on : (k : Outcome) (t : Bool) → validOf p (length by) ≡ t → Opens (writtenCount b) p (entry k t (refused b p by) (writtenIn c cfg now b p by))
+      on (Refused why) t v = same-opens
+      on Done false v = same-opens
+      on Done true v = written-opens v

@@ -9,8 +9,8 @@ use Rattle.config.specs.Sequence.{turn, after}
 use Rattle.packet.specs.Layout.{Packet}
 use Rattle.packet.specs.Write.{writtenOf}
 use Rattle.packet.specs.declared.writer.PayloadWriter.{PayloadWriter}
-use Rattle.packet.specs.declared.writer.Write.{Write}
-use Rattle.packet.specs.declared.writer.Write.the-variants.{Done, Refused}
+use Rattle.config.specs.declared.answer.Outcome.{Outcome}
+use Rattle.config.specs.declared.answer.Outcome.the-variants.{Done, Refused}
 use Rattle.history.specs.Headers.{nextAt, headerAt, wordsFrom, entriesFrom}
 use Rattle.history.specs.Entries.{size, Holds}
 use Rattle.history.specs.Written.{dataPacket}
@@ -85,7 +85,7 @@ unfolding rowOf
 row-few [] p b = omega arith
 row-few (c ∷ cs) p b = by (writtenOf p b c .0 .answer) (row-few cs (writtenOf p b c .0 .payload) (writtenOf p b c .1))
   where
-    by : (w : Write) → rowOf (writtenOf p b c .0 .payload) (writtenOf p b c .1) cs .written ≤ length cs
+    by : (w : Outcome) → rowOf (writtenOf p b c .0 .payload) (writtenOf p b c .1) cs .written ≤ length cs
         → oneMore w (writtenOf p b c .0 .payload) (writtenOf p b c .1) (rowOf (writtenOf p b c .0 .payload) (writtenOf p b c .1) cs) .written ≤ suc (length cs)
     by Done l = omega arith
     by (Refused why) l = omega arith

@@ -8,14 +8,15 @@ use native.Mathlib.Omega.{arith}
 use native.Mathlib.Numerals.{add-one}
 use lib.Dec.{ltb, leb, eqb}
 use lib.ListN.{length, take, drop, length-append, take-append-drop}
+use Rattle.config.specs.Entry.{entry}
 use Rattle.config.specs.Range.{outside}
 use Rattle.config.specs.Refusals.{numberOf}
 use Rattle.config.specs.Sequence.{turn, after}
-use Rattle.config.specs.Settings.{checkOf, tested}
+use Rattle.config.specs.Settings.{checkOf}
 use Rattle.config.specs.declared.refusal.Refusal.{Refusal}
 use Rattle.config.specs.declared.refusal.Refusal.the-variants.{CommandWords, IdleInterval, IdleGrowth, InvalidState}
-use Rattle.config.specs.declared.settings.Check.{Check}
-use Rattle.config.specs.declared.settings.Check.the-variants.{Passed, Refused as CheckRefused}
+use Rattle.config.specs.declared.answer.Outcome.{Outcome}
+use Rattle.config.specs.declared.answer.Outcome.the-variants.{Done, Refused}
 use Rattle.config.specs.declared.settings.StreamConfig.{StreamConfig}
 use Rattle.config.specs.inner.Tests.{split, tests, lifts, and-left, ltb-not-leb}
 use Rattle.config.specs.Time.{later}
@@ -35,7 +36,6 @@ use Rattle.sender.specs.Commands.{front, behind, commandsOf}
 use Rattle.sender.specs.Queueing.{wordsCheck}
 use Rattle.sender.specs.Answers.{newAnswer}
 use Rattle.sender.specs.declared.sender.Sender.{Sender}
-use Rattle.sender.specs.declared.sender.Send.the-variants.{Accepted}
 use Rattle.sender.proofs.Fronts.{Divides, part-of, divides-behind, front-nil, commands-nil}
 use Rattle.sender.proofs.Parts.{front-behind, commands-parts}
 use Rattle.sender.proofs.Queued.{check-divides, settings-few}
@@ -53,7 +53,7 @@ use Rattle.sender_log.proofs.Newest.{size-joined as size-newest, joined
 use Rattle.sender_log.proofs.Idling.{size-none}
 use Rattle.sender_log.proofs.Packets.{take-data}
 use Rattle.sender_log.proofs.More.{Small, follows-small}
-use Rattle.sender_log.proofs.Choices.{by-check, by-cond}
+use Rattle.config.specs.inner.Choices.{by-check, by-cond}
 use Rattle.sender_log.proofs.Words.{length-kept, Book32, call-32, nothing-32}
 use Rattle.sender_log.proofs.Counting.{turnIn, owedIn, leftIn, left-none, serves, served-nothing}
 use Rattle.sender_log.proofs.Opening.{writtenCount, write-opens}
@@ -105,7 +105,7 @@ module _ (c : ℕ) where
   joined-agrees max xs b x i l r = grown-agrees b x i (length xs) (joinedLast (b .unwritten) xs) (size-joins max xs (b .unwritten) l) (omega (arith, size-joins max xs (b .unwritten) l))
 
   queued-agrees : (max : ℕ) (ws : List ℕ) (b : Book) (x : Past) → Agrees c b x → max ≤ 64 → Divides max ws → needIn max ws b + size (b .unwritten) ≤ c
-      → Agrees c (queuedIn c max ws b) (queuedOn x max ws Accepted)
+      → Agrees c (queuedIn c max ws b) (queuedOn x max ws Done)
   unfolding queuedIn joinedIn
   queued-agrees max ws b x i m d l =
       let n : ℕ = roomIn max (b .unwritten) in
@@ -117,7 +117,7 @@ module _ (c : ℕ) where
       (pushedAll-agrees (commandsOf max (behind n ws)) (joinedIn c (front n ws) b) (withOpen x (joinedLast (b .unwritten) (front n ws))) (joined-agrees max (front n ws) b x i (p .few) (omega arith))
       (omega (arith, q .0)))
 
-  nothing-queued : (b : Book) (x : Past) → Agrees c b x → (max : ℕ) (ws : List ℕ) → length ws ≡ 0 → Agrees c b (queuedOn x max ws Accepted)
+  nothing-queued : (b : Book) (x : Past) → Agrees c b x → (max : ℕ) (ws : List ℕ) → length ws ≡ 0 → Agrees c b (queuedOn x max ws Done)
   unfolding behind
   nothing-queued b x i max [] l = rw (front-nil, commands-nil, append-nil, joined-nothing) i
   nothing-queued b x i max (w ∷ ws) l = absurd (let z : ⊥ = omega arith in z)
@@ -328,17 +328,17 @@ pub requests-agree : (c : ℕ) (b : Book) (x : Past) → Agrees c b x → (rs : 
 requests-agree c b x i rs = record { unwritten = i .unwritten; fits = i .fits; written = i .written; first = i .first; waiting = refl; idle = i .idle }
 
 -- settings are never refused with 3
-check-kept : (cfg : StreamConfig) (why : Refusal) → checkOf cfg ≡ CheckRefused why → eqb (numberOf why) 3 ≡ false
+check-kept : (cfg : StreamConfig) (why : Refusal) → checkOf cfg ≡ Refused why → eqb (numberOf why) 3 ≡ false
 unfolding checkOf
 check-kept cfg why =
     by-cond Not3 (outside 1 64 (cfg .«max_command_words»)) _ _ (λ t e. other CommandWords refl e) (λ t.
     by-cond Not3 (outside 1 300 (cfg .«idle_interval_ms»)) _ _ (λ u e. other IdleInterval refl e) (λ u.
     by-cond Not3 (eqb (cfg .«idle_growth») 0) _ _ (λ v e. other IdleGrowth refl e) (λ v e. absurd (let z : _≡_ {A = ℕ} 0 1 = cc in omega arith))))
   where
-    Not3 : Check → Type 0
-    Not3 k = k ≡ CheckRefused why → eqb (numberOf why) 3 ≡ false
+    Not3 : Outcome → Type 0
+    Not3 k = k ≡ Refused why → eqb (numberOf why) 3 ≡ false
 
-    other : (w : Refusal) → eqb (numberOf w) 3 ≡ false → CheckRefused w ≡ CheckRefused why → eqb (numberOf why) 3 ≡ false
+    other : (w : Refusal) → eqb (numberOf w) 3 ≡ false → Refused w ≡ Refused why → eqb (numberOf why) 3 ≡ false
     other w f e = let g : w ≡ why = cc in subst (λ (v : Refusal). eqb (numberOf v) 3 ≡ false) g f
 
 module _ (c : ℕ) (some : 1 ≤ c) (b : Book) (small : Small b) (x : Past) (i : Agrees c b x) (cfg : StreamConfig) (now : ℕ) (p : PayloadWriter) (by : List ℕ) where
@@ -390,10 +390,10 @@ module _ (c : ℕ) (some : 1 ≤ c) (b : Book) (small : Small b) (x : Past) (i :
   unfolding writeIn
   write-agrees = by-tests (checkOf cfg) refl (payloadValid p (length by)) refl
     where
-      by-tests : (k : Check) → checkOf cfg ≡ k → (v : Bool) → payloadValid p (length by) ≡ v → Wrote (tested k (refused b p by) (cond (not v) (refused b p by InvalidState) (writtenIn c cfg now b p by)))
-      by-tests (CheckRefused why) e v f = kept-agrees why (check-kept cfg why e)
-      by-tests Passed e false f = kept-agrees InvalidState refl
-      by-tests Passed e true f = written-agrees f
+      by-tests : (k : Outcome) → checkOf cfg ≡ k → (v : Bool) → payloadValid p (length by) ≡ v → Wrote (entry k v (refused b p by) (writtenIn c cfg now b p by))
+      by-tests (Refused why) e v f = kept-agrees why (check-kept cfg why e)
+      by-tests Done e false f = kept-agrees InvalidState refl
+      by-tests Done e true f = written-agrees f
 
 -- ---- every list of calls
 

@@ -10,8 +10,8 @@ use lib.Seq.{getD-at}
 use lib.ListN.{length, length-append}
 use Rattle.config.specs.Settings.{checkOf, tested}
 use Rattle.config.specs.declared.settings.StreamConfig.{StreamConfig}
-use Rattle.config.specs.declared.settings.Check.{Check}
-use Rattle.config.specs.declared.settings.Check.the-variants.{Passed, Refused as CheckRefused}
+use Rattle.config.specs.declared.answer.Outcome.{Outcome}
+use Rattle.config.specs.declared.answer.Outcome.the-variants.{Done, Refused}
 use Rattle.config.specs.declared.refusal.Refusal.the-variants.{Full}
 use Rattle.history.specs.Headers.{lengthAt}
 use Rattle.history.specs.Entries.{size, Holds}
@@ -23,7 +23,6 @@ use Rattle.sender.specs.Commands.{behind as rest}
 use Rattle.sender.specs.Queueing.{roomOf, joining, further, needOf, joinedTo, queuedTo, sent, unsent, queuedOf, wordsCheck, placedOf, sentOf}
 use Rattle.sender.specs.Answers.{sendAnswer}
 use Rattle.sender.specs.declared.sender.Sender.{Sender}
-use Rattle.sender.specs.declared.sender.Send.the-variants.{Accepted, Refused}
 use Rattle.sender.specs.declared.sender.Sent.{Sent}
 use Rattle.sender.proofs.Validity.{valid-words}
 use Rattle.sender.proofs.Fronts.{Divides, divides-behind}
@@ -140,7 +139,7 @@ module _ (c q : ℕ) (s : Sender) (ring : List ℕ) (b : Book) (f : Follows c q 
     need-same = rw (room-same max)
 
     placed-follows : Divides max ws
-        → Sends (placedOf s ring max ws) (cond (ltb (c - size (b .unwritten)) (needIn max ws b)) (record { book = b; answer = Refused Full }) (record { book = queuedIn c max ws b; answer = Accepted }))
+        → Sends (placedOf s ring max ws) (cond (ltb (c - size (b .unwritten)) (needIn max ws b)) (record { book = b; answer = Refused Full }) (record { book = queuedIn c max ws b; answer = Done }))
     unfolding placedOf queuedOf queuedIn joined-book
     placed-follows d =
         let n : ltb (c - size (b .unwritten)) (needIn max ws b) ≡ ltb (s .history .size - s .«unsent_words») (needOf s ring max ws) = cc (f .words, f .unsent-words, need-same) in
@@ -148,7 +147,7 @@ module _ (c q : ℕ) (s : Sender) (ring : List ℕ) (b : Book) (f : Follows c q 
       where
         by : (t : Bool) → ltb (s .history .size - s .«unsent_words») (needOf s ring max ws) ≡ t
             → Sends (cond t (unsent s ring Full) (queuedOf s ring max ws))
-            (cond t (record { book = b; answer = Refused Full }) (record { book = pushedAllIn c (further s ring max ws) (joinedIn c (joining s ring max ws) b); answer = Accepted }))
+            (cond t (record { book = b; answer = Refused Full }) (record { book = pushedAllIn c (further s ring max ws) (joinedIn c (joining s ring max ws) b); answer = Done }))
         by true e = (f, refl)
         by false e = (queued-follows max ws few d (ltb-false _ _ e), refl)
 
@@ -160,12 +159,12 @@ module _ (c q : ℕ) (s : Sender) (ring : List ℕ) (b : Book) (f : Follows c q 
       placedIn : QueueIn
       placedIn =
           let max : ℕ = cfg .«max_command_words» in
-          cond (ltb (c - size (b .unwritten)) (needIn max ws b)) (record { book = b; answer = Refused Full }) (record { book = queuedIn c max ws b; answer = Accepted })
+          cond (ltb (c - size (b .unwritten)) (needIn max ws b)) (record { book = b; answer = Refused Full }) (record { book = queuedIn c max ws b; answer = Done })
 
-      by : (k : Check) → checkOf cfg ≡ k → (t : Bool) (w : Check) → wordsCheck (cfg .«max_command_words») ws ≡ w
-          → Sends (tested k (unsent s ring) (cond t (sent s Accepted, ring) (tested w (unsent s ring) (placedOf s ring (cfg .«max_command_words») ws))))
-          (tested k (λ why. record { book = b; answer = Refused why }) (cond t (record { book = b; answer = Accepted }) (tested w (λ why. record { book = b; answer = Refused why }) placedIn)))
-      by (CheckRefused why) e t w h = (f, refl)
-      by Passed e true w h = (f, refl)
-      by Passed e false (CheckRefused why) h = (f, refl)
-      by Passed e false Passed h = placed-follows (cfg .«max_command_words») ws (settings-few cfg e) (check-divides (cfg .«max_command_words») ws h)
+      by : (k : Outcome) → checkOf cfg ≡ k → (t : Bool) (w : Outcome) → wordsCheck (cfg .«max_command_words») ws ≡ w
+          → Sends (tested k (unsent s ring) (cond t (sent s Done, ring) (tested w (unsent s ring) (placedOf s ring (cfg .«max_command_words») ws))))
+          (tested k (λ why. record { book = b; answer = Refused why }) (cond t (record { book = b; answer = Done }) (tested w (λ why. record { book = b; answer = Refused why }) placedIn)))
+      by (Refused why) e t w h = (f, refl)
+      by Done e true w h = (f, refl)
+      by Done e false (Refused why) h = (f, refl)
+      by Done e false Done h = placed-follows (cfg .«max_command_words») ws (settings-few cfg e) (check-divides (cfg .«max_command_words») ws h)

@@ -9,8 +9,8 @@ use lib.Dec.{leb}
 use lib.ListN.{length, length-set}
 use Rattle.config.specs.Settings.{checkOf, tested}
 use Rattle.config.specs.declared.settings.StreamConfig.{StreamConfig}
-use Rattle.config.specs.declared.settings.Check.{Check}
-use Rattle.config.specs.declared.settings.Check.the-variants.{Passed, Refused as CheckRefused}
+use Rattle.config.specs.declared.answer.Outcome.{Outcome}
+use Rattle.config.specs.declared.answer.Outcome.the-variants.{Done, Refused}
 use Rattle.command.specs.declared.retransmit.RetransmitRequest.{RetransmitRequest}
 use Rattle.history.specs.Queue.{waiting, asks, behind, answered, pushAnswer}
 use Rattle.history.specs.declared.queue.Ignored.the-variants.{Pending, Full as NoPlace}
@@ -65,10 +65,10 @@ module _ (c q : ℕ) (s : Sender) (ring : List ℕ) (b : Book) (f : Follows c q 
   unfolding requestAnswer requestedIn requestedOf
   request-follows cfg r = rw (follows-valid c q s ring b f, absent-same c q s ring b f (r .seq)) (by (checkOf cfg) (cfg .retransmit) (absentIn b (r .seq)))
     where
-      by : (k : Check) (x y : Bool) → Asked
+      by : (k : Outcome) (x y : Bool) → Asked
           (tested k (requestRefused s) (cond (not x) (told s NotSupported) (cond y (told s (Error (notInBuffer s))) (queuedBy s (pushAnswer (s .queue) r)))))
           (tested k (λ why. record { book = b; outcome = RequestRefused why }) (cond (not x) (record { book = b; outcome = NotSupported }) (cond y (record { book = b; outcome = Error (errorIn b) }) (askedIn r))))
-      by (CheckRefused why) x y = (f, refl)
-      by Passed false y = (f, refl)
-      by Passed true true = (f, ap Error (error-same c q s ring b f))
-      by Passed true false = pushed-asked r
+      by (Refused why) x y = (f, refl)
+      by Done false y = (f, refl)
+      by Done true true = (f, ap Error (error-same c q s ring b f))
+      by Done true false = pushed-asked r

@@ -13,7 +13,7 @@ use Rattle.history.proofs.Entries.{holds-entries}
 use Rattle.sender.specs.State.{validOf, startOf}
 use Rattle.sender.specs.Answers.{nobody, notStarted, newAnswer, resetAnswer, sendAnswer, requestAnswer, deadlineAnswer, wantsAnswer, nextAnswer, writeAnswer}
 use Rattle.sender.specs.declared.sender.Sender.{Sender}
-use Rattle.sender.specs.declared.sender.Start.the-variants.{Done, Refused}
+use Rattle.config.specs.declared.answer.Outcome.the-variants.{Done, Refused}
 use Rattle.sender.specs.declared.sender.Started.{Started as StartAnswer}
 use Rattle.sender_log.specs.Book.{Book, nothing}
 use Rattle.sender_log.specs.Calls.{Call, queue-words, retransmit-request, write, Entry, queue-entry, request-entry, Step, stepOf, runFrom, run, Typed, AllTyped}

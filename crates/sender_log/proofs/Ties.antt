@@ -1,15 +1,14 @@
 -- The sender over ring and counters holds what the book says.
 use mathlib.Core.Path.{_≡_, refl, sym, ap, _∙_}
-use mathlib.Core.Bool.{Bool, true, false, cond, not, _||_}
+use mathlib.Core.Bool.{Bool, true, false, cond, not}
 use mathlib.Core.List.{List, _++_}
 use Prim.Native.Nat.{ℕ, zero, suc, _+_, _≤_}
 use native.Mathlib.Omega.{arith}
-use borrow.Author.Tests.{leb-true, eqb-true, not-false}
+use borrow.Author.Tests.{eqb-true, not-false}
 use lib.Dec.{leb, eqb}
 use lib.ListN.{length, length-append, replicate, length-replicate}
-use Rattle.config.specs.Range.{within, outside}
+use Rattle.config.specs.Range.{outside}
 use Rattle.config.specs.Sequence.{ahead}
-use Rattle.config.specs.inner.Tests.{and-left, and-right}
 use Rattle.command.specs.declared.retransmit.RetransmitRequest.{RetransmitRequest}
 use Rattle.history.specs.Entries.{size, Holds}
 use Rattle.history.specs.Queue.{Fit, blank, requests, waiting}
@@ -23,7 +22,9 @@ use Rattle.sender.specs.State.{validOf, fresh}
 use Rattle.sender.specs.Requests.{writtenCount, notWritten, notInBuffer, withQueue}
 use Rattle.sender.specs.Answers.{notStarted, newAnswer}
 use Rattle.sender.specs.declared.sender.Sender.{Sender}
-use Rattle.sender.specs.declared.sender.Start.the-variants.{Done}
+use Rattle.config.specs.declared.answer.Outcome.the-variants.{Done}
+use Rattle.config.specs.inner.Choices.{or-left, or-right}
+use Rattle.config.specs.inner.Ranges.{not-outside}
 use Rattle.sender.specs.declared.sender.Started.{Started}
 use Rattle.sender.proofs.Validity.{passes}
 use Rattle.sender_log.specs.Book.{Book, nothing, oldestIn, absentIn, errorIn, withWaiting}
@@ -108,14 +109,6 @@ start-taken : (t : Bool) (r : Started × List ℕ) (memory : List ℕ) → cond 
 start-taken true r memory e = absurd (let z : _≡_ {A = ℕ} 0 1 = cc in omega arith)
 start-taken false r memory e = refl
 
-or-left : (a b : Bool) → (a || b) ≡ false → a ≡ false
-or-left true b e = e
-or-left false b e = refl
-
-or-right : (a b : Bool) → (a || b) ≡ false → b ≡ false
-or-right true b e = cc
-or-right false b e = e
-
 fresh-follows : (c q : ℕ) → 65 ≤ c → c ≤ 32768 → 1 ≤ q → q ≤ 16 → Follows c q (fresh c q) (replicate c 0) nothing
 unfolding size
 fresh-follows c q l m o p = record {
@@ -136,17 +129,12 @@ fresh-follows c q l m o p = record {
   step = refl;
 }
 
-within-range : (l m n : ℕ) → outside l m n ≡ false → (l ≤ n) × (n ≤ m)
-within-range l m n e =
-    let w = not-false (within l m n) e in
-    (leb-true _ _ (and-left (leb l n) _ w), leb-true _ _ (and-right (leb l n) _ w))
-
 pub start-follows : (c q : ℕ) (memory : List ℕ) → newAnswer c q memory .0 .answer ≡ Done → Follows c q (newAnswer c q memory .0 .sender) (newAnswer c q memory .1) nothing
 unfolding newAnswer
 start-follows c q memory e =
     let t = start-taken _ _ memory e in
-    let w = within-range 65 32768 c (or-left _ _ t) in
+    let w = not-outside 65 32768 c (or-left _ _ t) in
     let u = or-right (outside 65 32768 c) _ t in
     let n : length memory ≡ c = eqb-true _ _ (not-false _ (or-left (not (eqb (length memory) c)) _ u)) in
-    let p = within-range 1 16 q (or-right (not (eqb (length memory) c)) _ u) in
+    let p = not-outside 1 16 q (or-right (not (eqb (length memory) c)) _ u) in
     rw (t, n) (fresh-follows c q (w .0) (w .1) (p .0) (p .1))

@@ -28,7 +28,7 @@ use Rattle.sender_log.specs.Past.{idledOn, withRequests, pastOf}
 use Rattle.sender_log.specs.Counted.{lastWritten, repeatsOn, wantedIn, Counted}
 use Rattle.sender_log.proofs.Rows.{sizes-append}
 use Rattle.sender_log.proofs.More.{Small, idled-short, follows-small}
-use Rattle.sender_log.proofs.Choices.{by-cond}
+use Rattle.config.specs.inner.Choices.{by-cond}
 use Rattle.sender_log.proofs.Words.{data-encodable, Book32, idled-32, book-32}
 use Rattle.sender_log.proofs.Counting.{turnIn, answersIn, owedIn, againBy, OutOf, serves, Behind, write-out, encodable-take, answers-encodable, written-encodable, counts}
 use Rattle.sender_log.proofs.Opened.{Agrees, answers-is, turn-is, last-is, new-is}

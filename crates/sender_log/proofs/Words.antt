@@ -27,7 +27,8 @@ use Rattle.sender_log.specs.Book.{Book, nothing, freed, pushedIn, pushed
 use Rattle.sender_log.specs.Writes.{dataFrom, newIn, isEmpty, idledBy, idledIn, writtenOn, WriteIn, newBy, newWritten, servedIn, writtenIn, writeIn}
 use Rattle.sender_log.specs.Calls.{Call, queue-words, retransmit-request, write, Typed, AllTyped}
 use Rattle.sender_log.specs.Answers.{toldOf, bookFrom, bookOf}
-use Rattle.sender_log.proofs.Choices.{by-check, by-cond}
+use Rattle.config.specs.inner.Choices.{by-check, by-cond}
+use Rattle.config.specs.inner.Entries.{entry-any}
 
 pub length-kept : (c need : ℕ) (es : List (List ℕ)) → length (kept c need es) ≤ length es
 unfolding kept
@@ -194,10 +195,9 @@ module _ (c : ℕ) where
   write-32 cfg now b p by i =
       let s = servedIn b (b .waiting) p by in
       let left : Book32 (withWaiting b (s .waiting)) = record { written = i .written; unwritten = i .unwritten } in
-      by-check Ok (checkOf cfg) _ _ (λ why. i) (λ passed.
-      by-cond Ok (not (payloadValid p (length by))) _ _ (λ invalid. i) (λ valid.
+      entry-any Ok _ _ (λ why. i) (checkOf cfg) (payloadValid p (length by)) (λ passed valid.
       by-cond Ok (s .more) _ _ (λ more. left) (λ all.
-      new-32 cfg now (s .commands) (idledIn c cfg now (withWaiting b (s .waiting))) (s .payload) (s .bytes) (idled-32 cfg now _ left))))
+      new-32 cfg now (s .commands) (idledIn c cfg now (withWaiting b (s .waiting))) (s .payload) (s .bytes) (idled-32 cfg now _ left)))
     where
       Ok : WriteIn → Type 0
       Ok a = Book32 (a .book)

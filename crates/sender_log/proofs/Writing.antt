@@ -7,13 +7,14 @@ use native.Mathlib.Omega.{arith}
 use lib.Dec.{eqb}
 use lib.ListN.{length, take, drop, length-append, length-drop, take-append-drop}
 use lib.Seq.{drop-at, take-all}
+use Rattle.config.specs.Entry.{entry}
 use Rattle.config.specs.Sequence.{after}
-use Rattle.config.specs.Settings.{checkOf, tested}
+use Rattle.config.specs.Settings.{checkOf}
 use Rattle.config.specs.Time.{later}
-use Rattle.config.specs.declared.refusal.Refusal.the-variants.{TooLarge, InvalidState}
+use Rattle.config.specs.declared.refusal.Refusal.the-variants.{TooLarge}
 use Rattle.config.specs.declared.settings.StreamConfig.{StreamConfig}
-use Rattle.config.specs.declared.settings.Check.{Check}
-use Rattle.config.specs.declared.settings.Check.the-variants.{Passed, Refused as CheckRefused}
+use Rattle.config.specs.declared.answer.Outcome.{Outcome}
+use Rattle.config.specs.declared.answer.Outcome.the-variants.{Done, Refused}
 use Rattle.packet.specs.Layout.{Packet}
 use Rattle.packet.specs.Write.{validOf as payloadValid}
 use Rattle.packet.specs.declared.writer.PayloadWriter.{PayloadWriter}
@@ -179,9 +180,9 @@ pub write-follows : (c q : ℕ) (s : Sender) (ring : List ℕ) (b : Book) → Fo
 unfolding writeAnswer writeIn
 write-follows c q s ring b f cfg typed now p by = rw (follows-valid c q s ring b f) (on (checkOf cfg) (payloadValid p (length by)))
   where
-    on : (k : Check) (v : Bool) → Writes c q ring b cfg typed now
-        (tested k (writeRefused s p by ring) (cond (not v) (writeRefused s p by ring InvalidState) (writtenBy s cfg now p by ring)))
-        (tested k (refusedIn b p by) (cond (not v) (refusedIn b p by InvalidState) (writtenIn c cfg now b p by)))
-    on (CheckRefused why) v = (f, refl, refl, refl)
-    on Passed false = (f, refl, refl, refl)
-    on Passed true = written-follows c q ring b cfg typed now s p by f
+    on : (k : Outcome) (v : Bool) → Writes c q ring b cfg typed now
+        (entry k v (writeRefused s p by ring) (writtenBy s cfg now p by ring))
+        (entry k v (refusedIn b p by) (writtenIn c cfg now b p by))
+    on (Refused why) v = (f, refl, refl, refl)
+    on Done false = (f, refl, refl, refl)
+    on Done true = written-follows c q ring b cfg typed now s p by f

@@ -17,8 +17,8 @@ use Rattle.idle.specs.declared.idle.IdleTimer.{IdleTimer}
 use Rattle.idle.specs.declared.idle.IdleTimer.the-variants.{Off}
 use Rattle.sender.specs.Commands.{front, behind, commandsOf}
 use Rattle.sender.specs.Queueing.{wordsCheck}
-use Rattle.sender.specs.declared.sender.Send.{Send}
-use Rattle.sender.specs.declared.sender.Send.the-variants.{Accepted, Refused}
+use Rattle.config.specs.declared.answer.Outcome.{Outcome}
+use Rattle.config.specs.declared.answer.Outcome.the-variants.{Done, Refused}
 use Rattle.sender.specs.declared.sender.RequestOutcome.{RequestOutcome}
 use Rattle.sender.specs.declared.sender.RequestOutcome.the-variants.{Queued, Ignored, Error, NotSupported, Refused as RequestRefused}
 
@@ -101,17 +101,17 @@ queuedIn c max ws b = pushedAllIn c (furtherIn max ws b) (joinedIn c (joiningIn 
 -- the answer, and what is held after it
 pub record QueueIn : Type 0 where
   pub book : Book
-  pub answer : Send
+  pub answer : Outcome
 
 -- 6 words and new headers exceed the history less unwritten words and their headers
 unfoldable pub sentIn : ℕ → Book → StreamConfig → List ℕ → QueueIn
 sentIn c b cfg ws =
     let max : ℕ = cfg .«max_command_words» in
     tested (checkOf cfg) (λ why. record { book = b; answer = Refused why })
-    (cond (eqb (length ws) 0) (record { book = b; answer = Accepted })
+    (cond (eqb (length ws) 0) (record { book = b; answer = Done })
     (tested (wordsCheck max ws) (λ why. record { book = b; answer = Refused why })
     (cond (ltb (c - size (b .unwritten)) (needIn max ws b)) (record { book = b; answer = Refused Full })
-    (record { book = queuedIn c max ws b; answer = Accepted }))))
+    (record { book = queuedIn c max ws b; answer = Done }))))
 
 -- ---- a received Retransmit Request
 

@@ -8,7 +8,7 @@ use Rattle.packet.specs.declared.writer.PayloadWriter.{PayloadWriter}
 use Rattle.command.specs.declared.retransmit.RetransmitRequest.{RetransmitRequest}
 use Rattle.sender.specs.Answers.{newAnswer, sendAnswer, requestAnswer, writeAnswer}
 use Rattle.sender.specs.declared.sender.Sender.{Sender}
-use Rattle.sender.specs.declared.sender.Send.{Send}
+use Rattle.config.specs.declared.answer.Outcome.{Outcome}
 use Rattle.sender.specs.declared.sender.RequestOutcome.{RequestOutcome}
 use Rattle.sender.specs.declared.sender.Writing.{Writing}
 
@@ -23,7 +23,7 @@ pub data Call : Type 0 where
 
 -- a call with its answer; of a write also the payload and the buffer after it
 pub data Entry : Type 0 where
-  queue-entry : StreamConfig → List ℕ → Send → Entry
+  queue-entry : StreamConfig → List ℕ → Outcome → Entry
   request-entry : StreamConfig → RetransmitRequest → RequestOutcome → Entry
   write-entry : StreamConfig → ℕ → PayloadWriter → List ℕ → Writing → PayloadWriter → List ℕ → Entry
 

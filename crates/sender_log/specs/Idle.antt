@@ -7,7 +7,7 @@ use mathlib.Core.List.{List, [], _∷_, _++_}
 use lib.ListN.{length, replicate}
 use Rattle.config.specs.Settings.{checkOf}
 use Rattle.config.specs.Time.{lastTime, later}
-use Rattle.config.specs.declared.settings.Check.the-variants.{Passed}
+use Rattle.config.specs.declared.answer.Outcome.the-variants.{Done}
 use Rattle.config.specs.declared.settings.StreamConfig.{StreamConfig}
 use Rattle.packet.specs.Write.{limitOf, startOf, validOf as payloadValid}
 use Rattle.packet.specs.declared.writer.PayloadWriter.{PayloadWriter}
@@ -48,7 +48,7 @@ duesIn (suc f) c cfg p by b = atDue (dueOf (b .idle)) (λ due. duesIn f c cfg p 
 abbrev pub IdleTimes : Type 0
 IdleTimes =
     (c : ℕ) (cfg : StreamConfig) (p : PayloadWriter) (by : List ℕ) (b : Book) (time f : ℕ)
-    → checkOf cfg ≡ Passed → payloadValid p (length by) ≡ true → startOf p + 4 ≤ limitOf p (length by)
+    → checkOf cfg ≡ Done → payloadValid p (length by) ≡ true → startOf p + 4 ≤ limitOf p (length by)
     → Short (b .written) → b .unwritten ≡ [] → b .waiting ≡ []
     → b .idle ≡ Waiting record { due = later time (cfg .«idle_interval_ms»); step = 0; interval = cfg .«idle_interval_ms» }
     → 2 + cfg .«fec_repeats» + cfg .«idle_further» ≤ f

@@ -14,8 +14,8 @@ use Rattle.command.specs.declared.retransmit.RetransmitRequest.{RetransmitReque
 use Rattle.history.specs.Entries.{size, entriesOf}
 use Rattle.history.specs.Queue.{waiting}
 use Rattle.sender.specs.Commands.{front, behind, commandsOf}
-use Rattle.sender.specs.declared.sender.Send.{Send}
-use Rattle.sender.specs.declared.sender.Send.the-variants.{Accepted, Refused}
+use Rattle.config.specs.declared.answer.Outcome.{Outcome}
+use Rattle.config.specs.declared.answer.Outcome.the-variants.{Done, Refused}
 use Rattle.sender.specs.declared.sender.RequestOutcome.{RequestOutcome}
 use Rattle.sender.specs.declared.sender.RequestOutcome.the-variants.{Queued, Ignored, Error, NotSupported, Refused as RequestRefused}
 use Rattle.sender.specs.declared.sender.Writing.{Writing}
@@ -33,9 +33,9 @@ use Rattle.sender_log.specs.Requests.{inTurn, leftAfter}
 -- ---- queue words
 
 -- Words join the newest unwritten command up to the set size, whole messages only, then open further commands.
-abbrev pub queuedOn : Past → ℕ → List ℕ → Send → Past
+abbrev pub queuedOn : Past → ℕ → List ℕ → Outcome → Past
 queuedOn x max ws (Refused why) = x
-queuedOn x max ws Accepted =
+queuedOn x max ws Done =
     let room : ℕ = roomIn max (x .unwritten) in
     record {
       written = x .written;

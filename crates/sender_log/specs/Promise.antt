@@ -1,7 +1,7 @@
 -- What holds of every list of calls on a fresh sender with a history of c words and q places for requests.
 use Prim.Native.Nat.{ℕ, _+_, _<_}
 use mathlib.Core.Path.{_≡_}
-use mathlib.Core.Bool.{true, false, cond, not}
+use mathlib.Core.Bool.{true, false}
 use mathlib.Core.List.{List, [], _∷_, _++_}
 use lib.ListN.{length}
 use Rattle.packet.specs.Layout.{Packet, sizeOf}
@@ -10,6 +10,7 @@ use Rattle.packet.specs.declared.writer.PayloadWriter.{PayloadWriter}
 use Rattle.command.specs.declared.retransmit.RetransmitRequest.{RetransmitRequest}
 use Rattle.history.specs.Entries.{size, entriesOf}
 use Rattle.history.specs.Queue.{waiting}
+use Rattle.config.specs.Entry.{entry}
 use Rattle.config.specs.Settings.{checkOf, tested}
 use Rattle.config.specs.declared.refusal.Refusal.{Refusal}
 use Rattle.config.specs.declared.refusal.Refusal.the-variants.{InvalidState}
@@ -20,10 +21,9 @@ use Rattle.sender.specs.Requests.{requestedOf, deadlineOf, wantsOf, nextOf}
 use Rattle.sender.specs.Writing.{writtenBy}
 use Rattle.sender.specs.Answers.{newAnswer, resetAnswer, sendAnswer, requestRefused, requestAnswer, deadlineAnswer, wantsAnswer, nextAnswer, writeRefused, writeAnswer}
 use Rattle.sender.specs.declared.sender.Sender.{Sender}
-use Rattle.sender.specs.declared.sender.Start.the-variants.{Done, Refused as StartRefused}
-use Rattle.sender.specs.declared.sender.Reset.the-variants.{Done as ResetDone, Refused as ResetRefused}
-use Rattle.sender.specs.declared.sender.Deadline.the-variants.{Refused as DeadlineRefused}
-use Rattle.sender.specs.declared.sender.Wants.the-variants.{Is, Refused as WantsRefused}
+use Rattle.config.specs.declared.answer.Outcome.the-variants.{Done, Refused}
+use Rattle.config.specs.declared.answer.Answered.the-variants.{Is, Refused as AnsweredRefused}
+use Rattle.config.specs.declared.answer.Deadline.the-variants.{Refused as DeadlineRefused}
 use Rattle.sender.specs.declared.sender.Next.the-variants.{Number, Refused as NextRefused}
 use Rattle.sender.specs.declared.sender.Writing.the-variants.{Written}
 use Rattle.sender_log.specs.Book.{Book, oldestIn, nothing}
@@ -51,11 +51,11 @@ pub record StateTaken (s : Sender) (ring : List ℕ) : Type 0 where
   pub retransmit-request : (cfg : StreamConfig) (r : RetransmitRequest) → requestAnswer s cfg ring r ≡ tested (checkOf cfg) (requestRefused s) (requestedOf s cfg r)
   pub write : (cfg : StreamConfig) (now : ℕ) (p : PayloadWriter) (by : List ℕ)
       → writeAnswer s cfg now p by ring
-      ≡ tested (checkOf cfg) (writeRefused s p by ring) (cond (not (payloadValid p (length by))) (writeRefused s p by ring InvalidState) (writtenBy s cfg now p by ring))
+      ≡ entry (checkOf cfg) (payloadValid p (length by)) (writeRefused s p by ring) (writtenBy s cfg now p by ring)
   pub deadline : deadlineAnswer s ring ≡ deadlineOf s
   pub wants : (now : ℕ) → wantsAnswer s ring now ≡ Is (wantsOf s now)
   pub next : nextAnswer s ring ≡ Number (nextOf s)
-  pub reset : resetAnswer s ring ≡ (record { sender = resetOf s ring .0; answer = ResetDone }, resetOf s ring .1)
+  pub reset : resetAnswer s ring ≡ (record { sender = resetOf s ring .0; answer = Done }, resetOf s ring .1)
 
 -- every call with settings that pass is refused with 13, and so is every call without
 pub record StateRefused (s : Sender) (ring : List ℕ) : Type 0 where
@@ -64,9 +64,9 @@ pub record StateRefused (s : Sender) (ring : List ℕ) : Type 0 where
   pub write : (cfg : StreamConfig) (now : ℕ) (p : PayloadWriter) (by : List ℕ)
       → writeAnswer s cfg now p by ring ≡ tested (checkOf cfg) (writeRefused s p by ring) (writeRefused s p by ring InvalidState)
   pub deadline : deadlineAnswer s ring ≡ DeadlineRefused InvalidState
-  pub wants : (now : ℕ) → wantsAnswer s ring now ≡ WantsRefused InvalidState
+  pub wants : (now : ℕ) → wantsAnswer s ring now ≡ AnsweredRefused InvalidState
   pub next : nextAnswer s ring ≡ NextRefused InvalidState
-  pub reset : resetAnswer s ring ≡ (record { sender = s; answer = ResetRefused InvalidState }, ring)
+  pub reset : resetAnswer s ring ≡ (record { sender = s; answer = Refused InvalidState }, ring)
 
 -- ---- "more"
 
@@ -110,7 +110,7 @@ NeverInvalid =
 
 -- a start that is refused leaves a sender that every call refuses, whatever history is lent
 abbrev pub NotStarted : Type 0
-NotStarted = (c q : ℕ) (memory : List ℕ) (why : Refusal) → newAnswer c q memory .0 .answer ≡ StartRefused why → (ring : List ℕ) → StateRefused (newAnswer c q memory .0 .sender) ring
+NotStarted = (c q : ℕ) (memory : List ℕ) (why : Refusal) → newAnswer c q memory .0 .answer ≡ Refused why → (ring : List ℕ) → StateRefused (newAnswer c q memory .0 .sender) ring
 
 -- each answer, and with it the whole log, is settled by the past calls
 pub record AnsweredIn (c q : ℕ) (memory : List ℕ) (calls : List Call) : Type 0 where

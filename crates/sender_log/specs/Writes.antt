@@ -5,10 +5,11 @@ use mathlib.Core.Bool.{Bool, true, false, cond, not, _||_}
 use mathlib.Core.List.{List, [], _∷_, _++_}
 use lib.ListN.{length, take, drop}
 use lib.Dec.{ltb, eqb}
+use Rattle.config.specs.Entry.{entry}
 use Rattle.config.specs.Sequence.{after}
-use Rattle.config.specs.Settings.{checkOf, tested}
+use Rattle.config.specs.Settings.{checkOf}
 use Rattle.config.specs.declared.refusal.Refusal.{Refusal}
-use Rattle.config.specs.declared.refusal.Refusal.the-variants.{TooLarge, InvalidState}
+use Rattle.config.specs.declared.refusal.Refusal.the-variants.{TooLarge}
 use Rattle.config.specs.declared.settings.StreamConfig.{StreamConfig}
 use Rattle.packet.specs.Layout.{Packet}
 use Rattle.packet.specs.Write.{validOf as payloadValid}
@@ -147,6 +148,4 @@ writtenIn c cfg now b p by =
 -- settings, then the payload
 unfoldable pub writeIn : ℕ → StreamConfig → ℕ → Book → PayloadWriter → List ℕ → WriteIn
 writeIn c cfg now b p by =
-    tested (checkOf cfg) (refused b p by)
-    (cond (not (payloadValid p (length by))) (refused b p by InvalidState)
-    (writtenIn c cfg now b p by))
+    entry (checkOf cfg) (payloadValid p (length by)) (refused b p by) (writtenIn c cfg now b p by)

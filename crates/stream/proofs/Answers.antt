@@ -11,31 +11,26 @@ use Rattle.config.specs.Settings.{checkOf}
 use Rattle.config.specs.declared.refusal.Refusal.{Refusal}
 use Rattle.config.specs.declared.refusal.Refusal.the-variants.{SizeNotAllowed, InvalidState}
 use Rattle.config.specs.declared.settings.StreamConfig.{StreamConfig}
-use Rattle.config.specs.declared.settings.Check.the-variants.{Passed, Refused as CheckRefused}
+use Rattle.config.specs.declared.answer.Outcome.the-variants.{Done, Refused}
+use Rattle.config.specs.declared.answer.Answered.the-variants.{Is, Refused as AnsweredRefused}
+use Rattle.config.specs.declared.answer.Deadline.{Deadline}
+use Rattle.config.specs.declared.answer.Deadline.the-variants.{At, Refused as DeadlineRefused}
 use Rattle.window.specs.Set.{maxWindow, setOf}
 use Rattle.window.specs.declared.set.Bits.{Bits}
 use Rattle.receiver.specs.Receiver as receiver
 use Rattle.receiver.specs.Answers.{newAnswer as newReceiver}
 use Rattle.receiver.specs.declared.receiver.Receiver.{Receiver}
 use Rattle.receiver.specs.declared.receiver.Start.the-variants.{Receiver as ReceiverStarted, Refused as ReceiverRefused}
-use Rattle.receiver.specs.declared.receiver.Deadline.{Deadline as ReceiverDeadline}
 use Rattle.sender.specs.State.{resetOf}
 use Rattle.sender.specs.Requests as sender
 use Rattle.sender.specs.Answers.{newAnswer as newSender, notStarted as senderNotStarted}
 use Rattle.sender.specs.declared.sender.Sender.{Sender}
-use Rattle.sender.specs.declared.sender.Start.the-variants.{Done as SenderDone, Refused as SenderRefused}
 use Rattle.sender.specs.declared.sender.Started.{Started as SenderStarted}
-use Rattle.sender.specs.declared.sender.Deadline.{Deadline as SenderDeadline}
 use Rattle.stream.specs.State.{validOf}
-use Rattle.stream.specs.Answers.{notStarted, newAnswer, resetAnswer, earlier, deadlineAnswer, wantsAnswer}
+use Rattle.stream.specs.Answers.{notStarted, newAnswer, resetRefused, resetAnswer, earlier, deadlineAnswer, wantsAnswer}
 use Rattle.stream.specs.declared.stream.DataStream.{DataStream}
-use Rattle.stream.specs.declared.stream.Start.the-variants.{Done, Refused as StartRefused}
 use Rattle.stream.specs.declared.stream.Started.{Started}
-use Rattle.stream.specs.declared.stream.Reset.the-variants.{Done as ResetDone, Refused as ResetRefused}
 use Rattle.stream.specs.declared.stream.WasReset.{WasReset}
-use Rattle.stream.specs.declared.stream.Deadline.{Deadline}
-use Rattle.stream.specs.declared.stream.Deadline.the-variants.{At, Refused as DeadlineRefused}
-use Rattle.stream.specs.declared.stream.Wants.the-variants.{Is, Refused as WantsRefused}
 
 -- ---- the starts of the two ends
 window-refused : (t : Bool) (why : Refusal) (x : Receiver) → cond t (ReceiverRefused SizeNotAllowed) (ReceiverStarted x) ≡ ReceiverRefused why → (t ≡ true) × (why ≡ SizeNotAllowed)
@@ -47,10 +42,10 @@ window-taken true x y e = absurd (let z : _≡_ {A = ℕ} 0 1 = cc in omega arit
 window-taken false x y e = (refl, cc)
 
 abbrev startedWith : Bool → Sender → List ℕ → List ℕ → SenderStarted × List ℕ
-startedWith t e ring zeroed = cond t (senderNotStarted, ring) (record { sender = e; answer = SenderDone }, zeroed)
+startedWith t e ring zeroed = cond t (senderNotStarted, ring) (record { sender = e; answer = Done }, zeroed)
 
 module _ (e : Sender) (ring zeroed after : List ℕ) (n : SenderStarted) where
-  sender-refused : (t : Bool) (why : Refusal) → (n, after) ≡ startedWith t e ring zeroed → n .answer ≡ SenderRefused why
+  sender-refused : (t : Bool) (why : Refusal) → (n, after) ≡ startedWith t e ring zeroed → n .answer ≡ Refused why
       → (t ≡ true) × (why ≡ SizeNotAllowed) × (after ≡ ring)
   sender-refused true why q a =
       let b = ap (λ (x : SenderStarted × List ℕ). x .0 .answer) q in
@@ -59,7 +54,7 @@ module _ (e : Sender) (ring zeroed after : List ℕ) (n : SenderStarted) where
       let b = ap (λ (x : SenderStarted × List ℕ). x .0 .answer) q in
       absurd (let z : _≡_ {A = ℕ} 0 1 = cc in omega arith)
 
-  sender-taken : (t : Bool) → (n, after) ≡ startedWith t e ring zeroed → n .answer ≡ SenderDone → (t ≡ false) × (n .sender ≡ e) × (after ≡ zeroed)
+  sender-taken : (t : Bool) → (n, after) ≡ startedWith t e ring zeroed → n .answer ≡ Done → (t ≡ false) × (n .sender ≡ e) × (after ≡ zeroed)
   sender-taken true q a =
       let b = ap (λ (x : SenderStarted × List ℕ). x .0 .answer) q in
       absurd (let z : _≡_ {A = ℕ} 0 1 = cc in omega arith)
@@ -67,7 +62,7 @@ module _ (e : Sender) (ring zeroed after : List ℕ) (n : SenderStarted) where
 
 -- ---- starting
 pub not-started : (why : Refusal) (n : SenderStarted) (b : Bits) → n ≡ senderNotStarted → b ≡ setOf 0
-    → record { stream = record { sender = n .sender; receiver = receiver.restOf false record { size = 0; highest = 65535; bits = b } }; answer = StartRefused why } ≡ notStarted why
+    → record { stream = record { sender = n .sender; receiver = receiver.restOf false record { size = 0; highest = 65535; bits = b } }; answer = Refused why } ≡ notStarted why
 not-started why n b e f = rw (e, f)
 
 module _ (cfg : StreamConfig) (window words places : ℕ) (ring : List ℕ) where
@@ -75,16 +70,16 @@ module _ (cfg : StreamConfig) (window words places : ℕ) (ring : List ℕ) wher
   wordsOut = outside 65 32768 words || (not (eqb (length ring) words) || outside 1 16 places)
 
   module _ (why : Refusal) (n : Started) (m : n ≡ notStarted why) where
-    pub new-settings : checkOf cfg ≡ CheckRefused why → (n, ring) ≡ newAnswer cfg window words places ring
+    pub new-settings : checkOf cfg ≡ Refused why → (n, ring) ≡ newAnswer cfg window words places ring
     unfolding newAnswer
     new-settings e = rw (e, m)
 
-    pub new-window : checkOf cfg ≡ Passed → newReceiver window ≡ ReceiverRefused why → (n, ring) ≡ newAnswer cfg window words places ring
+    pub new-window : checkOf cfg ≡ Done → newReceiver window ≡ ReceiverRefused why → (n, ring) ≡ newAnswer cfg window words places ring
     unfolding newAnswer newReceiver
     new-window e q = let w = window-refused (outside 1 maxWindow window) why _ q in rw (e, w .0, m, w .1)
 
-    pub new-sender : checkOf cfg ≡ Passed → (x : Receiver) → newReceiver window ≡ ReceiverStarted x
-        → (after : List ℕ) (t : SenderStarted) → (t, after) ≡ newSender words places ring → t .answer ≡ SenderRefused why
+    pub new-sender : checkOf cfg ≡ Done → (x : Receiver) → newReceiver window ≡ ReceiverStarted x
+        → (after : List ℕ) (t : SenderStarted) → (t, after) ≡ newSender words places ring → t .answer ≡ Refused why
         → (n, after) ≡ newAnswer cfg window words places ring
     unfolding newAnswer newReceiver newSender
     new-sender e x q after t f a =
@@ -92,8 +87,8 @@ module _ (cfg : StreamConfig) (window words places : ℕ) (ring : List ℕ) wher
         let v = sender-refused _ ring _ after t wordsOut why f a in
         rw (e, w .0, v .0, m, v .1, v .2)
 
-  pub new-done : checkOf cfg ≡ Passed → (x : Receiver) → newReceiver window ≡ ReceiverStarted x
-      → (after : List ℕ) (t : SenderStarted) → (t, after) ≡ newSender words places ring → t .answer ≡ SenderDone
+  pub new-done : checkOf cfg ≡ Done → (x : Receiver) → newReceiver window ≡ ReceiverStarted x
+      → (after : List ℕ) (t : SenderStarted) → (t, after) ≡ newSender words places ring → t .answer ≡ Done
       → _≡_ {A = Started × List ℕ} (record { stream = record { sender = t .sender; receiver = x }; answer = Done }, after) (newAnswer cfg window words places ring)
   unfolding newAnswer newReceiver newSender
   new-done e x q after t f a =
@@ -104,7 +99,7 @@ module _ (cfg : StreamConfig) (window words places : ℕ) (ring : List ℕ) wher
 -- ---- reset and questions
 module _ (d : DataStream) (ring : List ℕ) where
   module _ (v : validOf d ring ≡ false) where
-    pub reset-refused : _≡_ {A = WasReset × List ℕ} (record { stream = d; answer = ResetRefused InvalidState }, ring) (resetAnswer d ring)
+    pub reset-refused : resetRefused d ring InvalidState ≡ resetAnswer d ring
     unfolding resetAnswer
     reset-refused = rw v
 
@@ -112,20 +107,20 @@ module _ (d : DataStream) (ring : List ℕ) where
     unfolding deadlineAnswer
     deadline-refused = rw v
 
-    pub wants-refused : (time : ℕ) → WantsRefused InvalidState ≡ wantsAnswer d ring time
+    pub wants-refused : (time : ℕ) → AnsweredRefused InvalidState ≡ wantsAnswer d ring time
     unfolding wantsAnswer
     wants-refused time = rw v
 
   module _ (v : validOf d ring ≡ true) where
     pub reset-done : (e : Sender) (x : Receiver) (after : List ℕ) → (e, after) ≡ resetOf (d .sender) ring → x ≡ receiver.freshOf (d .receiver .window .size)
-        → _≡_ {A = WasReset × List ℕ} (record { stream = record { sender = e; receiver = x }; answer = ResetDone }, after) (resetAnswer d ring)
+        → _≡_ {A = WasReset × List ℕ} (record { stream = record { sender = e; receiver = x }; answer = Done }, after) (resetAnswer d ring)
     unfolding resetAnswer
     reset-done e x after q f =
         let one = ap (λ (y : Sender × List ℕ). y .0) q in
         let two = ap (λ (y : Sender × List ℕ). y .1) q in
         rw (v, one, two, f)
 
-    pub deadline-told : (a : ReceiverDeadline) (b : SenderDeadline) (t : Deadline) → a ≡ receiver.deadlineOf (d .receiver) → b ≡ sender.deadlineOf (d .sender)
+    pub deadline-told : (a : Deadline) (b : Deadline) (t : Deadline) → a ≡ receiver.deadlineOf (d .receiver) → b ≡ sender.deadlineOf (d .sender)
         → t ≡ earlier a b → t ≡ deadlineAnswer d ring
     unfolding deadlineAnswer
     deadline-told a b t e f g = rw (v, ← e, ← f) g
@@ -139,7 +134,7 @@ module _ (d : DataStream) (ring : List ℕ) where
     wants-sender time b q e = rw (v, q, e)
 
 -- ---- the earlier time
-pub earlier-of : (a a′ : ReceiverDeadline) (b b′ : SenderDeadline) → a ≡ a′ → b ≡ b′ → earlier a′ b′ ≡ earlier a b
+pub earlier-of : (a a′ : Deadline) (b b′ : Deadline) → a ≡ a′ → b ≡ b′ → earlier a′ b′ ≡ earlier a b
 earlier-of a a′ b b′ e f = rw (e, f)
 
 pub at-first : (t u : ℕ) → t < u → At t ≡ At (min t u)

@@ -5,7 +5,7 @@ use mathlib.Core.Bool.{true}
 use mathlib.Core.List.{List}
 use lib.ListN.{length}
 use Rattle.config.specs.Settings.{checkOf}
-use Rattle.config.specs.declared.settings.Check.the-variants.{Passed}
+use Rattle.config.specs.declared.answer.Outcome.the-variants.{Done}
 use Rattle.config.specs.declared.settings.StreamConfig.{StreamConfig}
 use Rattle.packet.specs.Write.{validOf as payloadValid}
 use Rattle.packet.specs.declared.writer.PayloadWriter.{PayloadWriter}
@@ -20,12 +20,12 @@ use Rattle.stream.specs.declared.stream.DataStream.{DataStream}
 use Rattle.stream.proofs.Validity.{valid-receiver, valid-sender}
 use Rattle.stream.proofs.Taking.{taken-valid}
 
-taken-called : (s : DataStream) (cfg : StreamConfig) (p : PayloadWriter) (b ring : List ℕ) → checkOf cfg ≡ Passed → validOf s ring ≡ true → payloadValid p (length b) ≡ true
+taken-called : (s : DataStream) (cfg : StreamConfig) (p : PayloadWriter) (b ring : List ℕ) → checkOf cfg ≡ Done → validOf s ring ≡ true → payloadValid p (length b) ≡ true
     → takenOf (s .receiver) cfg p b ≡ takeAnswer (s .receiver) cfg p b
 unfolding takeAnswer
 taken-called s cfg p b ring e v w = rw (e, valid-receiver s ring v, w)
 
-write-called : (s : DataStream) (cfg : StreamConfig) (p : PayloadWriter) (b ring : List ℕ) → checkOf cfg ≡ Passed → validOf s ring ≡ true → payloadValid p (length b) ≡ true
+write-called : (s : DataStream) (cfg : StreamConfig) (p : PayloadWriter) (b ring : List ℕ) → checkOf cfg ≡ Done → validOf s ring ≡ true → payloadValid p (length b) ≡ true
     → (now : ℕ) (t : Requested × List ℕ) → t ≡ takenOf (s .receiver) cfg p b
     → writtenBy (s .sender) cfg now (t .0 .payload) (t .1) ring ≡ writeAnswer (s .sender) cfg now (t .0 .payload) (t .1) ring
 unfolding writeAnswer

@@ -9,8 +9,10 @@ use Rattle.config.specs.Settings.{checkOf, tested}
 use Rattle.config.specs.declared.refusal.Refusal.{Refusal}
 use Rattle.config.specs.declared.refusal.Refusal.the-variants.{SizeNotAllowed, InvalidState}
 use Rattle.config.specs.declared.settings.StreamConfig.{StreamConfig}
-use Rattle.config.specs.declared.settings.Check.{Check}
-use Rattle.config.specs.declared.settings.Check.the-variants.{Passed, Refused as CheckRefused}
+use Rattle.config.specs.declared.answer.Outcome.{Outcome}
+use Rattle.config.specs.declared.answer.Outcome.the-variants.{Done, Refused}
+use Rattle.config.specs.declared.answer.Answered.the-variants.{Refused as AnsweredRefused}
+use Rattle.config.specs.declared.answer.Deadline.the-variants.{Refused as DeadlineRefused}
 use Rattle.packet.specs.declared.writer.PayloadWriter.{PayloadWriter}
 use Rattle.command.specs.declared.retransmit.RetransmitRequest.{RetransmitRequest}
 use Rattle.command.specs.declared.retransmit.RetransmitError.{RetransmitError}
@@ -23,32 +25,27 @@ use Rattle.receiver.specs.declared.receiver.StreamEvent.the-variants.{Refused a
 use Rattle.receiver.specs.declared.receiver.Request.the-variants.{Refused as TakeRefused}
 use Rattle.sender.specs.State.{validOf as senderValid}
 use Rattle.sender.specs.Answers as sender
-use Rattle.sender.specs.declared.sender.Send.the-variants.{Refused as SendRefused}
 use Rattle.sender.specs.declared.sender.RequestOutcome.the-variants.{Refused as RequestRefused}
 use Rattle.stream.specs.State.{validOf, fresh, nobody}
 use Rattle.stream.specs.Ends.{sendAnswer, requestAnswer, dataAnswer, errorAnswer, nakAnswer, pollAnswer, takeAnswer}
-use Rattle.stream.specs.Answers.{notStarted, sizesOut, newAnswer, resetAnswer, deadlineAnswer, wantsAnswer}
+use Rattle.stream.specs.Answers.{notStarted, sizesOut, newAnswer, resetRefused, resetAnswer, deadlineAnswer, wantsAnswer}
 use Rattle.stream.specs.Writing.{writeRefused, writeAnswer}
 use Rattle.stream.specs.declared.stream.DataStream.{DataStream}
-use Rattle.stream.specs.declared.stream.Start.the-variants.{Done, Refused as StartRefused}
 use Rattle.stream.specs.declared.stream.Started.{Started}
-use Rattle.stream.specs.declared.stream.Reset.the-variants.{Refused as ResetRefused}
-use Rattle.stream.specs.declared.stream.Deadline.the-variants.{Refused as DeadlineRefused}
-use Rattle.stream.specs.declared.stream.Wants.the-variants.{Refused as WantsRefused}
 
 -- each call answers 13, where it is given settings that pass, and changes nothing
 pub record Refuses (s : DataStream) : Type 0 where
-  pub reset : (ring : List ℕ) → resetAnswer s ring ≡ (record { stream = s; answer = ResetRefused InvalidState }, ring)
-  pub send : (cfg : StreamConfig) (ring ws : List ℕ) → checkOf cfg ≡ Passed → sendAnswer s cfg ring ws ≡ (record { stream = s; answer = SendRefused InvalidState }, ring)
-  pub request : (cfg : StreamConfig) (ring : List ℕ) (r : RetransmitRequest) → checkOf cfg ≡ Passed → requestAnswer s cfg ring r ≡ record { stream = s; outcome = RequestRefused InvalidState }
-  pub hear : (cfg : StreamConfig) (now seq : ℕ) → checkOf cfg ≡ Passed → dataAnswer s cfg now seq ≡ record { stream = s; answer = HearingRefused InvalidState }
+  pub reset : (ring : List ℕ) → resetAnswer s ring ≡ resetRefused s ring InvalidState
+  pub send : (cfg : StreamConfig) (ring ws : List ℕ) → checkOf cfg ≡ Done → sendAnswer s cfg ring ws ≡ (record { stream = s; answer = Refused InvalidState }, ring)
+  pub request : (cfg : StreamConfig) (ring : List ℕ) (r : RetransmitRequest) → checkOf cfg ≡ Done → requestAnswer s cfg ring r ≡ record { stream = s; outcome = RequestRefused InvalidState }
+  pub hear : (cfg : StreamConfig) (now seq : ℕ) → checkOf cfg ≡ Done → dataAnswer s cfg now seq ≡ record { stream = s; answer = HearingRefused InvalidState }
   pub error : (err : RetransmitError) → errorAnswer s err ≡ record { stream = s; event = EventRefused InvalidState }
   pub nak : nakAnswer s ≡ record { stream = s; event = EventRefused InvalidState }
-  pub poll : (cfg : StreamConfig) (now : ℕ) → checkOf cfg ≡ Passed → pollAnswer s cfg now ≡ record { stream = s; event = EventRefused InvalidState }
-  pub take : (cfg : StreamConfig) (p : PayloadWriter) (b : List ℕ) → checkOf cfg ≡ Passed → takeAnswer s cfg p b ≡ (record { stream = s; payload = p; answer = TakeRefused InvalidState }, b)
+  pub poll : (cfg : StreamConfig) (now : ℕ) → checkOf cfg ≡ Done → pollAnswer s cfg now ≡ record { stream = s; event = EventRefused InvalidState }
+  pub take : (cfg : StreamConfig) (p : PayloadWriter) (b : List ℕ) → checkOf cfg ≡ Done → takeAnswer s cfg p b ≡ (record { stream = s; payload = p; answer = TakeRefused InvalidState }, b)
   pub deadline : (ring : List ℕ) → deadlineAnswer s ring ≡ DeadlineRefused InvalidState
-  pub wants : (ring : List ℕ) (now : ℕ) → wantsAnswer s ring now ≡ WantsRefused InvalidState
-  pub write : (cfg : StreamConfig) (now : ℕ) (p : PayloadWriter) (b ring : List ℕ) → checkOf cfg ≡ Passed → writeAnswer s cfg now p b ring ≡ writeRefused s p b ring InvalidState
+  pub wants : (ring : List ℕ) (now : ℕ) → wantsAnswer s ring now ≡ AnsweredRefused InvalidState
+  pub write : (cfg : StreamConfig) (now : ℕ) (p : PayloadWriter) (b ring : List ℕ) → checkOf cfg ≡ Done → writeAnswer s cfg now p b ring ≡ writeRefused s p b ring InvalidState
 
 -- so does a stream both of whose ends the state test refuses
 module _ (s : DataStream) (r : receiverValid (s .receiver) ≡ false) (e : (ring : List ℕ) → senderValid (s .sender) ring ≡ false) where
@@ -75,18 +72,18 @@ unfolding receiverValid windowValid senderValid stateOk
 nobody-refuses = refuses nobody refl (λ ring. refl)
 
 -- a start that is refused, by the settings or by a size, hands back that stream
-abbrev startedOr : Check → Bool → List ℕ → Started × List ℕ → Started × List ℕ
+abbrev startedOr : Outcome → Bool → List ℕ → Started × List ℕ → Started × List ℕ
 startedOr k out ring done = tested k (λ (why : Refusal). (notStarted why, ring)) (cond out (notStarted SizeNotAllowed, ring) done)
 
-not-started : (k : Check) (out : Bool) (ring zeroed : List ℕ) (s : DataStream) (why : Refusal)
-    → startedOr k out ring (record { stream = s; answer = Done }, zeroed) .0 .answer ≡ StartRefused why
+not-started : (k : Outcome) (out : Bool) (ring zeroed : List ℕ) (s : DataStream) (why : Refusal)
+    → startedOr k out ring (record { stream = s; answer = Done }, zeroed) .0 .answer ≡ Refused why
     → Refuses (startedOr k out ring (record { stream = s; answer = Done }, zeroed) .0 .stream)
-not-started (CheckRefused w) out ring zeroed s why e = nobody-refuses
-not-started Passed true ring zeroed s why e = nobody-refuses
-not-started Passed false ring zeroed s why e = absurd (let z : _≡_ {A = ℕ} 0 1 = cc in omega arith)
+not-started (Refused w) out ring zeroed s why e = nobody-refuses
+not-started Done true ring zeroed s why e = nobody-refuses
+not-started Done false ring zeroed s why e = absurd (let z : _≡_ {A = ℕ} 0 1 = cc in omega arith)
 
 pub start-refused : (cfg : StreamConfig) (window words places : ℕ) (ring : List ℕ) (why : Refusal)
-    → newAnswer cfg window words places ring .0 .answer ≡ StartRefused why → Refuses (newAnswer cfg window words places ring .0 .stream)
+    → newAnswer cfg window words places ring .0 .answer ≡ Refused why → Refuses (newAnswer cfg window words places ring .0 .stream)
 unfolding newAnswer
 start-refused cfg window words places ring why e =
     not-started (checkOf cfg) (sizesOut window words places ring) ring (replicate (length ring) 0) (fresh window words places) why e

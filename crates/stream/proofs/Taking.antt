@@ -7,8 +7,8 @@ use lib.ListN.{length}
 use Rattle.config.specs.declared.settings.StreamConfig.{StreamConfig}
 use Rattle.packet.specs.Write.{validOf as payloadValid}
 use Rattle.packet.specs.declared.writer.PayloadWriter.{PayloadWriter}
-use Rattle.packet.specs.declared.writer.Write.{Write}
-use Rattle.packet.specs.declared.writer.Write.the-variants.{Done, Refused}
+use Rattle.config.specs.declared.answer.Outcome.{Outcome}
+use Rattle.config.specs.declared.answer.Outcome.the-variants.{Done, Refused}
 use Rattle.packet.proofs.Outcomes.{outcome, written-valid, written-length}
 use Rattle.command.specs.Write.{requestPacket}
 use Rattle.command.specs.declared.retransmit.RetransmitRequest.{RetransmitRequest}
@@ -23,7 +23,7 @@ module _ (r : Receiver) (cfg : StreamConfig) (p : PayloadWriter) (b : List ℕ) 
   abbrev Kept : Requested × List ℕ → Type 0
   Kept t = (payloadValid (t .0 .payload) (length b) ≡ true) × (length (t .1) ≡ length b)
 
-  taken-payload : (q : RetransmitRequest) (w : PayloadWriter) (a : Write) → takenBy r q w a .payload ≡ w
+  taken-payload : (q : RetransmitRequest) (w : PayloadWriter) (a : Outcome) → takenBy r q w a .payload ≡ w
   taken-payload q w Done = refl
   taken-payload q w (Refused why) = refl
 

@@ -1,15 +1,8 @@
 -- The ways out of a write.
 use mathlib.Core.Path.{_≡_, sym, ap}
-use mathlib.Core.Bool.{true, false}
 use mathlib.Core.List.{List}
 use Prim.Native.Nat.{ℕ}
-use lib.ListN.{length}
-use Rattle.config.specs.Settings.{checkOf}
-use Rattle.config.specs.declared.refusal.Refusal.{Refusal}
-use Rattle.config.specs.declared.refusal.Refusal.the-variants.{InvalidState}
 use Rattle.config.specs.declared.settings.StreamConfig.{StreamConfig}
-use Rattle.config.specs.declared.settings.Check.the-variants.{Passed, Refused as CheckRefused}
-use Rattle.packet.specs.Write.{validOf as payloadValid}
 use Rattle.packet.specs.declared.writer.PayloadWriter.{PayloadWriter}
 use Rattle.receiver.specs.Receiver.{takenOf}
 use Rattle.receiver.specs.declared.receiver.Request.{Request}
@@ -17,30 +10,14 @@ use Rattle.receiver.specs.declared.receiver.Requested.{Requested}
 use Rattle.sender.specs.Writing.{writtenBy}
 use Rattle.sender.specs.declared.sender.Writing.{Writing}
 use Rattle.sender.specs.declared.sender.Wrote.{Wrote as SenderWrote}
-use Rattle.stream.specs.State.{validOf, withSender, withReceiver}
-use Rattle.stream.specs.Writing.{writeRefused, countedAlso, sentAfter, afterRequest, dataWritten, writeAnswer}
+use Rattle.stream.specs.State.{withSender, withReceiver}
+use Rattle.stream.specs.Writing.{countedAlso, sentAfter, afterRequest, dataWritten, writeRefused, writeAnswer}
 use Rattle.stream.specs.declared.stream.DataStream.{DataStream}
+use Rattle.config.specs.Settings.{checkOf}
+use Rattle.config.specs.declared.refusal.Refusal.{Refusal}
+use Rattle.config.specs.declared.answer.Outcome.the-variants.{Refused}
 
--- ---- the entry point
 module _ (s : DataStream) (cfg : StreamConfig) (now : ℕ) (p : PayloadWriter) (b ring : List ℕ) where
-  pub write-settings : (why : Refusal) → checkOf cfg ≡ CheckRefused why → writeRefused s p b ring why ≡ writeAnswer s cfg now p b ring
-  unfolding writeAnswer
-  write-settings why e = rw e
-
-  module _ (e : checkOf cfg ≡ Passed) where
-    pub write-refused : validOf s ring ≡ false → writeRefused s p b ring InvalidState ≡ writeAnswer s cfg now p b ring
-    unfolding writeAnswer
-    write-refused v = rw (e, v)
-
-    module _ (v : validOf s ring ≡ true) where
-      pub write-payload : payloadValid p (length b) ≡ false → writeRefused s p b ring InvalidState ≡ writeAnswer s cfg now p b ring
-      unfolding writeAnswer
-      write-payload w = rw (e, v, w)
-
-      pub write-written : payloadValid p (length b) ≡ true → dataWritten s cfg now p b ring ≡ writeAnswer s cfg now p b ring
-      unfolding writeAnswer
-      write-written w = rw (e, v, w)
-
   -- ---- after the due request
   pub after-taken : (t : Requested) (bytes : List ℕ) → (t, bytes) ≡ takenOf (s .receiver) cfg p b → (a : Request) → t .answer ≡ a
       → afterRequest a (withReceiver s (t .receiver)) cfg now (t .payload) bytes ring ≡ dataWritten s cfg now p b ring
@@ -53,3 +30,8 @@ module _ (s : DataStream) (cfg : StreamConfig) (now : ℕ) (p : PayloadWriter) (
   unfolding sentAfter
   sent-after n w bytes next e a f =
       rw (← e) (ap (λ (x : Writing). (record { stream = withSender s (w .sender); payload = w .payload; answer = countedAlso n x }, bytes, next)) (sym f))
+
+  -- ---- the entry point
+  pub write-settings : (why : Refusal) → checkOf cfg ≡ Refused why → writeRefused s p b ring why ≡ writeAnswer s cfg now p b ring
+  unfolding writeAnswer
+  write-settings why e = rw e

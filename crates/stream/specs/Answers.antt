@@ -5,31 +5,27 @@ use mathlib.Core.List.{List}
 use lib.ListN.{length, replicate}
 use lib.Dec.{eqb}
 use Rattle.config.specs.Range.{outside}
+use Rattle.config.specs.Entry.{onState}
 use Rattle.config.specs.Settings.{checkOf, tested}
 use Rattle.config.specs.declared.refusal.Refusal.{Refusal}
-use Rattle.config.specs.declared.refusal.Refusal.the-variants.{SizeNotAllowed, InvalidState}
+use Rattle.config.specs.declared.refusal.Refusal.the-variants.{SizeNotAllowed}
 use Rattle.config.specs.declared.settings.StreamConfig.{StreamConfig}
 use Rattle.window.specs.Set.{maxWindow}
 use Rattle.receiver.specs.Receiver as receiver
-use Rattle.receiver.specs.declared.receiver.Deadline.{Deadline as ReceiverDeadline}
-use Rattle.receiver.specs.declared.receiver.Deadline.the-variants.{Nothing as NoRequest, At as RequestAt, Refused as ReceiverRefused}
+use Rattle.config.specs.declared.answer.Outcome.the-variants.{Done, Refused}
+use Rattle.config.specs.declared.answer.Answered.{Answered}
+use Rattle.config.specs.declared.answer.Answered.the-variants.{Is, Refused as AnsweredRefused}
+use Rattle.config.specs.declared.answer.Deadline.{Deadline}
+use Rattle.config.specs.declared.answer.Deadline.the-variants.{Nothing, At, Refused as DeadlineRefused}
 use Rattle.sender.specs.Requests as sender
-use Rattle.sender.specs.declared.sender.Deadline.{Deadline as SenderDeadline}
-use Rattle.sender.specs.declared.sender.Deadline.the-variants.{Nothing as NoIdle, At as IdleAt, Refused as SenderRefused}
 use Rattle.stream.specs.State.{validOf, fresh, nobody}
 use Rattle.stream.specs.declared.stream.DataStream.{DataStream}
-use Rattle.stream.specs.declared.stream.Start.the-variants.{Done, Refused as StartRefused}
 use Rattle.stream.specs.declared.stream.Started.{Started}
-use Rattle.stream.specs.declared.stream.Reset.the-variants.{Done as ResetDone, Refused as ResetRefused}
 use Rattle.stream.specs.declared.stream.WasReset.{WasReset}
-use Rattle.stream.specs.declared.stream.Deadline.{Deadline}
-use Rattle.stream.specs.declared.stream.Deadline.the-variants.{Nothing, At, Refused as DeadlineRefused}
-use Rattle.stream.specs.declared.stream.Wants.{Wants}
-use Rattle.stream.specs.declared.stream.Wants.the-variants.{Is, Refused as WantsRefused}
 
 -- ---- start and reset
 abbrev pub notStarted : Refusal → Started
-notStarted why = record { stream = nobody; answer = StartRefused why }
+notStarted why = record { stream = nobody; answer = Refused why }
 
 -- W isn't 1 to 128, the history isn't 65 to 32,768 words or not what is lent, or the ring isn't 1 to 16
 abbrev pub sizesOut : ℕ → ℕ → ℕ → List ℕ → Bool
@@ -43,30 +39,29 @@ newAnswer cfg window words places ring =
     (cond (sizesOut window words places ring) (notStarted SizeNotAllowed, ring)
     (record { stream = fresh window words places; answer = Done }, replicate (length ring) 0))
 
+abbrev pub resetRefused : DataStream → List ℕ → Refusal → WasReset × List ℕ
+resetRefused s ring why = (record { stream = s; answer = Refused why }, ring)
+
 -- back to a start with the same sizes
 unfoldable pub resetAnswer : DataStream → List ℕ → WasReset × List ℕ
 resetAnswer s ring =
-    cond (not (validOf s ring)) (record { stream = s; answer = ResetRefused InvalidState }, ring)
-    (record { stream = fresh (s .receiver .window .size) (s .sender .history .size) (s .sender .queue .size); answer = ResetDone }, replicate (length ring) 0)
+    onState (validOf s ring) (resetRefused s ring)
+    (record { stream = fresh (s .receiver .window .size) (s .sender .history .size) (s .sender .queue .size); answer = Done }, replicate (length ring) 0)
 
 -- ---- questions
 -- the earlier of the two ends' due times
-abbrev pub earlier : ReceiverDeadline → SenderDeadline → Deadline
-earlier (ReceiverRefused why) d = DeadlineRefused why
-earlier NoRequest NoIdle = Nothing
-earlier NoRequest (IdleAt b) = At b
-earlier NoRequest (SenderRefused why) = DeadlineRefused why
-earlier (RequestAt a) NoIdle = At a
-earlier (RequestAt a) (IdleAt b) = At (min a b)
-earlier (RequestAt a) (SenderRefused why) = DeadlineRefused why
+abbrev pub earlier : Deadline → Deadline → Deadline
+earlier (DeadlineRefused why) d = DeadlineRefused why
+earlier Nothing Nothing = Nothing
+earlier Nothing (At b) = At b
+earlier Nothing (DeadlineRefused why) = DeadlineRefused why
+earlier (At a) Nothing = At a
+earlier (At a) (At b) = At (min a b)
+earlier (At a) (DeadlineRefused why) = DeadlineRefused why
 
 unfoldable pub deadlineAnswer : DataStream → List ℕ → Deadline
-deadlineAnswer d ring =
-    cond (not (validOf d ring)) (DeadlineRefused InvalidState)
-    (earlier (receiver.deadlineOf (d .receiver)) (sender.deadlineOf (d .sender)))
+deadlineAnswer d ring = onState (validOf d ring) DeadlineRefused (earlier (receiver.deadlineOf (d .receiver)) (sender.deadlineOf (d .sender)))
 
 -- a request is due, or the sender has something to write
-unfoldable pub wantsAnswer : DataStream → List ℕ → ℕ → Wants
-wantsAnswer d ring now =
-    cond (not (validOf d ring)) (WantsRefused InvalidState)
-    (Is (d .receiver .«request_due» || sender.wantsOf (d .sender) now))
+unfoldable pub wantsAnswer : DataStream → List ℕ → ℕ → Answered
+wantsAnswer d ring now = onState (validOf d ring) AnsweredRefused (Is (d .receiver .«request_due» || sender.wantsOf (d .sender) now))

@@ -5,7 +5,7 @@ use mathlib.Core.Bool.{true}
 use mathlib.Core.List.{List}
 use lib.ListN.{length}
 use Rattle.config.specs.Settings.{checkOf}
-use Rattle.config.specs.declared.settings.Check.the-variants.{Passed}
+use Rattle.config.specs.declared.answer.Outcome.the-variants.{Done}
 use Rattle.config.specs.declared.settings.StreamConfig.{StreamConfig}
 use Rattle.packet.specs.Write.{validOf as payloadValid}
 use Rattle.packet.specs.declared.writer.PayloadWriter.{PayloadWriter}
@@ -26,4 +26,4 @@ pub record EndsCalled (s : DataStream) (cfg : StreamConfig) (p : PayloadWriter) 
 abbrev pub WriteCallsEnds : Type 0
 WriteCallsEnds =
     (s : DataStream) (cfg : StreamConfig) (p : PayloadWriter) (b ring : List ℕ)
-    → checkOf cfg ≡ Passed → validOf s ring ≡ true → payloadValid p (length b) ≡ true → EndsCalled s cfg p b ring
+    → checkOf cfg ≡ Done → validOf s ring ≡ true → payloadValid p (length b) ≡ true → EndsCalled s cfg p b ring

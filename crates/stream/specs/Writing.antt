@@ -2,12 +2,12 @@
 -- unwritten command, doesn't fit: in the second case a due request is dropped if requests are disabled or nothing is missing. Not fitting a nonempty payload is
 -- no refusal but "more".
 use Prim.Native.Nat.{ℕ, _+_}
-use mathlib.Core.Bool.{cond, true, not, _&&_}
+use mathlib.Core.Bool.{true, _&&_}
 use mathlib.Core.List.{List}
 use lib.ListN.{length}
-use Rattle.config.specs.Settings.{checkOf, tested}
+use Rattle.config.specs.Entry.{entry}
+use Rattle.config.specs.Settings.{checkOf}
 use Rattle.config.specs.declared.refusal.Refusal.{Refusal}
-use Rattle.config.specs.declared.refusal.Refusal.the-variants.{InvalidState}
 use Rattle.config.specs.declared.settings.StreamConfig.{StreamConfig}
 use Rattle.packet.specs.Write.{validOf as payloadValid}
 use Rattle.packet.specs.declared.writer.PayloadWriter.{PayloadWriter}
@@ -52,6 +52,4 @@ dataWritten s cfg now p b ring =
 
 unfoldable pub writeAnswer : DataStream → StreamConfig → ℕ → PayloadWriter → List ℕ → List ℕ → Wrote × List ℕ × List ℕ
 writeAnswer s cfg now p b ring =
-    tested (checkOf cfg) (writeRefused s p b ring)
-    (cond (not (validOf s ring && payloadValid p (length b))) (writeRefused s p b ring InvalidState)
-    (dataWritten s cfg now p b ring))
+    entry (checkOf cfg) (validOf s ring && payloadValid p (length b)) (writeRefused s p b ring) (dataWritten s cfg now p b ring)

@@ -8,8 +8,10 @@ use super::valid;
 use command::data::UmpData;
 use command::retransmit::RetransmitError;
 use command::retransmit::RetransmitRequest;
+use config::answer::Answered;
+use config::answer::Deadline;
+use config::answer::Outcome;
 use config::refusal::Refusal;
-use config::settings::Check;
 use config::settings::StreamConfig;
 use packet::writer::PayloadWriter;
 use receiver::receiver::Asked;
@@ -19,7 +21,6 @@ use receiver::receiver::Request;
 use receiver::receiver::StreamEvent;
 use receiver::receiver::Timer;
 use sender::sender::RequestOutcome;
-use sender::sender::Send;
 use sender::sender::Sender;
 use sender::sender::Writing;
 use window::set;
@@ -30,30 +31,20 @@ pub struct DataStream {
     pub receiver: Receiver,
 }
 
-pub enum Start {
-    Done,
-    Refused(Refusal),
-}
-
 // A fresh stream; where the start is refused, one that every call refuses.
 pub struct Started {
     pub stream: DataStream,
-    pub answer: Start,
-}
-
-pub enum Reset {
-    Done,
-    Refused(Refusal),
+    pub answer: Outcome,
 }
 
 pub struct WasReset {
     pub stream: DataStream,
-    pub answer: Reset,
+    pub answer: Outcome,
 }
 
 pub struct Sent {
     pub stream: DataStream,
-    pub answer: Send,
+    pub answer: Outcome,
 }
 
 pub struct Requested {
@@ -75,17 +66,6 @@ pub struct Taken {
     pub stream: DataStream,
     pub payload: PayloadWriter,
     pub answer: Request,
-}
-
-pub enum Deadline {
-    Nothing,
-    At(u64),
-    Refused(Refusal),
-}
-
-pub enum Wants {
-    Is(bool),
-    Refused(Refusal),
 }
 
 pub struct Wrote {
@@ -115,7 +95,7 @@ fn not_started(why: Refusal) -> Started
                 asked: Asked::Nothing,
             },
         },
-        answer: Start::Refused(why),
+        answer: Outcome::Refused(why),
     }
 }
 
@@ -144,18 +124,18 @@ impl DataStream {
         ensures { λ r. ⌜ (r, now (ring .exit)) ≡ newAnswer cfg window words places (now (ring .entry)) ⌝ }
     {
         match cfg.check() {
-            Check::Refused(why) => not_started(why),
-            Check::Passed => match Receiver::new(window) {
+            Outcome::Refused(why) => not_started(why),
+            Outcome::Done => match Receiver::new(window) {
                 receiver::receiver::Start::Refused(why) => not_started(why),
                 receiver::receiver::Start::Receiver(receiver) => {
                     let started = Sender::new(words, places, ring);
                     let sender = started.sender;
                     let answer = started.answer;
                     match answer {
-                        sender::sender::Start::Refused(why) => not_started(why),
-                        sender::sender::Start::Done => Started {
+                        Outcome::Refused(why) => not_started(why),
+                        Outcome::Done => Started {
                             stream: DataStream { sender, receiver },
-                            answer: Start::Done,
+                            answer: Outcome::Done,
                         },
                     }
                 }
@@ -175,12 +155,12 @@ impl DataStream {
                     sender: sender::valid::reset(sender, ring),
                     receiver: receiver::valid::reset(receiver),
                 },
-                answer: Reset::Done,
+                answer: Outcome::Done,
             };
         }
         WasReset {
             stream: self,
-            answer: Reset::Refused(Refusal::InvalidState),
+            answer: Outcome::Refused(Refusal::InvalidState),
         }
     }
 
@@ -294,18 +274,18 @@ impl DataStream {
     }
 
     // Whether `write_data` at this time has something to write.
-    pub fn wants_write(self, ring: &[u32], time: u64) -> Wants
+    pub fn wants_write(self, ring: &[u32], time: u64) -> Answered
         ensures { λ r. ⌜ r ≡ wantsAnswer self (now (ring .entry)) time ⌝ }
     {
         if valid::is_valid(self, ring) {
             let receiver = self.receiver;
             let sender = self.sender;
             if receiver.request_due {
-                return Wants::Is(true);
+                return Answered::Is(true);
             }
-            return Wants::Is(sender::valid::wants_write(sender, time));
+            return Answered::Is(sender::valid::wants_write(sender, time));
         }
-        Wants::Refused(Refusal::InvalidState)
+        Answered::Refused(Refusal::InvalidState)
     }
 
     // Writes into a payload: a due request, then the sender's commands. Where `more` is answered, the
@@ -321,12 +301,12 @@ impl DataStream {
         ensures { λ r. ⌜ (r, now (buf .exit), now (ring .exit)) ≡ writeAnswer self cfg time p (now (buf .entry)) (now (ring .entry)) ⌝ }
     {
         match cfg.check() {
-            Check::Refused(why) => Wrote {
+            Outcome::Refused(why) => Wrote {
                 stream: self,
                 payload: p,
                 answer: Writing::Refused(why),
             },
-            Check::Passed => {
+            Outcome::Done => {
                 let tested = valid::test(self, &ring[..], cfg.fec_repeats as usize);
                 if tested.ok {
                     if packet::valid::is_valid(p, buf.len()) {

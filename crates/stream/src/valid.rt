@@ -4,7 +4,7 @@ ghost use mathlib.Core.Bool.{true};
 ghost use Prim.Native.Nat.{_≤_};
 ghost use lib.ListN.{length};
 ghost use Rattle.config.specs.Settings.{checkOf};
-ghost use Rattle.config.specs.declared.settings.Check.the-variants.{Passed};
+ghost use Rattle.config.specs.declared.answer.Outcome.the-variants.{Done};
 ghost use Rattle.packet.specs.Write.{validOf as payloadValid};
 ghost use Rattle.history.specs.State.{Answers};
 ghost use Rattle.sender.specs.State.{validOf as senderValid};
@@ -13,8 +13,8 @@ ghost use Rattle.stream.specs.State.{validOf};
 ghost use Rattle.stream.specs.Answers.{earlier as earlierOf};
 ghost use Rattle.stream.specs.Writing.{sentAfter, dataWritten};
 use super::stream::DataStream;
-use super::stream::Deadline;
 use super::stream::Wrote;
+use config::answer::Deadline;
 use config::settings::StreamConfig;
 use history::history::Tested;
 use packet::writer::PayloadWriter;
@@ -48,20 +48,20 @@ pub fn test(s: DataStream, ring: &[u32], back: usize) -> Tested
 }
 
 // The earlier of the two ends' due times.
-pub fn earlier(a: receiver::receiver::Deadline, b: sender::sender::Deadline) -> Deadline
+pub fn earlier(a: Deadline, b: Deadline) -> Deadline
     ensures { λ r. ⌜ r ≡ earlierOf a b ⌝ }
 {
     match a {
-        receiver::receiver::Deadline::Refused(why) => Deadline::Refused(why),
-        receiver::receiver::Deadline::Nothing => match b {
-            sender::sender::Deadline::Refused(why) => Deadline::Refused(why),
-            sender::sender::Deadline::Nothing => Deadline::Nothing,
-            sender::sender::Deadline::At(t) => Deadline::At(t),
+        Deadline::Refused(why) => Deadline::Refused(why),
+        Deadline::Nothing => match b {
+            Deadline::Refused(why) => Deadline::Refused(why),
+            Deadline::Nothing => Deadline::Nothing,
+            Deadline::At(t) => Deadline::At(t),
         },
-        receiver::receiver::Deadline::At(t) => match b {
-            sender::sender::Deadline::Refused(why) => Deadline::Refused(why),
-            sender::sender::Deadline::Nothing => Deadline::At(t),
-            sender::sender::Deadline::At(u) => {
+        Deadline::At(t) => match b {
+            Deadline::Refused(why) => Deadline::Refused(why),
+            Deadline::Nothing => Deadline::At(t),
+            Deadline::At(u) => {
                 if t < u {
                     return Deadline::At(t);
                 }
@@ -82,7 +82,7 @@ fn write_after(
     ring: &mut [u32],
     place: usize,
 ) -> Wrote
-    requires { ⌜ (n ≤ 1) × (checkOf cfg ≡ Passed) × (senderValid (s .sender) (now ring) ≡ true) × (payloadValid p (length (now buf)) ≡ true) × AgainAt (s .sender) (now ring) (cfg .«fec_repeats») place ⌝ }
+    requires { ⌜ (n ≤ 1) × (checkOf cfg ≡ Done) × (senderValid (s .sender) (now ring) ≡ true) × (payloadValid p (length (now buf)) ≡ true) × AgainAt (s .sender) (now ring) (cfg .«fec_repeats») place ⌝ }
     ensures { λ r. ⌜ (r, now (buf .exit), now (ring .exit)) ≡ sentAfter n s cfg time p (now (buf .entry)) (now (ring .entry)) ⌝ }
 {
     let before = s.sender;
@@ -119,7 +119,7 @@ pub fn write_data(
     ring: &mut [u32],
     place: usize,
 ) -> Wrote
-    requires { ⌜ (checkOf cfg ≡ Passed) × (validOf s (now ring) ≡ true) × (payloadValid p (length (now buf)) ≡ true) × AgainAt (s .sender) (now ring) (cfg .«fec_repeats») place ⌝ }
+    requires { ⌜ (checkOf cfg ≡ Done) × (validOf s (now ring) ≡ true) × (payloadValid p (length (now buf)) ≡ true) × AgainAt (s .sender) (now ring) (cfg .«fec_repeats») place ⌝ }
     ensures { λ r. ⌜ (r, now (buf .exit), now (ring .exit)) ≡ dataWritten s cfg time p (now (buf .entry)) (now (ring .entry)) ⌝ }
 {
     let sender = s.sender;

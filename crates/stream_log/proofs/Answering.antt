@@ -1,14 +1,14 @@
 -- What each call answers is what the past calls of both ends say.
 use Prim.Native.Nat.{ℕ, suc, _≤_}
 use mathlib.Core.Path.{_≡_, refl, ap, _∙_}
-use mathlib.Core.Bool.{cond, not}
+use mathlib.Core.Bool.{not}
 use mathlib.Core.List.{List, [], _∷_}
 use native.Mathlib.Omega.{arith}
 use lib.Dec.{ltb, eqb}
 use lib.ListN.{length, replicate}
 use borrow.Author.Tests.{lt-ltb, ne-eqb}
-use Rattle.config.specs.Settings.{checkOf, tested}
-use Rattle.config.specs.declared.refusal.Refusal.the-variants.{InvalidState}
+use Rattle.config.specs.Entry.{entry}
+use Rattle.config.specs.Settings.{checkOf}
 use Rattle.config.specs.declared.settings.StreamConfig.{StreamConfig}
 use Rattle.packet.specs.Layout.{Packet}
 use Rattle.packet.specs.Write.{validOf as payloadValid}
@@ -37,7 +37,7 @@ use Rattle.stream.specs.Ends.{sendAnswer, requestAnswer, dataAnswer, errorAnswe
 use Rattle.stream.specs.Writing.{writeAnswer}
 use Rattle.stream.specs.declared.stream.DataStream.{DataStream}
 use Rattle.stream.specs.declared.stream.WasReset.{WasReset}
-use Rattle.stream.specs.declared.stream.Wants.the-variants.{Is}
+use Rattle.config.specs.declared.answer.Answered.the-variants.{Is}
 use Rattle.stream.specs.declared.stream.Wrote.{Wrote}
 use Rattle.stream_log.specs.Calls.{Call, send-ump, on-retransmit-request, on-ump-data, on-retransmit-error, on-retransmit-nak, poll, write-request, write-data, next-deadline, wants-write, reset, Entry, by-sender, by-receiver, wrote, deadline, wants, was-reset, stepOf, runFrom, run, Typed, AllTyped}
 use Rattle.stream_log.specs.Ends.{Ends, uncalled, endsAfter, endsOf}
@@ -83,7 +83,7 @@ module _ (W c q : ℕ) (memory : List ℕ) (least : 1 ≤ W) (most : W ≤ maxWi
 
     behind-says : (p : PayloadWriter) (b : List ℕ) (a : Request) (r : Receiver) (p₁ : PayloadWriter) (b₁ : List ℕ) → Took (s .receiver) cfg p b a r p₁ b₁
         → outOf (behindTake a (withReceiver s r) cfg now p₁ b₁ ring)
-        ≡ tested (checkOf cfg) (refusedOut p b) (cond (not (payloadValid p (length b))) (refusedOut p b InvalidState) (requestFirst c (bookOf c q (e .sent)) cfg now p b (wantedBy (s .receiver) cfg)))
+        ≡ entry (checkOf cfg) (payloadValid p (length b)) (refusedOut p b) (requestFirst c (bookOf c q (e .sent)) cfg now p b (wantedBy (s .receiver) cfg))
     behind-says p b a r p₁ b₁ (settings why k) = rw k
     behind-says p b a r p₁ b₁ (invalid k v) = rw (k, v)
     behind-says p b a r p₁ b₁ (too-large g x w l z) = rw (g .check, g .valid, w, l, z)
@@ -98,7 +98,7 @@ module _ (W c q : ℕ) (memory : List ℕ) (least : 1 ≤ W) (most : W ≤ maxWi
         let k = receiver-keeps W c q memory least most started s ring e i in
         ap outOf (write-joined s ring (both-valid W c q memory least most started s ring e i) cfg now p b)
         ∙ behind-says p b (t .0 .answer) (t .0 .receiver) (t .0 .payload) (t .1) (take-took (s .receiver) cfg p b (k .valid))
-        ∙ ap (λ (x : List Packet). tested (checkOf cfg) (refusedOut p b) (cond (not (payloadValid p (length b))) (refusedOut p b InvalidState) (requestFirst c (bookOf c q (e .sent)) cfg now p b x)))
+        ∙ ap (λ (x : List Packet). entry (checkOf cfg) (payloadValid p (length b)) (refusedOut p b) (requestFirst c (bookOf c q (e .sent)) cfg now p b x))
         (wanted-is W (s .receiver) (logOf W (e .received)) k cfg)
 
   -- ---- questions

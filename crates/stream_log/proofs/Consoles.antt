@@ -1,16 +1,16 @@
 -- A stream with its payloads is a stream on its calls, and its sender with the payloads is crate delivery's console on the calls that these count as.
 use Prim.Native.Nat.{ℕ, _≤_}
 use mathlib.Core.Path.{_≡_, refl, sym, ap, _∙_, subst}
-use mathlib.Core.Bool.{Bool, true, false, cond, not, _&&_}
+use mathlib.Core.Bool.{Bool, true, false, cond, _&&_}
 use mathlib.Core.List.{List, [], _∷_, _++_}
 use native.Mathlib.Omega.{arith}
 use lib.Dec.{ltb}
 use lib.ListN.{length, getD, set, replicate, length-set}
 use lib.Seq.{getD-set-same, set-getD, set-set}
-use Rattle.config.specs.Settings.{checkOf, tested}
-use Rattle.config.specs.declared.refusal.Refusal.the-variants.{InvalidState}
-use Rattle.config.specs.declared.settings.Check.{Check}
-use Rattle.config.specs.declared.settings.Check.the-variants.{Passed, Refused as CheckRefused}
+use Rattle.config.specs.Entry.{entry}
+use Rattle.config.specs.Settings.{checkOf}
+use Rattle.config.specs.declared.answer.Outcome.{Outcome}
+use Rattle.config.specs.declared.answer.Outcome.the-variants.{Done, Refused}
 use Rattle.config.specs.declared.settings.StreamConfig.{StreamConfig}
 use Rattle.config.specs.inner.Tests.{tests}
 use Rattle.packet.specs.Write.{validOf as payloadValid, openedOf}
@@ -26,7 +26,7 @@ use Rattle.receiver.specs.declared.receiver.Asked.the-variants.{Nothing as Unas
 use Rattle.receiver.specs.declared.receiver.Request.{Request}
 use Rattle.receiver.specs.declared.receiver.Request.the-variants.{Nothing as NotDue, Written as Taken, More as NoSpace, Refused as NotTaken}
 use Rattle.receiver_log.specs.Calls as Receiver
-use Rattle.receiver_log.proofs.Choices.{by-cond}
+use Rattle.config.specs.inner.Choices.{by-cond}
 use Rattle.receiver_log.proofs.Follows.{AskedOk}
 use Rattle.receiver_log.proofs.Runs.{run-ok as receiver-run}
 use Rattle.sender.specs.Answers as sender
@@ -179,12 +179,12 @@ module _ (W n q : ℕ) (memory : List ℕ) (least : 1 ≤ W) (most : W ≤ maxWi
   unfolding writeAnswer
   astray cfg now p b x = rw x (go (checkOf cfg) (validOf (c .stream) (c .ring)))
     where
-      go : (k : Check) (o : Bool)
-          → (let w = tested k (writeRefused (c .stream) p b (c .ring)) (cond (not (o && false)) (writeRefused (c .stream) p b (c .ring) InvalidState) (dataWritten (c .stream) cfg now p b (c .ring))) in
+      go : (k : Outcome) (o : Bool)
+          → (let w = entry k (o && false) (writeRefused (c .stream) p b (c .ring)) (dataWritten (c .stream) cfg now p b (c .ring)) in
           (w .0 .stream .sender ≡ c .stream .sender) × (w .2 ≡ c .ring))
-      go (CheckRefused why) o = (refl, refl)
-      go Passed true = (refl, refl)
-      go Passed false = (refl, refl)
+      go (Refused why) o = (refl, refl)
+      go Done true = (refl, refl)
+      go Done false = (refl, refl)
 
   stream-step : (call : Stream.Call) → Aside call → sendingEnd (stepOf c (on-stream call)) ≡ endFrom (sendingEnd c) (ofSender call)
   unfolding stepOf endFrom Stream.stepOf Delivery.stepOf sendAnswer requestAnswer dataAnswer errorAnswer nakAnswer pollAnswer takeAnswer

@@ -11,7 +11,7 @@ use lib.Seq.{take-all}
 use Rattle.config.specs.Settings.{checkOf}
 use Rattle.config.specs.declared.refusal.Refusal.{Refusal}
 use Rattle.config.specs.declared.refusal.Refusal.the-variants.{TooLarge, InvalidState}
-use Rattle.config.specs.declared.settings.Check.the-variants.{Passed}
+use Rattle.config.specs.declared.answer.Outcome.the-variants.{Done}
 use Rattle.config.specs.declared.settings.StreamConfig.{StreamConfig}
 use Rattle.config.specs.inner.Tests.{split, tests}
 use Rattle.packet.specs.Layout.{Packet, AllEncodable, Words32}
@@ -98,7 +98,7 @@ module _ (W c q : ℕ) (most : W ≤ maxWindow) (s : DataStream) (ring : List �
   sender-out : (p₁ : PayloadWriter) (b₁ : List ℕ) → (let w = sender.writeAnswer (s .sender) cfg now p₁ b₁ ring in Out (wantedIn c cfg now x′ p₁ b₁) p₁ b₁ (w .0 .answer) (w .0 .payload) (w .1))
   sender-out p₁ b₁ = let w = write-follows c q (s .sender) ring bk g cfg typed now p₁ b₁ in rw (w .1, w .2, w .3) (wanted-out c c-some cfg now bk small x′ agree p₁ b₁)
 
-  sender-taken : (p₁ : PayloadWriter) (b₁ : List ℕ) → checkOf cfg ≡ Passed → payloadValid p₁ (length b₁) ≡ true → (p₁ .len ≡ 0 → ⊥) → (why : Refusal)
+  sender-taken : (p₁ : PayloadWriter) (b₁ : List ℕ) → checkOf cfg ≡ Done → payloadValid p₁ (length b₁) ≡ true → (p₁ .len ≡ 0 → ⊥) → (why : Refusal)
       → sender.writeAnswer (s .sender) cfg now p₁ b₁ ring .0 .answer ≡ Refused why → ⊥
   sender-taken p₁ b₁ k v o why e =
       let w = write-follows c q (s .sender) ring bk g cfg typed now p₁ b₁ in

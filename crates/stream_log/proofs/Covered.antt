@@ -9,7 +9,7 @@ use lib.ListN.{length}
 use borrow.Author.Tests.{le-leb, eq-eqb, ne-eqb}
 use Rattle.config.specs.Range.{outside}
 use Rattle.config.specs.Settings.{checkOf}
-use Rattle.config.specs.declared.settings.Check.the-variants.{Passed}
+use Rattle.config.specs.declared.answer.Outcome.the-variants.{Done}
 use Rattle.config.specs.declared.settings.StreamConfig.{StreamConfig}
 use Rattle.packet.specs.Layout.{Words32}
 use Rattle.packet.specs.Write.{validOf as payloadValid}
@@ -84,20 +84,20 @@ in-range : (l m n : ℕ) → l ≤ n → n ≤ m → outside l m n ≡ false
 in-range l m n p q = rw (le-leb l n p, le-leb n m q)
 
 -- a command size of 1 to 64 words, an idle interval of 1 to 300 ms and any growth but 0: whatever the other settings are
-pub every-setting : (cfg : StreamConfig) → 1 ≤ cfg .«max_command_words» → cfg .«max_command_words» ≤ 64 → 1 ≤ cfg .«idle_interval_ms» → cfg .«idle_interval_ms» ≤ 300 → 1 ≤ cfg .«idle_growth» → checkOf cfg ≡ Passed
+pub every-setting : (cfg : StreamConfig) → 1 ≤ cfg .«max_command_words» → cfg .«max_command_words» ≤ 64 → 1 ≤ cfg .«idle_interval_ms» → cfg .«idle_interval_ms» ≤ 300 → 1 ≤ cfg .«idle_growth» → checkOf cfg ≡ Done
 unfolding checkOf
 every-setting cfg a b c d g =
     let z : eqb (cfg .«idle_growth») 0 ≡ false = ne-eqb (cfg .«idle_growth») 0 (λ e. let w : ⊥ = omega arith in w) in
     rw (le-leb 1 (cfg .«max_command_words») a, le-leb (cfg .«max_command_words») 64 b, le-leb 1 (cfg .«idle_interval_ms») c, le-leb (cfg .«idle_interval_ms») 300 d, z)
 
 -- a window of 1 to 128, a history of 65 to 32,768 words, 1 to 16 places for requests
-pub every-size : (cfg : StreamConfig) → checkOf cfg ≡ Passed → (W c q : ℕ) (memory : List ℕ) → 1 ≤ W → W ≤ 128 → 65 ≤ c → c ≤ 32768 → length memory ≡ c → 1 ≤ q → q ≤ 16 → Started cfg W c q memory
+pub every-size : (cfg : StreamConfig) → checkOf cfg ≡ Done → (W c q : ℕ) (memory : List ℕ) → 1 ≤ W → W ≤ 128 → 65 ≤ c → c ≤ 32768 → length memory ≡ c → 1 ≤ q → q ≤ 16 → Started cfg W c q memory
 unfolding newAnswer
 every-size cfg k W c q memory a b d f e g h =
     rw (k, le-leb 1 W a, le-leb W 128 b, le-leb 65 c d, le-leb c 32768 f, eq-eqb (length memory) c e, le-leb 1 q g, le-leb q 16 h)
 
 -- so each of them is an end of a line, with any calls
-pub every-end : (cfg : StreamConfig) → checkOf cfg ≡ Passed → (W c q : ℕ) (memory : List ℕ) → 1 ≤ W → W ≤ 128 → 65 ≤ c → c ≤ 32768 → length memory ≡ c → 1 ≤ q → q ≤ 16
+pub every-end : (cfg : StreamConfig) → checkOf cfg ≡ Done → (W c q : ℕ) (memory : List ℕ) → 1 ≤ W → W ≤ 128 → 65 ≤ c → c ≤ 32768 → length memory ≡ c → 1 ≤ q → q ≤ 16
     → (calls : List Call) → EachAllowed calls → End
 every-end cfg k W c q memory a b d f e g h calls l =
     record { settings = cfg; window = W; words = c; places = q; memory = memory; started = every-size cfg k W c q memory a b d f e g h; calls = calls; allowed = l }

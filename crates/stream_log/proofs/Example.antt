@@ -53,7 +53,7 @@ use Rattle.sender.specs.State.{validOf}
 use Rattle.sender.specs.Queueing.{roomOf, needOf, joinedTo, pushedAll, queuedTo, queuedOf, wordsCheck, placedOf, sentOf}
 use Rattle.sender.specs.Requests.{requestedOf}
 use Rattle.sender.specs.Writing.{servedIn, servedOf, idledOf, writtenOff, newOf, writtenBy}
-use Rattle.sender.specs.declared.sender.Send.the-variants.{Accepted}
+use Rattle.config.specs.declared.answer.Outcome.the-variants.{Done}
 use Rattle.sender.specs.declared.sender.Writing.{Writing}
 use Rattle.sender.specs.declared.sender.Writing.the-variants.{Written}
 use Rattle.sender_log.specs.Calls as Sender
@@ -136,8 +136,8 @@ one = Written record { commands = 1; more = false }
 abbrev sent : List Entry
 sent =
     wrote 2 empty withA one ∷ stood 2 empty ∷ noted
-    ∷ wrote 1 empty withB one ∷ queued plain B Accepted ∷ stood 1 empty
-    ∷ wrote 0 empty withA one ∷ queued plain A Accepted ∷ stood 0 empty
+    ∷ wrote 1 empty withB one ∷ queued plain B Done ∷ stood 1 empty
+    ∷ wrote 0 empty withA one ∷ queued plain A Done ∷ stood 0 empty
     ∷ []
 
 counted-log : logFrom (freshConsole 65 4 (zeros 65)) [] counted ≡ sent

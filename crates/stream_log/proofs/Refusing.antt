@@ -8,12 +8,13 @@ use lib.Dec.{ltb, leb, eqb}
 use lib.ListN.{length}
 use borrow.Author.Tests.{eqb-false}
 use Rattle.config.specs.Range.{outside}
-use Rattle.config.specs.Refusals.{numberOf}
+use Rattle.config.specs.Refusals.{numberOf, outcomeNumber}
 use Rattle.config.specs.Settings.{checkOf, tested}
 use Rattle.config.specs.declared.refusal.Refusal.{Refusal}
 use Rattle.config.specs.declared.refusal.Refusal.the-variants.{TooLarge, InvalidUmpData, IdleInterval, IdleGrowth, CommandWords}
-use Rattle.config.specs.declared.settings.Check.{Check}
-use Rattle.config.specs.declared.settings.Check.the-variants.{Passed, Refused as CheckRefused}
+use Rattle.config.specs.declared.answer.Outcome.{Outcome}
+use Rattle.config.specs.declared.answer.Outcome.the-variants.{Done, Refused}
+use Rattle.config.specs.declared.answer.Deadline.the-variants.{Nothing}
 use Rattle.config.specs.declared.settings.StreamConfig.{StreamConfig}
 use Rattle.config.specs.inner.Tests.{split}
 use Rattle.packet.specs.Layout.{Packet}
@@ -50,7 +51,6 @@ use Rattle.receiver_log.specs.Promise.{logOf}
 use Rattle.sender.specs.Commands.{above}
 use Rattle.sender.specs.Queueing.{wordsCheck}
 use Rattle.sender.specs.Requests.{dueAt}
-use Rattle.sender.specs.declared.sender.Deadline.the-variants.{Nothing as NoIdle}
 use Rattle.sender.specs.declared.sender.RequestOutcome.the-variants.{Queued, Ignored, Error, NotSupported}
 use Rattle.sender.specs.declared.sender.Writing.{Writing}
 use Rattle.sender.specs.declared.sender.Writing.the-variants.{Written, Refused as NotWritten}
@@ -60,7 +60,7 @@ use Rattle.sender_log.specs.Answers.{toldOf, bookOf}
 use Rattle.stream.specs.Answers.{earlier}
 use Rattle.stream.specs.Writing.{countedAlso}
 use Rattle.stream_log.specs.Calls.{Call, send-ump, on-retransmit-request, on-ump-data, on-retransmit-error, on-retransmit-nak, poll, write-request, write-data, next-deadline, wants-write, reset, Entry, by-receiver, run}
-use Rattle.stream_log.specs.Refusals.{sendNumber, requestNumber, hearingNumber, eventNumber, writeNumber, deadlineNumber, numberIn}
+use Rattle.stream_log.specs.Refusals.{requestNumber, hearingNumber, eventNumber, writeNumber, deadlineNumber, numberIn}
 use Rattle.stream_log.specs.Ends.{Ends, endsOf}
 use Rattle.stream_log.specs.Answers.{asCommand, requestFirst, requestWanted, writeOut, answerOf}
 use Rattle.stream_log.specs.Promise.{GivenValid, NeverInvalid}
@@ -79,11 +79,11 @@ other n t = eqb-false n 13 t
 none : Other 0
 none = other 0 refl
 
-data Tested (k : Check) : Type 0 where
-  passes : k ≡ Passed → Tested k
-  refuses : (why : Refusal) → k ≡ CheckRefused why → Other (numberOf why) → Tested k
+data Tested (k : Outcome) : Type 0 where
+  passes : k ≡ Done → Tested k
+  refuses : (why : Refusal) → k ≡ Refused why → Other (numberOf why) → Tested k
 
-check-tested : (o : Bool) (why : Refusal) (k : Check) → Other (numberOf why) → Tested k → Tested (cond o (CheckRefused why) k)
+check-tested : (o : Bool) (why : Refusal) (k : Outcome) → Other (numberOf why) → Tested k → Tested (cond o (Refused why) k)
 check-tested true why k f g = refuses why refl f
 check-tested false why k f g = g
 
@@ -91,15 +91,15 @@ settings-tested : (cfg : StreamConfig) → Tested (checkOf cfg)
 unfolding checkOf
 settings-tested cfg =
     check-tested (outside 1 64 (cfg .«max_command_words»)) CommandWords _ (other 9 refl)
-    (check-tested (outside 1 300 (cfg .«idle_interval_ms»)) IdleInterval _ (other 7 refl) (check-tested (eqb (cfg .«idle_growth») 0) IdleGrowth Passed (other 8 refl) (passes refl)))
+    (check-tested (outside 1 300 (cfg .«idle_interval_ms»)) IdleInterval _ (other 7 refl) (check-tested (eqb (cfg .«idle_growth») 0) IdleGrowth Done (other 8 refl) (passes refl)))
 
 words-tested : (max : ℕ) (ws : List ℕ) → Tested (wordsCheck max ws)
 unfolding wordsCheck
-words-tested max ws = check-tested (not (wholeOf ws)) InvalidUmpData _ (other 5 refl) (check-tested (above max ws) TooLarge Passed (other 3 refl) (passes refl))
+words-tested max ws = check-tested (not (wholeOf ws)) InvalidUmpData _ (other 5 refl) (check-tested (above max ws) TooLarge Done (other 3 refl) (passes refl))
 
 -- ---- the sender's calls
 
-send-other : (c : ℕ) (k : Book) (cfg : StreamConfig) (ws : List ℕ) → Other (sendNumber (sentIn c k cfg ws .answer))
+send-other : (c : ℕ) (k : Book) (cfg : StreamConfig) (ws : List ℕ) → Other (outcomeNumber (sentIn c k cfg ws .answer))
 unfolding sentIn
 send-other c k cfg ws = elim (settings-tested cfg) [
   | refuses why e h ↦ rw e h
@@ -221,7 +221,7 @@ module _ (c : ℕ) (k : Book) (cfg : StreamConfig) (now : ℕ) (p : PayloadWrite
     | passes e ↦ elim (split (dueIn W t && enabledIn t cfg)) [ inl o ↦ rw (e, v, o) (first-other (requestIn W (reports t))) | inr o ↦ rw (e, v, o) (first-other NoSpan) ]
   ]
 
-deadline-other : (t : Timer) (o : Bool) (i : IdleTimer) → Other (deadlineNumber (earlier (deadlineAt t) (cond o (dueAt i) NoIdle)))
+deadline-other : (t : Timer) (o : Bool) (i : IdleTimer) → Other (deadlineNumber (earlier (deadlineAt t) (cond o (dueAt i) Nothing)))
 deadline-other Stopped true Off = none
 deadline-other Stopped true (Waiting x) = none
 deadline-other Stopped false i = none

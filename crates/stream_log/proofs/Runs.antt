@@ -4,17 +4,18 @@ use mathlib.Core.Path.{_≡_, refl, sym, ap, _∙_, subst}
 use mathlib.Core.Bool.{Bool, true, false, cond, not, _||_}
 use mathlib.Core.List.{List, [], _∷_, _++_}
 use native.Mathlib.Omega.{arith}
-use lib.Dec.{eqb, leb}
+use lib.Dec.{eqb}
 use lib.ListN.{length, replicate}
-use borrow.Author.Tests.{leb-true, eqb-true, not-false}
-use Rattle.config.specs.Range.{within, outside}
+use borrow.Author.Tests.{eqb-true, not-false}
+use Rattle.config.specs.Entry.{entry}
+use Rattle.config.specs.Range.{outside}
 use Rattle.config.specs.Settings.{checkOf, tested}
 use Rattle.config.specs.declared.refusal.Refusal.{Refusal}
-use Rattle.config.specs.declared.refusal.Refusal.the-variants.{SizeNotAllowed, InvalidState}
-use Rattle.config.specs.declared.settings.Check.{Check}
-use Rattle.config.specs.declared.settings.Check.the-variants.{Passed, Refused as CheckRefused}
+use Rattle.config.specs.declared.refusal.Refusal.the-variants.{SizeNotAllowed}
+use Rattle.config.specs.declared.answer.Outcome.{Outcome}
+use Rattle.config.specs.declared.answer.Outcome.the-variants.{Done, Refused}
+use Rattle.config.specs.declared.answer.Answered.the-variants.{Is}
 use Rattle.config.specs.declared.settings.StreamConfig.{StreamConfig}
-use Rattle.config.specs.inner.Tests.{and-left, and-right}
 use Rattle.packet.specs.Write.{validOf as payloadValid}
 use Rattle.packet.specs.declared.writer.PayloadWriter.{PayloadWriter}
 use Rattle.window.specs.Set.{maxWindow}
@@ -28,13 +29,13 @@ use Rattle.receiver_log.specs.Calls as Receiver
 use Rattle.receiver_log.specs.Log.{reports}
 use Rattle.receiver_log.specs.Promise.{logOf}
 use Rattle.receiver_log.specs.Promise as Received
-use Rattle.receiver_log.proofs.Choices.{or-left, or-right}
+use Rattle.config.specs.inner.Choices.{or-left, or-right}
+use Rattle.config.specs.inner.Ranges.{not-outside}
 use Rattle.receiver_log.proofs.Runs.{reached as receiver-reached, never-invalid as receiver-never-invalid, receiver-promise, missing-from-to}
 use Rattle.sender.specs.State.{fresh as freshSender}
 use Rattle.sender.specs.Answers as sender
 use Rattle.sender.specs.Requests.{deadlineOf as senderDeadline, wantsOf}
 use Rattle.sender.specs.declared.sender.Sender.{Sender}
-use Rattle.sender.specs.declared.sender.Start.the-variants.{Done as SenderDone}
 use Rattle.sender.proofs.Validity.{valid-good}
 use Rattle.sender_log.specs.Promise as Sent
 use Rattle.sender_log.specs.Past.{pastOf, HeldIn}
@@ -47,10 +48,7 @@ use Rattle.stream.specs.Answers.{notStarted, newAnswer, resetAnswer, earlier, d
 use Rattle.stream.specs.Ends.{sendAnswer, requestAnswer, dataAnswer, errorAnswer, nakAnswer, pollAnswer, takeAnswer}
 use Rattle.stream.specs.Writing.{writeRefused, dataWritten, writeAnswer}
 use Rattle.stream.specs.declared.stream.DataStream.{DataStream}
-use Rattle.stream.specs.declared.stream.Reset.the-variants.{Done as ResetDone}
-use Rattle.stream.specs.declared.stream.Start.the-variants.{Done}
 use Rattle.stream.specs.declared.stream.Started.{Started as StartAnswer}
-use Rattle.stream.specs.declared.stream.Wants.the-variants.{Is}
 use Rattle.stream.specs.declared.stream.WasReset.{WasReset}
 use Rattle.stream.proofs.Validity.{test-sender}
 use Rattle.stream_log.specs.Calls.{Call, send-ump, on-retransmit-request, on-ump-data, on-retransmit-error, on-retransmit-nak, poll, write-request, write-data, next-deadline, wants-write, reset, Entry, stepOf, runFrom, run, Typed, AllTyped}
@@ -61,11 +59,6 @@ use Rattle.stream_log.proofs.Writing.{behindTake, write-joined}
 
 -- ---- a start
 
-within-range : (l m n : ℕ) → outside l m n ≡ false → (l ≤ n) × (n ≤ m)
-within-range l m n e =
-    let w = not-false (within l m n) e in
-    (leb-true _ _ (and-left (leb l n) _ w), leb-true _ _ (and-right (leb l n) _ w))
-
 abbrev sizesOut : ℕ → ℕ → List ℕ → Bool
 sizesOut c q memory = outside 65 32768 c || (not (eqb (length memory) c) || outside 1 16 q)
 
@@ -73,7 +66,7 @@ sizesOut c q memory = outside 65 32768 c || (not (eqb (length memory) c) || outs
 pub record StartIs (W c q : ℕ) (memory : List ℕ) (x : StartAnswer × List ℕ) : Type 0 where
   pub least : 1 ≤ W
   pub most : W ≤ maxWindow
-  pub started : sender.newAnswer c q memory .0 .answer ≡ SenderDone
+  pub started : sender.newAnswer c q memory .0 .answer ≡ Done
   pub stream-is : fresh W c q ≡ x .0 .stream
   pub ring-is : replicate c 0 ≡ x .1
   pub sender-is : freshSender c q ≡ sender.newAnswer c q memory .0 .sender
@@ -86,14 +79,14 @@ start-is cfg W c q memory e = by (checkOf cfg) (outside 1 maxWindow W) refl (siz
     ready : StartAnswer × List ℕ
     ready = (record { stream = fresh W c q; answer = Done }, replicate (length memory) 0)
 
-    by : (k : Check) (t : Bool) → outside 1 maxWindow W ≡ t → (o : Bool) → sizesOut c q memory ≡ o
+    by : (k : Outcome) (t : Bool) → outside 1 maxWindow W ≡ t → (o : Bool) → sizesOut c q memory ≡ o
         → tested k (λ (why : Refusal). (notStarted why, memory)) (cond (t || o) (notStarted SizeNotAllowed, memory) ready) .0 .answer ≡ Done
         → StartIs W c q memory (tested k (λ (why : Refusal). (notStarted why, memory)) (cond (t || o) (notStarted SizeNotAllowed, memory) ready))
-    by (CheckRefused why) t f o g e = absurd (let z : _≡_ {A = ℕ} 0 1 = cc in omega arith)
-    by Passed true f o g e = absurd (let z : _≡_ {A = ℕ} 0 1 = cc in omega arith)
-    by Passed false f true g e = absurd (let z : _≡_ {A = ℕ} 0 1 = cc in omega arith)
-    by Passed false f false g e =
-        let w = within-range 1 maxWindow W f in
+    by (Refused why) t f o g e = absurd (let z : _≡_ {A = ℕ} 0 1 = cc in omega arith)
+    by Done true f o g e = absurd (let z : _≡_ {A = ℕ} 0 1 = cc in omega arith)
+    by Done false f true g e = absurd (let z : _≡_ {A = ℕ} 0 1 = cc in omega arith)
+    by Done false f false g e =
+        let w = not-outside 1 maxWindow W f in
         let l : length memory ≡ c = eqb-true (length memory) c (not-false (eqb (length memory) c) (or-left _ _ (or-right (outside 65 32768 c) _ g))) in
         record { least = w .0; most = w .1; started = rw g; stream-is = refl; ring-is = rw l; sender-is = rw g; history-is = rw (g, l) }
 
@@ -204,7 +197,7 @@ module _ (W c q : ℕ) (memory : List ℕ) where
       }
 
       -- a reset is a start with the same sizes
-      pub reset-is : resetAnswer s ring ≡ (record { stream = fresh W c q; answer = ResetDone }, replicate c 0)
+      pub reset-is : resetAnswer s ring ≡ (record { stream = fresh W c q; answer = Done }, replicate c 0)
       unfolding resetAnswer
       reset-is =
           let l : length ring ≡ c = valid-good (s .sender) ring (sender-keeps .valid) .ring ∙ sender-keeps .words in
@@ -212,7 +205,7 @@ module _ (W c q : ℕ) (memory : List ℕ) where
 
       write-tested : (cfg : StreamConfig) (now : ℕ) (p : PayloadWriter) (b : List ℕ)
           → writeAnswer s cfg now p b ring
-          ≡ tested (checkOf cfg) (writeRefused s p b ring) (cond (not (payloadValid p (length b))) (writeRefused s p b ring InvalidState) (dataWritten s cfg now p b ring))
+          ≡ entry (checkOf cfg) (payloadValid p (length b)) (writeRefused s p b ring) (dataWritten s cfg now p b ring)
       unfolding writeAnswer
       write-tested cfg now p b = rw both-valid
 

@@ -7,11 +7,12 @@ use mathlib.Core.List.{List, [], _∷_}
 use native.Mathlib.Omega.{arith}
 use lib.Dec.{ltb, eqb}
 use lib.ListN.{length}
-use Rattle.config.specs.Settings.{checkOf, tested}
+use Rattle.config.specs.Entry.{entry}
+use Rattle.config.specs.Settings.{checkOf}
 use Rattle.config.specs.declared.refusal.Refusal.{Refusal}
 use Rattle.config.specs.declared.refusal.Refusal.the-variants.{TooLarge, InvalidState}
-use Rattle.config.specs.declared.settings.Check.{Check}
-use Rattle.config.specs.declared.settings.Check.the-variants.{Passed, Refused as CheckRefused}
+use Rattle.config.specs.declared.answer.Outcome.{Outcome}
+use Rattle.config.specs.declared.answer.Outcome.the-variants.{Done, Refused}
 use Rattle.config.specs.declared.settings.StreamConfig.{StreamConfig}
 use Rattle.config.specs.inner.Tests.{split, tests}
 use Rattle.packet.specs.Layout.{Packet, sizeOf}
@@ -51,7 +52,7 @@ none-wanted r cfg e = ap (λ (d : Bool). cond (d && enabledOf r cfg) (asCommand 
 
 -- settings and payload that pass their tests
 pub record Passing (cfg : StreamConfig) (p : PayloadWriter) (b : List ℕ) : Type 0 where
-  pub check : checkOf cfg ≡ Passed
+  pub check : checkOf cfg ≡ Done
   pub valid : payloadValid p (length b) ≡ true
 
 -- a command doesn't fit
@@ -60,8 +61,8 @@ left p b c = ltb (limitOf p (length b)) (startOf p + sizeOf c)
 
 -- answer, receiver, payload and its bytes
 pub data Took (r : Receiver) (cfg : StreamConfig) (p : PayloadWriter) (b : List ℕ) : Request → Receiver → PayloadWriter → List ℕ → Type 0 where
-  settings : (why : Refusal) → checkOf cfg ≡ CheckRefused why → Took r cfg p b (NotTaken why) r p b
-  invalid : checkOf cfg ≡ Passed → payloadValid p (length b) ≡ false → Took r cfg p b (NotTaken InvalidState) r p b
+  settings : (why : Refusal) → checkOf cfg ≡ Refused why → Took r cfg p b (NotTaken why) r p b
+  invalid : checkOf cfg ≡ Done → payloadValid p (length b) ≡ false → Took r cfg p b (NotTaken InvalidState) r p b
   too-large : Passing cfg p b → (c : Packet) → wantedBy r cfg ≡ c ∷ [] → left p b c ≡ true → eqb (p .len) 0 ≡ true → Took r cfg p b (NotTaken TooLarge) r p b
   no-space : Passing cfg p b → (c : Packet) → wantedBy r cfg ≡ c ∷ [] → left p b c ≡ true → eqb (p .len) 0 ≡ false → Took r cfg p b NoSpace r p b
   not-due : Passing cfg p b → (r′ : Receiver) → wantedBy r cfg ≡ [] → r′ .«request_due» ≡ false → Took r cfg p b NotDue r′ p b
@@ -121,8 +122,8 @@ module _ (r : Receiver) (cfg : StreamConfig) (p : PayloadWriter) (b : List ℕ) 
   unfolding takeAnswer
   take-took v = rw v (go (checkOf cfg) refl (payloadValid p (length b)) refl)
     where
-      go : (k : Check) → checkOf cfg ≡ k → (o : Bool) → payloadValid p (length b) ≡ o
-          → TookBy r cfg p b (tested k (requestRefused r p b) (cond (not o) (requestRefused r p b InvalidState) (takenOf r cfg p b)))
-      go (CheckRefused why) k o e = settings why k
-      go Passed k false e = invalid k e
-      go Passed k true e = taken-took record { check = k; valid = e }
+      go : (k : Outcome) → checkOf cfg ≡ k → (o : Bool) → payloadValid p (length b) ≡ o
+          → TookBy r cfg p b (entry k o (requestRefused r p b) (takenOf r cfg p b))
+      go (Refused why) k o e = settings why k
+      go Done k false e = invalid k e
+      go Done k true e = taken-took record { check = k; valid = e }

@@ -5,8 +5,8 @@ use mathlib.Core.Bool.{Bool, true, false}
 use mathlib.Core.List.{List}
 use lib.ListN.{length}
 use Rattle.config.specs.Settings.{checkOf}
-use Rattle.config.specs.declared.settings.Check.{Check}
-use Rattle.config.specs.declared.settings.Check.the-variants.{Passed, Refused as CheckRefused}
+use Rattle.config.specs.declared.answer.Outcome.{Outcome}
+use Rattle.config.specs.declared.answer.Outcome.the-variants.{Done, Refused}
 use Rattle.config.specs.declared.settings.StreamConfig.{StreamConfig}
 use Rattle.packet.specs.Write.{validOf as payloadValid}
 use Rattle.packet.specs.declared.writer.PayloadWriter.{PayloadWriter}
@@ -55,7 +55,7 @@ module _ (s : DataStream) (ring : List ℕ) (cfg : StreamConfig) (now : ℕ) whe
   same-behind p b e r NotDue = rw e
   same-behind p b e r Taken = rw e
 
-  taken-joined : (p : PayloadWriter) (b : List ℕ) → checkOf cfg ≡ Passed → validOf s ring ≡ true → payloadValid p (length b) ≡ true
+  taken-joined : (p : PayloadWriter) (b : List ℕ) → checkOf cfg ≡ Done → validOf s ring ≡ true → payloadValid p (length b) ≡ true
       → dataWritten s cfg now p b ring ≡ (let t = receiver.takeAnswer (s .receiver) cfg p b in behindTake (t .0 .answer) (withReceiver s (t .0 .receiver)) cfg now (t .0 .payload) (t .1) ring)
   unfolding dataWritten
   taken-joined p b k v w =
@@ -64,7 +64,7 @@ module _ (s : DataStream) (ring : List ℕ) (cfg : StreamConfig) (now : ℕ) whe
       ap (λ (t : Requested × List ℕ). afterRequest (t .0 .answer) (withReceiver s (t .0 .receiver)) cfg now (t .0 .payload) (t .1) ring) (e .take-request)
       ∙ same-behind (t .0 .payload) (t .1) (e .write now) (t .0 .receiver) (t .0 .answer)
 
-write-passed : (s : DataStream) (ring : List ℕ) (cfg : StreamConfig) (now : ℕ) (p : PayloadWriter) (b : List ℕ) → checkOf cfg ≡ Passed → validOf s ring ≡ true → payloadValid p (length b) ≡ true
+write-passed : (s : DataStream) (ring : List ℕ) (cfg : StreamConfig) (now : ℕ) (p : PayloadWriter) (b : List ℕ) → checkOf cfg ≡ Done → validOf s ring ≡ true → payloadValid p (length b) ≡ true
     → writeAnswer s cfg now p b ring ≡ dataWritten s cfg now p b ring
 unfolding writeAnswer
 write-passed s ring cfg now p b e v f = rw (e, v, f)
@@ -73,8 +73,8 @@ pub write-joined : (s : DataStream) (ring : List ℕ) → validOf s ring ≡ tru
 unfolding writeAnswer receiver.takeAnswer
 write-joined s ring v cfg now p b = by (checkOf cfg) refl (payloadValid p (length b)) refl
   where
-    by : (k : Check) → checkOf cfg ≡ k → (w : Bool) → payloadValid p (length b) ≡ w
+    by : (k : Outcome) → checkOf cfg ≡ k → (w : Bool) → payloadValid p (length b) ≡ w
         → writeAnswer s cfg now p b ring ≡ (let t = receiver.takeAnswer (s .receiver) cfg p b in behindTake (t .0 .answer) (withReceiver s (t .0 .receiver)) cfg now (t .0 .payload) (t .1) ring)
-    by (CheckRefused why) e w f = rw e
-    by Passed e false f = rw (e, v, valid-receiver s ring v, f)
-    by Passed e true f = write-passed s ring cfg now p b e v f ∙ taken-joined s ring cfg now p b e v f
+    by (Refused why) e w f = rw e
+    by Done e false f = rw (e, v, valid-receiver s ring v, f)
+    by Done e true f = write-passed s ring cfg now p b e v f ∙ taken-joined s ring cfg now p b e v f

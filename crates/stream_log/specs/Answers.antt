@@ -5,9 +5,10 @@ use mathlib.Core.Bool.{Bool, true, cond, not, _||_, _&&_}
 use mathlib.Core.List.{List, [], _∷_}
 use lib.Dec.{ltb, eqb}
 use lib.ListN.{length}
-use Rattle.config.specs.Settings.{checkOf, tested}
+use Rattle.config.specs.Entry.{entry}
+use Rattle.config.specs.Settings.{checkOf}
 use Rattle.config.specs.declared.refusal.Refusal.{Refusal}
-use Rattle.config.specs.declared.refusal.Refusal.the-variants.{TooLarge, InvalidState}
+use Rattle.config.specs.declared.refusal.Refusal.the-variants.{TooLarge}
 use Rattle.config.specs.declared.settings.StreamConfig.{StreamConfig}
 use Rattle.packet.specs.Layout.{Packet, sizeOf}
 use Rattle.packet.specs.Write.{limitOf, startOf, writtenOf, validOf as payloadValid}
@@ -24,7 +25,10 @@ use Rattle.receiver_log.specs.Timing.{timerIn, dueIn, enabledIn}
 use Rattle.receiver_log.specs.Answers.{answerOf as receiverAnswer}
 use Rattle.receiver_log.specs.Promise.{logOf}
 use Rattle.sender.specs.Requests.{dueAt}
-use Rattle.sender.specs.declared.sender.Deadline.the-variants.{Nothing as NoIdle}
+use Rattle.config.specs.declared.answer.Outcome.the-variants.{Done}
+use Rattle.config.specs.declared.answer.Answered.the-variants.{Is}
+use Rattle.config.specs.declared.answer.Deadline.{Deadline}
+use Rattle.config.specs.declared.answer.Deadline.the-variants.{Nothing}
 use Rattle.sender.specs.declared.sender.Writing.{Writing}
 use Rattle.sender.specs.declared.sender.Writing.the-variants.{Written, Refused}
 use Rattle.sender_log.specs.Book.{Book}
@@ -33,9 +37,6 @@ use Rattle.sender_log.specs.Calls as Sender
 use Rattle.sender_log.specs.Answers.{toldOf, bookOf}
 use Rattle.stream.specs.Answers.{earlier}
 use Rattle.stream.specs.Writing.{countedAlso}
-use Rattle.stream.specs.declared.stream.Deadline.{Deadline}
-use Rattle.stream.specs.declared.stream.Reset.the-variants.{Done}
-use Rattle.stream.specs.declared.stream.Wants.the-variants.{Is}
 use Rattle.stream_log.specs.Calls.{Call, send-ump, on-retransmit-request, on-ump-data, on-retransmit-error, on-retransmit-nak, poll, write-request, write-data, next-deadline, wants-write, reset, Entry, by-sender, by-receiver, wrote, deadline, wants, was-reset}
 use Rattle.stream_log.specs.Ends.{Ends, endsAfter}
 
@@ -76,15 +77,13 @@ requestFirst c k cfg now p b (request ∷ none) =
 -- settings, then the payload
 unfoldable pub writeOut : ℕ → ℕ → List Receiver.Entry → Book → StreamConfig → ℕ → PayloadWriter → List ℕ → Out
 writeOut W c t k cfg now p b =
-    tested (checkOf cfg) (refusedOut p b)
-    (cond (not (payloadValid p (length b))) (refusedOut p b InvalidState)
-    (requestFirst c k cfg now p b (requestWanted W t cfg)))
+    entry (checkOf cfg) (payloadValid p (length b)) (refusedOut p b) (requestFirst c k cfg now p b (requestWanted W t cfg))
 
 -- ---- questions
 
 -- the earlier of the request timer's due time and, if no command is unwritten, that of an idle command
 abbrev pub deadlineIn : ℕ → List Receiver.Entry → Book → Deadline
-deadlineIn W t k = earlier (deadlineAt (timerIn W t)) (cond (isEmpty (k .unwritten)) (dueAt (k .idle)) NoIdle)
+deadlineIn W t k = earlier (deadlineAt (timerIn W t)) (cond (isEmpty (k .unwritten)) (dueAt (k .idle)) Nothing)
 
 -- a request is due, a command is unwritten, a request waits, or an idle command is due
 abbrev pub wantsIn : ℕ → List Receiver.Entry → Book → ℕ → Bool

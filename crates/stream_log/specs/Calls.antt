@@ -15,9 +15,9 @@ use Rattle.stream.specs.Ends.{sendAnswer, requestAnswer, dataAnswer, errorAnswe
 use Rattle.stream.specs.Answers.{newAnswer, resetAnswer, deadlineAnswer, wantsAnswer}
 use Rattle.stream.specs.Writing.{writeAnswer}
 use Rattle.stream.specs.declared.stream.DataStream.{DataStream}
-use Rattle.stream.specs.declared.stream.Reset.{Reset}
-use Rattle.stream.specs.declared.stream.Deadline.{Deadline}
-use Rattle.stream.specs.declared.stream.Wants.{Wants}
+use Rattle.config.specs.declared.answer.Outcome.{Outcome}
+use Rattle.config.specs.declared.answer.Answered.{Answered}
+use Rattle.config.specs.declared.answer.Deadline.{Deadline}
 
 -- a call of `DataStream`, each argument free
 pub data Call : Type 0 where
@@ -48,8 +48,8 @@ pub data Entry : Type 0 where
   -- of a write also the payload and the buffer after it
   wrote : StreamConfig → ℕ → PayloadWriter → List ℕ → Writing → PayloadWriter → List ℕ → Entry
   deadline : Deadline → Entry
-  wants : ℕ → Wants → Entry
-  was-reset : Reset → Entry
+  wants : ℕ → Answered → Entry
+  was-reset : Outcome → Entry
 
 -- the stream and the history's words that a call leaves, and what goes into the log
 pub record Step : Type 0 where

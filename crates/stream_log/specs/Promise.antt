@@ -2,11 +2,11 @@
 -- log crate proves of its own calls since the start or the last reset.
 use Prim.Native.Nat.{ℕ}
 use mathlib.Core.Path.{_≡_}
-use mathlib.Core.Bool.{true, false, cond, not, _||_}
+use mathlib.Core.Bool.{true, false, _||_}
 use mathlib.Core.List.{List, [], _++_}
 use lib.ListN.{length, replicate}
-use Rattle.config.specs.Settings.{checkOf, tested}
-use Rattle.config.specs.declared.refusal.Refusal.the-variants.{InvalidState}
+use Rattle.config.specs.Entry.{entry}
+use Rattle.config.specs.Settings.{checkOf}
 use Rattle.config.specs.declared.settings.StreamConfig.{StreamConfig}
 use Rattle.packet.specs.Layout.{Packet}
 use Rattle.packet.specs.Write.{validOf as payloadValid}
@@ -30,9 +30,8 @@ use Rattle.stream.specs.State.{validOf, fresh}
 use Rattle.stream.specs.Answers.{newAnswer, resetAnswer, earlier, deadlineAnswer, wantsAnswer}
 use Rattle.stream.specs.Writing.{writeRefused, dataWritten, writeAnswer}
 use Rattle.stream.specs.declared.stream.DataStream.{DataStream}
-use Rattle.stream.specs.declared.stream.Start.the-variants.{Done}
-use Rattle.stream.specs.declared.stream.Reset.the-variants.{Done as ResetDone}
-use Rattle.stream.specs.declared.stream.Wants.the-variants.{Is}
+use Rattle.config.specs.declared.answer.Outcome.the-variants.{Done}
+use Rattle.config.specs.declared.answer.Answered.the-variants.{Is}
 use Rattle.stream_log.specs.Calls.{Call, send-ump, on-retransmit-request, on-ump-data, on-retransmit-error, on-retransmit-nak, poll, write-request, write-data, next-deadline, wants-write, reset, stepOf, run, Typed, AllTyped}
 use Rattle.stream_log.specs.Refusals.{numberIn}
 use Rattle.stream_log.specs.Ends.{Ends, uncalled, endsAfter, endsOf}
@@ -85,11 +84,11 @@ pub record StateTaken (W c q : ℕ) (s : DataStream) (ring : List ℕ) : Type 0 
   pub of-receiver : Received.StateTaken (s .receiver)
   pub write-data : (cfg : StreamConfig) (now : ℕ) (p : PayloadWriter) (b : List ℕ)
       → writeAnswer s cfg now p b ring
-      ≡ tested (checkOf cfg) (writeRefused s p b ring) (cond (not (payloadValid p (length b))) (writeRefused s p b ring InvalidState) (dataWritten s cfg now p b ring))
+      ≡ entry (checkOf cfg) (payloadValid p (length b)) (writeRefused s p b ring) (dataWritten s cfg now p b ring)
   pub next-deadline : deadlineAnswer s ring ≡ earlier (receiverDeadline (s .receiver)) (senderDeadline (s .sender))
   pub wants-write : (now : ℕ) → wantsAnswer s ring now ≡ Is (s .receiver .«request_due» || wantsOf (s .sender) now)
   -- a reset leaves exactly a fresh stream
-  pub reset : resetAnswer s ring ≡ (record { stream = fresh W c q; answer = ResetDone }, replicate c 0)
+  pub reset : resetAnswer s ring ≡ (record { stream = fresh W c q; answer = Done }, replicate c 0)
 
 abbrev pub NeverInvalid : Type 0
 NeverInvalid =

@@ -1,6 +1,6 @@
 -- 01, "Numbers of each operation": the number that an answer refuses with, 0 where it doesn't.
 use Prim.Native.Nat.{ℕ}
-use Rattle.config.specs.Refusals.{numberOf}
+use Rattle.config.specs.Refusals.{numberOf, outcomeNumber}
 use Rattle.receiver.specs.declared.receiver.Hearing.{Hearing}
 use Rattle.receiver.specs.declared.receiver.Hearing.the-variants.{Delivery as Delivered, Refused as HearingRefused}
 use Rattle.receiver.specs.declared.receiver.StreamEvent.{StreamEvent}
@@ -8,24 +8,16 @@ use Rattle.receiver.specs.declared.receiver.StreamEvent.the-variants.{Nothing a
 use Rattle.receiver.specs.declared.receiver.Request.{Request}
 use Rattle.receiver.specs.declared.receiver.Request.the-variants.{Nothing as NotDue, Written as Taken, More as NoSpace, Refused as NotTaken}
 use Rattle.receiver_log.specs.Calls.{data-entry, poll-entry, error-entry, nak-entry, take-entry}
-use Rattle.sender.specs.declared.sender.Send.{Send}
-use Rattle.sender.specs.declared.sender.Send.the-variants.{Accepted, Refused as NotSent}
+use Rattle.config.specs.declared.answer.Answered.{Answered}
+use Rattle.config.specs.declared.answer.Answered.the-variants.{Is, Refused as AnsweredRefused}
+use Rattle.config.specs.declared.answer.Deadline.{Deadline}
+use Rattle.config.specs.declared.answer.Deadline.the-variants.{Nothing, At, Refused as DeadlineRefused}
 use Rattle.sender.specs.declared.sender.RequestOutcome.{RequestOutcome}
 use Rattle.sender.specs.declared.sender.RequestOutcome.the-variants.{Queued, Ignored, Error, NotSupported, Refused as NotRequested}
 use Rattle.sender.specs.declared.sender.Writing.{Writing}
 use Rattle.sender.specs.declared.sender.Writing.the-variants.{Written, Refused as NotWritten}
 use Rattle.sender_log.specs.Calls.{queue-entry, request-entry, write-entry}
-use Rattle.stream.specs.declared.stream.Deadline.{Deadline}
-use Rattle.stream.specs.declared.stream.Deadline.the-variants.{Nothing, At, Refused as NoDeadline}
-use Rattle.stream.specs.declared.stream.Wants.{Wants}
-use Rattle.stream.specs.declared.stream.Wants.the-variants.{Is, Refused as NotKnown}
-use Rattle.stream.specs.declared.stream.Reset.{Reset}
-use Rattle.stream.specs.declared.stream.Reset.the-variants.{Done, Refused as NotReset}
 use Rattle.stream_log.specs.Calls.{Entry, by-sender, by-receiver, wrote, deadline, wants, was-reset}
-
-abbrev pub sendNumber : Send → ℕ
-sendNumber Accepted = 0
-sendNumber (NotSent why) = numberOf why
 
 abbrev pub requestNumber : RequestOutcome → ℕ
 requestNumber Queued = 0
@@ -58,18 +50,14 @@ writeNumber (NotWritten why) = numberOf why
 abbrev pub deadlineNumber : Deadline → ℕ
 deadlineNumber Nothing = 0
 deadlineNumber (At time) = 0
-deadlineNumber (NoDeadline why) = numberOf why
+deadlineNumber (DeadlineRefused why) = numberOf why
 
-abbrev pub wantsNumber : Wants → ℕ
+abbrev pub wantsNumber : Answered → ℕ
 wantsNumber (Is answer) = 0
-wantsNumber (NotKnown why) = numberOf why
-
-abbrev pub resetNumber : Reset → ℕ
-resetNumber Done = 0
-resetNumber (NotReset why) = numberOf why
+wantsNumber (AnsweredRefused why) = numberOf why
 
 abbrev pub numberIn : Entry → ℕ
-numberIn (by-sender (queue-entry cfg ws a)) = sendNumber a
+numberIn (by-sender (queue-entry cfg ws a)) = outcomeNumber a
 numberIn (by-sender (request-entry cfg r a)) = requestNumber a
 numberIn (by-sender (write-entry cfg now p b a p′ b′)) = writeNumber a
 numberIn (by-receiver (data-entry cfg now seq ws a)) = hearingNumber a
@@ -80,4 +68,4 @@ numberIn (by-receiver (take-entry cfg p b a p′ b′)) = takeNumber a
 numberIn (wrote cfg now p b a p′ b′) = writeNumber a
 numberIn (deadline a) = deadlineNumber a
 numberIn (wants now a) = wantsNumber a
-numberIn (was-reset a) = resetNumber a
+numberIn (was-reset a) = outcomeNumber a

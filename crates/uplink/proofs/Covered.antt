@@ -10,7 +10,7 @@ use Rattle.config.specs.Refusals.{numberOf}
 use Rattle.config.specs.declared.refusal.Refusal.the-variants.{DivisionsNotAllowed}
 use Rattle.uplink.specs.Grants.{nextOf, allowed, stepOf}
 use Rattle.uplink.specs.Promise.{Shared, StepShared, Call, none, takenOf, Once, EachFirstOnce}
-use Rattle.uplink.specs.declared.grants.Answer.the-variants.{Refused}
+use Rattle.config.specs.declared.answer.Outcome.the-variants.{Refused}
 use Rattle.uplink.proofs.Turns.{next-in, taken-granted, taken-refused}
 
 -- ---- a step

@@ -4,15 +4,16 @@ use mathlib.Core.Bool.{true, false}
 use mathlib.Core.List.{List, _++_, append-assoc}
 use Prim.Native.Nat.{ℕ, zero, suc, _+_, _-_, _≤_, _<_}
 use native.Mathlib.Omega.{arith}
-use borrow.Author.Tests.{ltb-true, leb-true, lt-ltb, le-ltb, not-true, not-false}
+use borrow.Author.Tests.{ltb-true, lt-ltb, le-ltb, not-true, not-false}
 use lib.ListN.{length, take, drop, replicate, length-append, length-drop, length-replicate}
 use lib.Seq.{sets, sets-eq, take-all, length-sets, length-take-le, drop-at}
-use lib.Dec.{ltb, leb}
+use lib.Dec.{ltb}
 use Rattle.config.specs.Range.{within, outside}
 use Rattle.config.specs.declared.refusal.Refusal.the-variants.{DivisionsNotAllowed}
-use Rattle.config.specs.inner.Tests.{and-left, and-right}
+use Rattle.config.specs.inner.Ranges.{not-outside}
+use Rattle.config.specs.inner.Tests.{and-right}
 use Rattle.uplink.specs.Grants.{sum, shareOf, firsts, granted, leftOf, roundFrom, grantsOf, nextOf, places, allowed, stepOf}
-use Rattle.uplink.specs.declared.grants.Answer.the-variants.{Granted, Refused}
+use Rattle.config.specs.declared.answer.Outcome.the-variants.{Done, Refused}
 use Rattle.uplink.specs.declared.grants.Served.{Served}
 use Rattle.uplink.specs.declared.grants.Step.{Step}
 use Rattle.uplink.proofs.Sums.{length-granted}
@@ -24,9 +25,7 @@ unfolding allowed
 turn-in n turn e = ltb-true _ _ (and-right (within 1 8 n) (ltb turn n) e)
 
 pub number-in : (n : ℕ) → outside 1 8 n ≡ false → (1 ≤ n) × (n ≤ 8)
-number-in n e =
-    let w : within 1 8 n ≡ true = not-false (within 1 8 n) e in
-    (leb-true _ _ (and-left (leb 1 n) (leb n 8) w), leb-true _ _ (and-right (leb 1 n) (leb n 8) w))
+number-in n e = not-outside 1 8 n e
 
 -- ---- the ways out
 
@@ -44,7 +43,7 @@ module _ (a turn : ℕ) (ws : List ℕ) where
     refused-turn h = rw (not-false (within 1 8 (length ws)) e, le-ltb _ _ h)
 
     pub step-granted : turn < length ws → (gs : List ℕ) (next : ℕ) → gs ≡ places (grantsOf a turn ws) → next ≡ nextOf (length ws) turn
-        → record { grants = gs; turn = next; answer = Granted } ≡ stepOf a turn ws
+        → record { grants = gs; turn = next; answer = Done } ≡ stepOf a turn ws
     unfolding stepOf allowed
     step-granted h gs next f g = rw (not-false (within 1 8 (length ws)) e, lt-ltb _ _ h, f, g)
 

@@ -7,7 +7,7 @@ use lib.ListN.{length, take, drop, replicate}
 use lib.Dec.{ltb}
 use Rattle.config.specs.Range.{within}
 use Rattle.config.specs.declared.refusal.Refusal.the-variants.{DivisionsNotAllowed}
-use Rattle.uplink.specs.declared.grants.Answer.the-variants.{Granted, Refused}
+use Rattle.config.specs.declared.answer.Outcome.the-variants.{Done, Refused}
 use Rattle.uplink.specs.declared.grants.Step.{Step}
 
 unfoldable pub sum : List ℕ → ℕ
@@ -66,5 +66,5 @@ allowed n turn = within 1 8 n && ltb turn n
 unfoldable pub stepOf : ℕ → ℕ → List ℕ → Step
 stepOf a turn ws =
     cond (allowed (length ws) turn)
-    (record { grants = places (grantsOf a turn ws); turn = nextOf (length ws) turn; answer = Granted })
+    (record { grants = places (grantsOf a turn ws); turn = nextOf (length ws) turn; answer = Done })
     (record { grants = replicate 8 0; turn = turn; answer = Refused DivisionsNotAllowed })

@@ -4,23 +4,19 @@ ghost use Prim.Native.Nat.{_+_, _-_, _≤_, _<_, min};
 ghost use lib.ListN.{length};
 ghost use lib.Seq.{sets};
 ghost use Rattle.uplink.specs.Grants.{sum, firsts, granted, leftOf, nextOf, stepOf};
+use config::answer::Outcome;
 use config::range::outside;
 use config::refusal::Refusal;
 
 // The most divisions.
 pub const DIVISIONS: usize = 8;
 
-pub enum Answer {
-    Granted,
-    Refused(Refusal),
-}
-
 pub struct Step {
     // The words of each division; places past the last are 0.
     pub grants: [u16; 8],
     // The turn of the next step; the same where this one was refused.
     pub turn: u16,
-    pub answer: Answer,
+    pub answer: Outcome,
 }
 
 // What a row of divisions was granted, and what it left.
@@ -92,14 +88,14 @@ pub fn grant(words: u16, turn: u16, wants: &[u16]) -> Step
         return Step {
             grants: [0; 8],
             turn,
-            answer: Answer::Refused(Refusal::DivisionsNotAllowed),
+            answer: Outcome::Refused(Refusal::DivisionsNotAllowed),
         };
     }
     if n <= first {
         return Step {
             grants: [0; 8],
             turn,
-            answer: Answer::Refused(Refusal::DivisionsNotAllowed),
+            answer: Outcome::Refused(Refusal::DivisionsNotAllowed),
         };
     }
     let share = words / (n as u16);
@@ -111,6 +107,6 @@ pub fn grant(words: u16, turn: u16, wants: &[u16]) -> Step
     Step {
         grants,
         turn: next(turn, n),
-        answer: Answer::Granted,
+        answer: Outcome::Done,
     }
 }

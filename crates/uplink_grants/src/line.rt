@@ -1,12 +1,12 @@
 // One line: its figures, the step, and the answer.
 ghost use Rattle.io.specs.Counts.{Counts};
+use config::answer::Outcome;
 use text::fields;
 use text::fields::Count;
 use text::fields::FAILED;
 use text::forms;
 use text::lines;
 use text::out;
-use uplink::grants::Answer;
 use uplink::grants::Step;
 
 // Fields are 16-bit numbers.
@@ -73,8 +73,8 @@ fn grants(to: &mut [u8], used: usize, step: Step, n: usize) -> usize {
 fn step(to: &mut [u8], used: usize, step: Step, n: usize) -> usize {
     let answer = step.answer;
     match answer {
-        Answer::Granted => grants(to, used, step, n),
-        Answer::Refused(why) => said(to, used, REFUSED, why.number()),
+        Outcome::Done => grants(to, used, step, n),
+        Outcome::Refused(why) => said(to, used, REFUSED, why.number()),
     }
 }
 

@@ -17,7 +17,7 @@ use Rattle.window.specs.declared.window.Class.{Class}
 use Rattle.window.specs.declared.window.Class.the-variants.{Late}
 use Rattle.window.specs.declared.window.Span.{Span}
 use Rattle.window.specs.declared.window.Span.the-variants.{Nothing}
-use Rattle.window.proofs.Ranges.{within-range}
+use Rattle.config.specs.inner.Ranges.{within-range}
 use Rattle.window.proofs.Positions.{unprocessed-in}
 use Rattle.window.proofs.AfterNew.{shifted, processed-new}
 use Rattle.window.proofs.AfterMark.{processed-late}

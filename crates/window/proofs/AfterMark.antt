@@ -17,7 +17,7 @@ use Rattle.window.specs.Marking.{inRange, hitAt, hitsOf, markOf}
 use Rattle.window.specs.declared.window.ReceiveWindow.{ReceiveWindow}
 use Rattle.window.specs.declared.window.SeqRange.{SeqRange}
 use Rattle.window.proofs.Words.{or-bit, lacks}
-use Rattle.window.proofs.Ranges.{within-yes}
+use Rattle.config.specs.inner.Ranges.{within-yes}
 use Rattle.window.proofs.Digits.{has-above, has-or, has-pow}
 use Rattle.window.proofs.Hits.{hits-lt}
 use Rattle.window.proofs.Positions.{processed-highest, processed-beyond, processed-in, processed-set, has-missing}

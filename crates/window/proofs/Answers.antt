@@ -14,13 +14,13 @@ use Rattle.window.specs.declared.window.Span.{Span}
 use Rattle.window.specs.declared.window.Taken.{Taken}
 use Rattle.window.specs.declared.window.Started.the-variants as started
 use Rattle.window.specs.declared.window.Changed.{Changed}
-use Rattle.window.specs.declared.window.Change.the-variants as change
+use Rattle.config.specs.declared.answer.Outcome.the-variants as outcome
+use Rattle.config.specs.declared.answer.Answered.the-variants as answered
 use Rattle.window.specs.declared.window.Classified.{Classified}
 use Rattle.window.specs.declared.window.Classification.the-variants as classification
 use Rattle.window.specs.declared.window.Accepted.{Accepted}
 use Rattle.window.specs.declared.window.Acceptance.the-variants as acceptance
 use Rattle.window.specs.declared.window.Known.{Known}
-use Rattle.window.specs.declared.window.Knowledge.the-variants as knowledge
 use Rattle.window.specs.declared.window.Extended.{Extended}
 use Rattle.window.specs.declared.window.Extent.the-variants as extent
 
@@ -39,7 +39,7 @@ module _ (size highest : ℕ) where
 
 module _ (w : ReceiveWindow) where
   module _ (e : validOf w ≡ false) where
-    pub changed-refused : (next : ReceiveWindow) → _≡_ {A = Changed} (record { window = w; answer = change.Refused InvalidState }) (changed w next)
+    pub changed-refused : (next : ReceiveWindow) → _≡_ {A = Changed} (record { window = w; answer = outcome.Refused InvalidState }) (changed w next)
     unfolding changed
     changed-refused next = rw e
 
@@ -51,7 +51,7 @@ module _ (w : ReceiveWindow) where
     unfolding acceptAnswer
     accept-refused seq = rw e
 
-    pub processed-refused : (seq : ℕ) → _≡_ {A = Known} (record { window = w; answer = knowledge.Refused InvalidState }) (processedAnswer w seq)
+    pub processed-refused : (seq : ℕ) → _≡_ {A = Known} (record { window = w; answer = answered.Refused InvalidState }) (processedAnswer w seq)
     unfolding processedAnswer
     processed-refused seq = rw e
 
@@ -60,9 +60,9 @@ module _ (w : ReceiveWindow) where
     extended-refused next s = rw e
 
   module _ (e : validOf w ≡ true) where
-    pub changed-done : {r next : ReceiveWindow} → r ≡ next → _≡_ {A = Changed} (record { window = r; answer = change.Done }) (changed w next)
+    pub changed-done : {r next : ReceiveWindow} → r ≡ next → _≡_ {A = Changed} (record { window = r; answer = outcome.Done }) (changed w next)
     unfolding changed
-    changed-done {r} {next} is = ap {B = Changed} (λ (x : ReceiveWindow). record { window = x; answer = change.Done }) is ∙ rw e
+    changed-done {r} {next} is = ap {B = Changed} (λ (x : ReceiveWindow). record { window = x; answer = outcome.Done }) is ∙ rw e
 
     pub class-found : (seq : ℕ) {r : Class} → r ≡ classOf w seq → _≡_ {A = Classified} (record { window = w; answer = classification.Found r }) (classAnswer w seq)
     unfolding classAnswer
@@ -72,9 +72,9 @@ module _ (w : ReceiveWindow) where
     unfolding acceptAnswer
     accept-heard seq is = ap heard is ∙ rw e
 
-    pub processed-known : (seq : ℕ) {r : Bool} → r ≡ isProcessed w seq → _≡_ {A = Known} (record { window = w; answer = knowledge.Processed r }) (processedAnswer w seq)
+    pub processed-known : (seq : ℕ) {r : Bool} → r ≡ isProcessed w seq → _≡_ {A = Known} (record { window = w; answer = answered.Is r }) (processedAnswer w seq)
     unfolding processedAnswer
-    processed-known seq is = ap {B = Known} (λ (x : Bool). record { window = w; answer = knowledge.Processed x }) is ∙ rw e
+    processed-known seq is = ap {B = Known} (λ (x : Bool). record { window = w; answer = answered.Is x }) is ∙ rw e
 
     pub extended-numbers : {r next : ReceiveWindow} {l s : Span} → r ≡ next → l ≡ s → _≡_ {A = Extended} (record { window = r; answer = extent.Numbers l }) (extended w next s)
     unfolding extended

@@ -12,7 +12,7 @@ use Rattle.window.specs.Arrival.{reach, classOf, takenOf, acceptOf}
 use Rattle.window.specs.declared.window.ReceiveWindow.{ReceiveWindow}
 use Rattle.window.specs.declared.window.Class.{Class}
 use Rattle.window.specs.declared.window.Class.the-variants.{New, Late, Duplicate}
-use Rattle.window.proofs.Ranges.{within-yes}
+use Rattle.config.specs.inner.Ranges.{within-yes}
 use Rattle.window.proofs.Positions.{unprocessed-in}
 
 module _ (w : ReceiveWindow) (seq : ℕ) where

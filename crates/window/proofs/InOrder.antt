@@ -17,7 +17,7 @@ use Rattle.window.specs.declared.window.Taken.{Taken}
 use Rattle.window.specs.declared.window.Class.the-variants.{New}
 use Rattle.window.specs.declared.window.Span.the-variants.{Nothing}
 use Rattle.window.proofs.Words.{of-words, val-of}
-use Rattle.window.proofs.Ranges.{within-yes}
+use Rattle.config.specs.inner.Ranges.{within-yes}
 use Rattle.window.proofs.Losses.{loss-empty}
 use Rattle.window.proofs.Arrivals.{new-window-is, new-lost-is}
 use Rattle.window.proofs.Accepts.{accept-as-new, taken-is}

@@ -10,7 +10,6 @@ mod Hits
 mod Arrivals
 mod Answers
 -- For the layers above: the state test and what keeps it, the positions of a set and of a window, and what each operation leaves of them.
-pub mod Ranges
 pub mod Validity
 pub mod Preserved
 pub mod Digits

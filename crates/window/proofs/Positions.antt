@@ -12,7 +12,7 @@ use Rattle.window.specs.Set.{val, setOf, has}
 use Rattle.window.specs.Window.{Valid, freshOf, processed, missingOf}
 use Rattle.window.specs.declared.window.ReceiveWindow.{ReceiveWindow}
 use Rattle.window.proofs.Words.{val-of}
-use Rattle.window.proofs.Ranges.{within-yes, within-above}
+use Rattle.config.specs.inner.Ranges.{within-yes, within-above}
 use Rattle.window.proofs.Digits.{has-above, has-rest, has-ones}
 
 -- ---- processed

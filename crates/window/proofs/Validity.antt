@@ -1,7 +1,7 @@
 -- The state test.
+use Prim.Native.Nat.{_^_}
 use mathlib.Core.Path.{_≡_, refl}
 use mathlib.Core.Bool.{Bool, true, false, not, _&&_}
-use Prim.Native.Nat.{_^_}
 use lib.Dec.{ltb}
 use borrow.Author.Tests.{ltb-true}
 use Rattle.config.specs.Range.{within, outside}
@@ -9,7 +9,7 @@ use Rattle.config.specs.inner.Tests.{and-left, and-right}
 use Rattle.window.specs.Set.{maxWindow, val}
 use Rattle.window.specs.Window.{Valid, validOf}
 use Rattle.window.specs.declared.window.ReceiveWindow.{ReceiveWindow}
-use Rattle.window.proofs.Ranges.{outside-not, within-range}
+use Rattle.config.specs.inner.Ranges.{outside-not, within-range}
 
 pub valid-size : (w : ReceiveWindow) → outside 1 maxWindow (w .size) ≡ true → false ≡ validOf w
 unfolding validOf

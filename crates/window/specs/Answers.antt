@@ -2,9 +2,11 @@
 -- each other operation tests the state first, 13, and a refused call hands the window back as it is.
 use mathlib.Core.Bool.{cond}
 use Prim.Native.Nat.{ℕ, _-_}
+use Rattle.config.specs.Entry.{onState}
 use Rattle.config.specs.Range.{outside}
 use Rattle.config.specs.Sequence.{turn}
-use Rattle.config.specs.declared.refusal.Refusal.the-variants.{SizeNotAllowed, InvalidState}
+use Rattle.config.specs.declared.refusal.Refusal.{Refusal}
+use Rattle.config.specs.declared.refusal.Refusal.the-variants.{SizeNotAllowed}
 use Rattle.window.specs.Set.{maxWindow}
 use Rattle.window.specs.Window.{validOf, freshOf, fresh, isProcessed, missingSpan, requestOf}
 use Rattle.window.specs.Arrival.{classOf, acceptOf}
@@ -16,13 +18,13 @@ use Rattle.window.specs.declared.window.Taken.{Taken}
 use Rattle.window.specs.declared.window.Started.{Started}
 use Rattle.window.specs.declared.window.Started.the-variants as started
 use Rattle.window.specs.declared.window.Changed.{Changed}
-use Rattle.window.specs.declared.window.Change.the-variants as change
+use Rattle.config.specs.declared.answer.Outcome.the-variants as outcome
+use Rattle.config.specs.declared.answer.Answered.the-variants as answered
 use Rattle.window.specs.declared.window.Classified.{Classified}
 use Rattle.window.specs.declared.window.Classification.the-variants as classification
 use Rattle.window.specs.declared.window.Accepted.{Accepted}
 use Rattle.window.specs.declared.window.Acceptance.the-variants as acceptance
 use Rattle.window.specs.declared.window.Known.{Known}
-use Rattle.window.specs.declared.window.Knowledge.the-variants as knowledge
 use Rattle.window.specs.declared.window.Extended.{Extended}
 use Rattle.window.specs.declared.window.Extent.the-variants as extent
 
@@ -37,7 +39,7 @@ newAnswer size = startAnswer size (turn - 1)
 -- ---- the window changes, with nothing to tell
 
 unfoldable pub changed : ReceiveWindow → ReceiveWindow → Changed
-changed w next = cond (validOf w) record { window = next; answer = change.Done } record { window = w; answer = change.Refused InvalidState }
+changed w next = onState (validOf w) (λ (why : Refusal). record { window = w; answer = outcome.Refused why }) record { window = next; answer = outcome.Done }
 
 abbrev pub resetAnswer : ReceiveWindow → Changed
 resetAnswer w = changed w (fresh (w .size))
@@ -49,24 +51,24 @@ markAllAnswer w = changed w (freshOf (w .size) (w .highest))
 
 unfoldable pub classAnswer : ReceiveWindow → ℕ → Classified
 classAnswer w seq =
-    cond (validOf w) record { window = w; answer = classification.Found (classOf w seq) }
-    record { window = w; answer = classification.Refused InvalidState }
+    onState (validOf w) (λ (why : Refusal). record { window = w; answer = classification.Refused why })
+    record { window = w; answer = classification.Found (classOf w seq) }
 
 abbrev pub heard : Taken → Accepted
 heard t = record { window = t .window; answer = acceptance.Heard (t .class) (t .lost) }
 
 unfoldable pub acceptAnswer : ReceiveWindow → ℕ → Accepted
-acceptAnswer w seq = cond (validOf w) (heard (acceptOf w seq)) record { window = w; answer = acceptance.Refused InvalidState }
+acceptAnswer w seq = onState (validOf w) (λ (why : Refusal). record { window = w; answer = acceptance.Refused why }) (heard (acceptOf w seq))
 
 unfoldable pub processedAnswer : ReceiveWindow → ℕ → Known
 processedAnswer w seq =
-    cond (validOf w) record { window = w; answer = knowledge.Processed (isProcessed w seq) }
-    record { window = w; answer = knowledge.Refused InvalidState }
+    onState (validOf w) (λ (why : Refusal). record { window = w; answer = answered.Refused why })
+    record { window = w; answer = answered.Is (isProcessed w seq) }
 
 -- ---- the answer is a span
 
 unfoldable pub extended : ReceiveWindow → ReceiveWindow → Span → Extended
-extended w next s = cond (validOf w) record { window = next; answer = extent.Numbers s } record { window = w; answer = extent.Refused InvalidState }
+extended w next s = onState (validOf w) (λ (why : Refusal). record { window = w; answer = extent.Refused why }) record { window = next; answer = extent.Numbers s }
 
 abbrev pub missingAnswer : ReceiveWindow → Extended
 missingAnswer w = extended w w (missingSpan w)

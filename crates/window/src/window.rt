@@ -5,6 +5,8 @@ ghost use Rattle.window.specs.Answers.{startAnswer, newAnswer, resetAnsw
 use super::set;
 use super::set::Bits;
 use super::valid;
+use config::answer::Answered;
+use config::answer::Outcome;
 use config::range;
 use config::refusal::Refusal;
 use config::sequence;
@@ -69,15 +71,9 @@ pub enum Started {
     Refused(Refusal),
 }
 
-// The answer of `reset` and `mark_all`.
-pub enum Change {
-    Done,
-    Refused(Refusal),
-}
-
 pub struct Changed {
     pub window: ReceiveWindow,
-    pub answer: Change,
+    pub answer: Outcome,
 }
 
 // The answer of `classify`.
@@ -102,15 +98,9 @@ pub struct Accepted {
     pub answer: Acceptance,
 }
 
-// The answer of `is_processed`.
-pub enum Knowledge {
-    Processed(bool),
-    Refused(Refusal),
-}
-
 pub struct Known {
     pub window: ReceiveWindow,
-    pub answer: Knowledge,
+    pub answer: Answered,
 }
 
 // The answer of `missing`, `request` and `mark_range`.
@@ -175,12 +165,12 @@ impl ReceiveWindow {
             let fresh = valid::starting_at(size, FRESH);
             return Changed {
                 window: fresh,
-                answer: Change::Done,
+                answer: Outcome::Done,
             };
         }
         Changed {
             window: self,
-            answer: Change::Refused(Refusal::InvalidState),
+            answer: Outcome::Refused(Refusal::InvalidState),
         }
     }
 
@@ -233,12 +223,12 @@ impl ReceiveWindow {
         if valid::is_valid(self) {
             return Known {
                 window: self,
-                answer: Knowledge::Processed(valid::is_processed(self, seq)),
+                answer: Answered::Is(valid::is_processed(self, seq)),
             };
         }
         Known {
             window: self,
-            answer: Knowledge::Refused(Refusal::InvalidState),
+            answer: Answered::Refused(Refusal::InvalidState),
         }
     }
 
@@ -281,12 +271,12 @@ impl ReceiveWindow {
         if valid::is_valid(self) {
             return Changed {
                 window: valid::mark_all(self),
-                answer: Change::Done,
+                answer: Outcome::Done,
             };
         }
         Changed {
             window: self,
-            answer: Change::Refused(Refusal::InvalidState),
+            answer: Outcome::Refused(Refusal::InvalidState),
         }
     }
 

@@ -2,12 +2,13 @@
 use Prim.Native.Nat.{ℕ}
 use mathlib.Core.Path.{_≡_}
 use borrow.Author.Needs.{needs}
+use Rattle.config.specs.Refusals.{outcomeNumber}
 use Rattle.uplink.specs.declared.grants.Step.{Step}
-use Rattle.c_uplink.specs.Numbers.{answerNumber, numbersOf}
+use Rattle.c_uplink.specs.Numbers.{numbersOf}
 use Rattle.c_uplink.proofs.numbers.Statement.{statement}
 use Rattle.c_uplink.proofs.numbers.Tie as tie
 
-told : (s : Step) (n : ℕ) → n ≡ answerNumber (s .answer) → record { grants = s .grants; turn = s .turn; refusal = n } ≡ numbersOf s
+told : (s : Step) (n : ℕ) → n ≡ outcomeNumber (s .answer) → record { grants = s .grants; turn = s .turn; refusal = n } ≡ numbersOf s
 told s n e = rw e
 
 number-requires : tie.Need-number-requires

@@ -13,8 +13,8 @@ command-requires c κs = search needs
 store-requires : tie.Need-store-requires
 store-requires c κs = search needs
 
-of-write-requires : tie.Need-of-write-requires
-of-write-requires c κs = search needs
+number-requires : tie.Need-number-requires
+number-requires c κs = search needs
 
 same-length : tie.Need-same-length
 same-length c = search needs
@@ -23,7 +23,7 @@ same-length-2 : tie.Need-same-length-2
 same-length-2 c = search needs
 
 returns : tie.Need-returns
-returns c = written _ _ _ _ _ _ _ _ (c .before .before .before .before .before .before .before .before .before .before .before .before .if1 .taken) (c .before .before .before .before .before .before .before .before .before .before .load .ensures) (c .before .before .before .before .before .before .before .before .command .ensures) (c .before .before .before .store .ensures) (c .of-write .ensures)
+returns c = written _ _ _ _ _ _ _ _ (c .before .before .before .before .before .before .before .before .before .before .before .before .if1 .taken) (c .before .before .before .before .before .before .before .before .before .before .load .ensures) (c .before .before .before .before .before .before .before .before .command .ensures) (c .before .before .before .store .ensures) (c .number .ensures)
 
 returns-2 : tie.Need-returns-2
 returns-2 c = not-written _ _ _ (c .if1 .left)
@@ -35,7 +35,7 @@ sirmjold-payload-command-spec =
     load-requires
     command-requires
     store-requires
-    of-write-requires
+    number-requires
     same-length
     same-length-2
     returns

@@ -19,8 +19,8 @@ reset-requires c κs = search needs
 store-requires : tie.Need-store-requires
 store-requires c κs = both-whole _ (then-fit _ _ (c .before .before .before .before .before .before .before .before .before .fits2 .ensures) (c .before .before .before .before .before .before .before .before .if1 .taken))
 
-of-reset-requires : tie.Need-of-reset-requires
-of-reset-requires c κs = search needs
+number-requires : tie.Need-number-requires
+number-requires c κs = search needs
 
 same-length : tie.Need-same-length
 same-length c = search needs
@@ -32,7 +32,7 @@ returns : tie.Need-returns
 unfolding resetExport
 returns c =
     let q = rw (c .before .before .before .before .before .before .before .before .before .before .load .ensures) at (c .before .before .before .before .before .before .before .before .reset .ensures) in
-    fit-made _ _ (c .before .before .before .before .before .before .before .before .before .before .before .before .before .fits2 .ensures) _ _ _ (c .before .before .before .before .before .before .before .before .before .before .before .before .if1 .taken) (rw (c .of-reset .ensures, c .before .before .before .store .ensures, ← q))
+    fit-made _ _ (c .before .before .before .before .before .before .before .before .before .before .before .before .before .fits2 .ensures) _ _ _ (c .before .before .before .before .before .before .before .before .before .before .before .before .if1 .taken) (rw (c .number .ensures, c .before .before .before .store .ensures, ← q))
 
 same-length-3 : tie.Need-same-length-3
 same-length-3 c = search needs
@@ -49,7 +49,7 @@ sirmjold-stream-reset-spec =
     load-requires
     reset-requires
     store-requires
-    of-reset-requires
+    number-requires
     same-length
     same-length-2
     returns

@@ -28,8 +28,8 @@ send-ump-requires c κs = search needs
 store-sender-requires : tie.Need-store-sender-requires
 store-sender-requires c κs = sender-whole _ (then-fits _ _ _ _ (c .before .before .before .before .before .before .before .before .before .before .before .sender-fits .ensures) (c .before .before .before .before .before .before .before .before .before .before .ready .ensures) (c .before .before .before .before .before .before .before .before .before .if1 .taken))
 
-of-send-requires : tie.Need-of-send-requires
-of-send-requires c κs = search needs
+number-requires : tie.Need-number-requires
+number-requires c κs = search needs
 
 same-length : tie.Need-same-length
 same-length c = search needs
@@ -41,7 +41,7 @@ returns : tie.Need-returns
 unfolding sendExport sendAnswer loaded
 returns c =
     let q = rw (c .before .before .before .before .before .before .before .before .before .before .before .sender-in .ensures, c .before .before .before .before .before .before .before .before .before .before .load .ensures) at (c .before .before .before .before .before .before .before .before .send-ump .ensures) in
-    ready-made _ _ _ _ (c .before .before .before .before .before .before .before .before .before .before .before .before .before .before .before .sender-fits .ensures) (c .before .before .before .before .before .before .before .before .before .before .before .before .before .before .ready .ensures) _ _ _ (c .before .before .before .before .before .before .before .before .before .before .before .before .before .if1 .taken) (rw (c .of-send .ensures, c .before .before .before .store-sender .ensures, ← q))
+    ready-made _ _ _ _ (c .before .before .before .before .before .before .before .before .before .before .before .before .before .before .before .sender-fits .ensures) (c .before .before .before .before .before .before .before .before .before .before .before .before .before .before .ready .ensures) _ _ _ (c .before .before .before .before .before .before .before .before .before .before .before .before .before .if1 .taken) (rw (c .number .ensures, c .before .before .before .store-sender .ensures, ← q))
 
 same-length-3 : tie.Need-same-length-3
 same-length-3 c = search needs
@@ -60,7 +60,7 @@ sirmjold-stream-send-ump-spec =
     load-requires
     send-ump-requires
     store-sender-requires
-    of-send-requires
+    number-requires
     same-length
     same-length-2
     returns

@@ -2,7 +2,7 @@
 use mathlib.Core.Path.{sym, _∙_}
 use native.Mathlib.Omega.{arith}
 use Rattle.window.specs.Arrival.{reach}
-use Rattle.window.proofs.Ranges.{within-range}
+use Rattle.config.specs.inner.Ranges.{within-range}
 use Rattle.window.proofs.Classes.{classify-new, classify-late, classify-duplicate}
 use borrow.Author.Needs.{needs}
 use Rattle.window.proofs.valid.classify.Statement.{statement}

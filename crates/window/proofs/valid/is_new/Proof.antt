@@ -1,7 +1,7 @@
 use mathlib.Core.Path.{sym}
 use native.Mathlib.Omega.{arith}
 use Rattle.window.specs.Arrival.{reach}
-use Rattle.window.proofs.Ranges.{within-below, low-passed}
+use Rattle.config.specs.inner.Ranges.{within-below, low-passed}
 use Rattle.window.proofs.valid.is_new.Statement.{statement}
 use Rattle.window.proofs.valid.is_new.Tie as tie
 

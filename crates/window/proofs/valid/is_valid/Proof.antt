@@ -1,8 +1,7 @@
 -- The size is tested as a figure, and the set by whether it is below 2 ^ size.
 use mathlib.Core.Path.{sym, _∙_}
-use native.Mathlib.Omega.{arith}
 use Rattle.window.specs.Set.{maxWindow}
-use Rattle.window.proofs.Ranges.{outside-not, within-range}
+use Rattle.config.specs.inner.Ranges.{outside-not, within-range}
 use Rattle.window.proofs.Validity.{valid-size, valid-bits}
 use borrow.Author.Needs.{needs}
 use Rattle.window.proofs.valid.is_valid.Statement.{statement}

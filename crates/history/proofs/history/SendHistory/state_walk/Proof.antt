@@ -1,9 +1,10 @@
 -- Each test is one of the definition's, in its order; the walk is what is left.
 use native.Mathlib.Omega.{arith}
-use Rattle.history.proofs.StateTest.{test-size, size-bounds, test-length, test-head, test-used, test-unsent, test-walk, answers-no}
+use Rattle.history.proofs.StateTest.{test-size, test-length, test-head, test-used, test-unsent, test-walk, answers-no}
 use borrow.Author.Needs.{needs}
 use Rattle.history.proofs.history.SendHistory.state_walk.Statement.{statement}
 use Rattle.history.proofs.history.SendHistory.state_walk.Tie as tie
+use Rattle.config.specs.inner.Ranges.{not-outside}
 
 outside-requires : tie.Need-outside-requires
 outside-requires c κs = search needs
@@ -43,7 +44,7 @@ returns-5 c =
 walks-requires : tie.Need-walks-requires
 walks-requires c κs =
     let size = c .before .before .before .before .before .before .before .before .before .before .before .args .self .size in
-    omega (arith, size-bounds 65 32768 size (cc), c .before .before .before .before .before .before .if2 .left, c .before .before .before .before .if3 .left, c .before .before .if4 .left, c .if5 .left)
+    omega (arith, not-outside 65 32768 size (cc), c .before .before .before .before .before .before .if2 .left, c .before .before .before .before .if3 .left, c .before .before .if4 .left, c .if5 .left)
 
 returns-6 : tie.Need-returns-6
 returns-6 c =

@@ -1,6 +1,7 @@
 -- The state is tested, and the rest is `valid::on_retransmit_error`.
 use mathlib.Core.Path.{sym, _∙_}
-use Rattle.receiver.proofs.Answers.{error-refused, error-told}
+use Rattle.config.specs.inner.Entries.{state-refused, state-made}
+use Rattle.receiver.specs.Answers.{errorAnswer, eventRefused}
 use borrow.Author.Needs.{needs}
 use Rattle.receiver.proofs.receiver.Receiver.on_retransmit_error.Statement.{statement}
 use Rattle.receiver.proofs.receiver.Receiver.on_retransmit_error.Tie as tie
@@ -12,11 +13,13 @@ on-retransmit-error-requires : tie.Need-on-retransmit-error-requires
 on-retransmit-error-requires c κs = sym (c .before .is-valid .ensures) ∙ c .if1 .taken
 
 returns : tie.Need-returns
+unfolding errorAnswer
 returns c =
-    c .on-retransmit-error .ensures ∙ error-told _ (sym (c .before .before .is-valid .ensures) ∙ c .before .if1 .taken) _
+    c .on-retransmit-error .ensures ∙ state-made (eventRefused _) _ (sym (c .before .before .is-valid .ensures) ∙ c .before .if1 .taken)
 
 returns-2 : tie.Need-returns-2
-returns-2 c = error-refused _ (sym (c .before .is-valid .ensures) ∙ c .if1 .left) _
+unfolding errorAnswer
+returns-2 c = state-refused (eventRefused _) _ (sym (c .before .is-valid .ensures) ∙ c .if1 .left)
 
 pub on-retransmit-error-spec : {M : Type 1} → statement M
 on-retransmit-error-spec =

@@ -1,6 +1,7 @@
 -- The state is tested, and the rest is `valid::on_retransmit_nak`.
 use mathlib.Core.Path.{sym, _∙_}
-use Rattle.receiver.proofs.Answers.{nak-refused, nak-told}
+use Rattle.config.specs.inner.Entries.{state-refused, state-made}
+use Rattle.receiver.specs.Answers.{nakAnswer, eventRefused}
 use borrow.Author.Needs.{needs}
 use Rattle.receiver.proofs.receiver.Receiver.on_retransmit_nak.Statement.{statement}
 use Rattle.receiver.proofs.receiver.Receiver.on_retransmit_nak.Tie as tie
@@ -12,11 +13,13 @@ on-retransmit-nak-requires : tie.Need-on-retransmit-nak-requires
 on-retransmit-nak-requires c κs = sym (c .before .is-valid .ensures) ∙ c .if1 .taken
 
 returns : tie.Need-returns
+unfolding nakAnswer
 returns c =
-    c .on-retransmit-nak .ensures ∙ nak-told _ (sym (c .before .before .is-valid .ensures) ∙ c .before .if1 .taken)
+    c .on-retransmit-nak .ensures ∙ state-made (eventRefused _) _ (sym (c .before .before .is-valid .ensures) ∙ c .before .if1 .taken)
 
 returns-2 : tie.Need-returns-2
-returns-2 c = nak-refused _ (sym (c .before .is-valid .ensures) ∙ c .if1 .left)
+unfolding nakAnswer
+returns-2 c = state-refused (eventRefused _) _ (sym (c .before .is-valid .ensures) ∙ c .if1 .left)
 
 pub on-retransmit-nak-spec : {M : Type 1} → statement M
 on-retransmit-nak-spec =

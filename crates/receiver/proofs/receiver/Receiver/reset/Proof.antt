@@ -1,6 +1,8 @@
 -- The state is tested, and the rest is `valid::reset`.
 use mathlib.Core.Path.{sym, _∙_}
-use Rattle.receiver.proofs.Answers.{reset-refused, reset-done}
+use Rattle.config.specs.inner.Entries.{state-refused}
+use Rattle.receiver.specs.Answers.{resetAnswer, resetRefused}
+use Rattle.receiver.proofs.Answers.{reset-done}
 use borrow.Author.Needs.{needs}
 use Rattle.receiver.proofs.receiver.Receiver.reset.Statement.{statement}
 use Rattle.receiver.proofs.receiver.Receiver.reset.Tie as tie
@@ -13,10 +15,11 @@ reset-requires c κs = sym (c .before .is-valid .ensures) ∙ c .if1 .taken
 
 returns : tie.Need-returns
 returns c =
-    reset-done _ (sym (c .before .before .is-valid .ensures) ∙ c .before .if1 .taken) _ (c .reset .ensures)
+    reset-done _ _ (sym (c .before .before .is-valid .ensures) ∙ c .before .if1 .taken) (c .reset .ensures)
 
 returns-2 : tie.Need-returns-2
-returns-2 c = reset-refused _ (sym (c .before .is-valid .ensures) ∙ c .if1 .left)
+unfolding resetAnswer
+returns-2 c = state-refused (resetRefused _) _ (sym (c .before .is-valid .ensures) ∙ c .if1 .left)
 
 pub reset-spec : {M : Type 1} → statement M
 reset-spec = tie.close (tie.spec is-valid-requires reset-requires returns returns-2)

@@ -1,7 +1,7 @@
 -- The size is tested, and the rest is `valid::starting_at`.
 use mathlib.Core.Path.{sym, _∙_}
 use Rattle.window.specs.Set.{maxWindow}
-use Rattle.window.proofs.Ranges.{outside-not, within-range}
+use Rattle.config.specs.inner.Ranges.{outside-not, within-range}
 use Rattle.window.proofs.Answers.{start-refused, start-window}
 use borrow.Author.Needs.{needs}
 use Rattle.window.proofs.window.ReceiveWindow.starting_at.Statement.{statement}

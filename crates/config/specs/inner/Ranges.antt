@@ -30,3 +30,6 @@ module _ (low high n : ℕ) where
 
   pub low-passed : low ≤ n → leb n high ≡ within low high n
   low-passed p = rw (le-leb low n p)
+
+  pub not-outside : outside low high n ≡ false → (low ≤ n) × (n ≤ high)
+  not-outside e = within-range (outside-not e)
