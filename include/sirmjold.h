@@ -96,7 +96,7 @@ static inline const char *sirmjold_refusal_text(uint8_t refusal)
     case SIRMJOLD_REFUSED_REASON_NOT_ALLOWED:
         return "the reason is not defined";
     case SIRMJOLD_REFUSED_SIZE_NOT_ALLOWED:
-        return "the size of a window, history, request ring, step budget or loss sheet is not taken, or the group is above 15";
+        return "the size of a window, history, request queue, step budget or loss sheet is not taken, or the group is above 15";
     case SIRMJOLD_REFUSED_INVALID_STATE:
         return "no call has left this state";
     case SIRMJOLD_REFUSED_INVALID_BLOCK:
@@ -411,7 +411,7 @@ struct sirmjold_stream {
     size_t history_len;
 };
 
-/* A fresh stream: a receive window of `window` numbers (1 to 128), a request ring of `places` places
+/* A fresh stream: a receive window of `window` numbers (1 to 128), a request queue of `places` places
  * (1 to 16), and the whole of `history` lent, which is zeroed; else 12. A start that is refused stores
  * nothing: a stream that runs goes on. */
 static inline uint8_t sirmjold_start(struct sirmjold_stream *stream, const struct sirmjold_settings *settings,
@@ -579,7 +579,7 @@ struct sirmjold_report {
 };
 
 /* A run of `budget` steps, at most 65536, from time 0. Both ends start fresh with the same settings: a receive window of
- * `window` numbers (1 to 128), a request ring of `places` places (1 to 16), and the whole of `ring` and of
+ * `window` numbers (1 to 128), a request queue of `places` places (1 to 16), and the whole of `ring` and of
  * `other` as the histories of console and chamber, 65 to 32768 words each. In each step the console queues the words of the
  * next value of `seed` and writes a payload, which is dropped when the next value of `drop`, modulo 256, is
  * below `figure`; the chamber hears it, polls and writes, and its payload reaches the console in that step. The

@@ -26,7 +26,7 @@ lend! {
 pub struct Line {
     /// The numbers of each receive window, 1 to 128.
     pub window: u32,
-    /// The places of each request ring, 1 to 16.
+    /// The places of each request queue, 1 to 16.
     pub places: usize,
     /// The seed of the load.
     pub seed: u32,

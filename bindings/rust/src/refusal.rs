@@ -53,7 +53,7 @@ pub enum Refusal {
     Malformed = 10,
     /// A reason that is not in the table of its command.
     ReasonNotAllowed = 11,
-    /// A window, history, request ring, step budget or loss sheet of a size that is not taken, or a group above 15.
+    /// A window, history, request queue, step budget or loss sheet of a size that is not taken, or a group above 15.
     SizeNotAllowed = 12,
     /// A state that no call has left. Memory that hands out the same slice each time never leads here.
     InvalidState = 13,
@@ -142,7 +142,7 @@ impl Refusal {
             Refusal::Malformed => "a Retransmit Request or Error has no word",
             Refusal::ReasonNotAllowed => "the reason is not defined",
             Refusal::SizeNotAllowed => {
-                "the size of a window, history, request ring, step budget or loss sheet is not taken, or the group is above 15"
+                "the size of a window, history, request queue, step budget or loss sheet is not taken, or the group is above 15"
             }
             Refusal::InvalidState => "no call has left this state",
             Refusal::InvalidBlock => {

@@ -130,7 +130,7 @@ pub enum StreamEvent {
     Nothing,
     /// The numbers of the range that were not processed before are lost.
     DataLoss(SeqRange),
-    /// The same, told by a Retransmit Error.
+    /// These numbers are lost, as a Retransmit Error told.
     ErrorLoss(SeqRange, RetransmitError),
     /// A Retransmit Error by which nothing was lost.
     RetransmitError(RetransmitError),
@@ -220,7 +220,7 @@ pub struct Stream<M> {
 }
 
 impl<M: Memory<u32>> Stream<M> {
-    /// A fresh stream: a receive window of `window` numbers (1 to 128), a request ring of `places`
+    /// A fresh stream: a receive window of `window` numbers (1 to 128), a request queue of `places`
     /// places (1 to 16), and a history of 65 to 32768 words, which is zeroed.
     ///
     /// ```

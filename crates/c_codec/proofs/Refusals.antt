@@ -12,9 +12,9 @@ use Rattle.packet.specs.Bytes.{wordsOf, spliced}
 use Rattle.packet.specs.Layout.{Packet}
 use Rattle.packet.specs.Read.{csdOf, signed, nextOf, bodyOf}
 use Rattle.packet.specs.Write.{WriteEnds, refused as notPut, done as put, validOf as payloadValid, openedOf, writtenOf as packetWritten}
-use Rattle.packet.specs.declared.reader.Header.{Header}
-use Rattle.packet.specs.declared.reader.PacketItem.{PacketItem}
-use Rattle.packet.specs.declared.reader.PacketItem.the-variants.{Command as WholeCommand, Truncated, End}
+use Rattle.packet.specs.declared.cursor.Header.{Header}
+use Rattle.packet.specs.declared.cursor.PacketItem.{PacketItem}
+use Rattle.packet.specs.declared.cursor.PacketItem.the-variants.{Command as WholeCommand, Truncated, End}
 use Rattle.packet.specs.declared.writer.PayloadWriter.{PayloadWriter}
 use Rattle.packet.specs.declared.writer.Opened.{Opened}
 use Rattle.packet.specs.declared.writer.Wrote.{Wrote}
@@ -25,9 +25,9 @@ use Rattle.command.specs.Parse.{requestIn, errorIn, parsedOf}
 use Rattle.command.specs.Write.{dataPacket, errorPacket, isDefined, dataWritten, errorWritten}
 use Rattle.command.specs.declared.parse.Command.the-variants.{UmpData, Raw}
 use Rattle.command.specs.declared.retransmit.RetransmitError.{RetransmitError}
-use Rattle.reading.specs.Words.{wholeCount, lengthsOf}
-use Rattle.reading.specs.Next.{firstOf, commandRead, wholeRead, itemRead, readAt}
-use Rattle.reading.specs.declared.next.Read.{Read}
+use Rattle.read_command.specs.Words.{wholeCount, lengthsOf}
+use Rattle.read_command.specs.Next.{firstOf, commandRead, wholeRead, itemRead, readAt}
+use Rattle.read_command.specs.declared.next.Read.{Read}
 use Rattle.c_words.specs.Payload.{payloadIn, payloadWords}
 use Rattle.c_words.proofs.Guards.{fit-true}
 use Rattle.c_words.proofs.Kept.{Kept, KeptOne, KeptTwo, itself, as-was, done, by-test, guard-keeps, payload-same}

@@ -5,7 +5,7 @@ use mathlib.Core.List.{List}
 use Rattle.packet.specs.Layout.{packet}
 use Rattle.packet.specs.Write.{writtenOf}
 use Rattle.command.specs.Write.{dataWritten, requestPacket, errorWritten}
-use Rattle.reading.specs.Next.{readAt}
+use Rattle.read_command.specs.Next.{readAt}
 use Rattle.c_codec.specs.Exports.{openExport, commandExport}
 
 pub record RefusedKeeps : Type 0 where

@@ -3,7 +3,7 @@
 ghost use mathlib.Core.Path.{_≡_};
 ghost use Rattle.packet.specs.Write.{writtenOf};
 ghost use Rattle.packet.specs.Layout.{packet};
-ghost use Rattle.reading.specs.Next.{readAt};
+ghost use Rattle.read_command.specs.Next.{readAt};
 ghost use Rattle.command.specs.Write.{dataWritten, requestPacket, errorWritten};
 ghost use Rattle.c_codec.specs.Exports.{openExport, commandExport};
 use c_words::guard;
@@ -13,8 +13,8 @@ use command::retransmit::RetransmitError;
 use command::retransmit::RetransmitRequest;
 use packet::writer::Opened;
 use packet::writer::PayloadWriter;
-use reading::next;
-use reading::next::Read;
+use read_command::next;
+use read_command::next::Read;
 
 // An empty payload; 4 when the limit is not 8 to 1,400 bytes.
 #[no_mangle]

@@ -40,7 +40,7 @@ fn report(ran: Ran) -> CReport
     }
 }
 
-// A run from a fresh start of both ends: a window of `window` numbers, a request ring of `places` places, and the whole
+// A run from a fresh start of both ends: a window of `window` numbers, a request queue of `places` places, and the whole
 // of `ring` and of `other` as the histories of console and chamber, which are zeroed. The settings are refused by their
 // own numbers; 12 for sizes, which are as at a start, for two histories that are not of one length, and for a budget above 65,536.
 #[no_mangle]

@@ -74,7 +74,7 @@ pub fn receiver_fits(words: &[u64]) -> bool
     words[11] <= words[9] * 0xFFFF
 }
 
-// The same for the sender's words.
+// Whether each of the sender's words is as wide as its figure.
 pub fn sender_fits(words: &[u64]) -> bool
     ensures { λ r. ⌜ r ≡ senderFits (now (words .entry)) ⌝ }
 {

@@ -74,21 +74,21 @@ tried-since s (wrote w) = wrote w
 tried-since as-before (large z) = large z
 tried-since (not-empty h) (large z) = absurd (h z)
 
-new-tried : (s : Sender) (cfg : StreamConfig) (now n : ℕ) (p : PayloadWriter) (b ring : List ℕ) (cs : List Packet)
-    → let e = newBy s cfg now n p b ring cs in Tried p b (e .0 .answer) (e .0 .payload) (e .1)
-new-tried s cfg now n p b ring [] = wrote _
-new-tried s cfg now n p b ring (first ∷ others) =
+new-tried : (s : Sender) (cfg : StreamConfig) (time n : ℕ) (p : PayloadWriter) (b ring : List ℕ) (cs : List Packet)
+    → let e = newBy s cfg time n p b ring cs in Tried p b (e .0 .answer) (e .0 .payload) (e .1)
+new-tried s cfg time n p b ring [] = wrote _
+new-tried s cfg time n p b ring (first ∷ others) =
     either (λ (e : Wrote × List ℕ). Tried p b (e .0 .answer) (e .0 .payload) (e .1)) (not (fitAll p b (first ∷ []))) _ _
     (λ _. either (λ (e : Wrote). Tried p b (e .answer) (e .payload) b) (eqb (p .len) 0) _ _ (λ z. large (eqb-true _ _ z)) (wrote _))
     (wrote _)
 
-pub written-tried : (s : Sender) (cfg : StreamConfig) (now : ℕ) (p : PayloadWriter) (b ring : List ℕ)
-    → let e = writtenBy s cfg now p b ring in Tried p b (e .0 .answer) (e .0 .payload) (e .1)
+pub written-tried : (s : Sender) (cfg : StreamConfig) (time : ℕ) (p : PayloadWriter) (b ring : List ℕ)
+    → let e = writtenBy s cfg time p b ring in Tried p b (e .0 .answer) (e .0 .payload) (e .1)
 unfolding writtenBy servedOf newOf
-written-tried s cfg now p b ring =
+written-tried s cfg time p b ring =
     let served = servedIn (s .queue .len) s ring p b in
-    let idled = idledOf (served .sender) cfg now ring in
+    let idled = idledOf (served .sender) cfg time ring in
     let unwritten = commandsAt (idled .0) (idled .1) (writtenCount (idled .0)) (idled .0 .unsent) in
     either (λ (e : Wrote × List ℕ × List ℕ). Tried p b (e .0 .answer) (e .0 .payload) (e .1)) (served .more) _ _ (λ _. wrote _)
     (tried-since (served-since (s .queue .len) s ring p b)
-    (new-tried (idled .0) cfg now (served .written) (served .payload) (served .bytes) (idled .1) unwritten))
+    (new-tried (idled .0) cfg time (served .written) (served .payload) (served .bytes) (idled .1) unwritten))

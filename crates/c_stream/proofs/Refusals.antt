@@ -28,7 +28,7 @@ use Rattle.window.specs.Window.{missingSpan, requestOf as spanRequest}
 use Rattle.window.specs.Marking.{markOf}
 use Rattle.window.specs.declared.window.Span.{Span}
 use Rattle.window.specs.declared.window.Span.the-variants.{Nothing as NoSpan, Of}
-use Rattle.receiver.specs.Receiver.{validOf as receiverValid, nothingMissing, heardOf, lossOf, gaveUp, polledAt, polledOf, errorEvent, erroredBy, erroredOf, nakedBy, nakedOf, enabledOf, notDue, takenBy, offeredOf, takenSpan, takenOf}
+use Rattle.receiver.specs.Receiver.{validOf as receiverValid, nothingMissing, heardOf, lossOf, gaveUp, polledAt, polledOf, errorEvent, errorTo, errorOf, nakBy, nakOf, enabledOf, notDue, takenBy, offeredOf, takenSpan, takenOf}
 use Rattle.receiver.specs.Answers as receiver
 use Rattle.receiver.specs.declared.receiver.Timer.{Timer}
 use Rattle.receiver.specs.declared.receiver.Timer.the-variants.{Stopped, Running}
@@ -39,14 +39,14 @@ use Rattle.receiver.specs.declared.receiver.Heard.{Heard}
 use Rattle.receiver.specs.declared.receiver.Told.{Told}
 use Rattle.receiver.specs.declared.receiver.Request.{Request}
 use Rattle.receiver.specs.declared.receiver.Request.the-variants.{Written as Taken, More, Refused as NotTaken}
-use Rattle.receiver.specs.declared.receiver.Requested.{Requested as ReceiverTaken}
+use Rattle.receiver.specs.declared.receiver.RequestWritten.{RequestWritten as ReceiverTaken}
 use Rattle.sender.specs.State.{validOf as senderValid}
 use Rattle.sender.specs.Queueing.{needOf, unsent, wordsCheck, placedOf, queuedOf, sentOf}
 use Rattle.sender.specs.Requests.{notWritten, withQueue, outcomeOf as pushOutcome, requestedOf}
 use Rattle.sender.specs.Answers as sender
 use Rattle.sender.specs.declared.sender.Sender.{Sender}
 use Rattle.sender.specs.declared.sender.Sent.{Sent}
-use Rattle.sender.specs.declared.sender.Requested.{Requested}
+use Rattle.sender.specs.declared.sender.RequestHeard.{RequestHeard}
 use Rattle.sender.specs.declared.sender.Writing.{Writing}
 use Rattle.stream.specs.State.{validOf as streamValid, withReceiver as withReceiverOf}
 use Rattle.stream.specs.Ends.{sendAnswer, requestAnswer, dataAnswer, errorAnswer, nakAnswer, pollAnswer, takeAnswer}
@@ -89,23 +89,23 @@ module _ (st : List ℕ) where
   marked r e NoSpan = done refl
   marked r e (Of range) = done refl
 
-  polled : (r : Receiver) (s : StreamConfig) (now : ℕ) (t : Timer) → ToldKept (polledAt r s now t)
+  polled : (r : Receiver) (s : StreamConfig) (time : ℕ) (t : Timer) → ToldKept (polledAt r s time t)
   unfolding gaveUp
-  polled r s now Stopped = done refl
-  polled r s now (Running t) =
-      by-test (ltb now (t .due)) _ _ (λ _. done refl)
+  polled r s time Stopped = done refl
+  polled r s time (Running t) =
+      by-test (ltb time (t .due)) _ _ (λ _. done refl)
       (by-test (nothingMissing (r .window)) _ _ (λ _. done refl)
       (by-test (ltb (t .sent) (s .«max_requests») && enabledOf r s) _ _ (λ _. done refl)
       (lost _ (missingSpan (r .window)))))
 
-  errored : (r : Receiver) (e : RetransmitError) (a : Asked) → ToldKept (erroredBy r e a)
-  errored r e Unasked = done refl
-  errored r e (AskedFor q) = marked _ e (markOf (r .window) record { first = q .seq; count = q .count } .span)
+  error-told : (r : Receiver) (e : RetransmitError) (a : Asked) → ToldKept (errorTo r e a)
+  error-told r e Unasked = done refl
+  error-told r e (AskedFor q) = marked _ e (markOf (r .window) record { first = q .seq; count = q .count } .span)
 
-  naked : (r : Receiver) (a : Asked) → ToldKept (nakedBy r a)
+  nak-told : (r : Receiver) (a : Asked) → ToldKept (nakBy r a)
   unfolding gaveUp
-  naked r Unasked = done refl
-  naked r (AskedFor q) = lost _ (missingSpan (r .window))
+  nak-told r Unasked = done refl
+  nak-told r (AskedFor q) = lost _ (missingSpan (r .window))
 
   module _ (r : Receiver) (same : withReceiver st r ≡ st) where
     heard-kept : (cfg : StreamConfig) (time seq : ℕ) → HeardKept (receiver.dataAnswer r cfg time seq)
@@ -116,13 +116,13 @@ module _ (st : List ℕ) where
     unfolding receiver.pollAnswer polledOf
     polled-kept cfg time = by-entry (checkOf cfg) (receiverValid r) (receiver.eventRefused r) _ (λ why. as-was same) (polled r cfg time (r .timer))
 
-    errored-kept : (e : RetransmitError) → ToldKept (receiver.errorAnswer r e)
-    unfolding receiver.errorAnswer erroredOf
-    errored-kept e = by-state (receiverValid r) (receiver.eventRefused r) _ (λ why. as-was same) (errored r e (r .asked))
+    error-kept : (e : RetransmitError) → ToldKept (receiver.errorAnswer r e)
+    unfolding receiver.errorAnswer errorOf
+    error-kept e = by-state (receiverValid r) (receiver.eventRefused r) _ (λ why. as-was same) (error-told r e (r .asked))
 
-    naked-kept : ToldKept (receiver.nakAnswer r)
-    unfolding receiver.nakAnswer nakedOf
-    naked-kept = by-state (receiverValid r) (receiver.eventRefused r) _ (λ why. as-was same) (naked r (r .asked))
+    nak-kept : ToldKept (receiver.nakAnswer r)
+    unfolding receiver.nakAnswer nakOf
+    nak-kept = by-state (receiverValid r) (receiver.eventRefused r) _ (λ why. as-was same) (nak-told r (r .asked))
 
   pub hear-keeps : (cfg : List ℕ) (time seq : ℕ) → KeptOne (λ (a : CDelivery). a .refusal) st (dataExport st cfg time seq)
   unfolding dataExport dataAnswer loaded
@@ -143,19 +143,19 @@ module _ (st : List ℕ) where
   unfolding errorExport errorAnswer loaded
   error-keeps reason seq =
       guard-keeps _ _ toldOf _ _ (receiver.errorAnswer (receiverIn st) record { reason = reason; seq = seq })
-      (λ z. errored-kept (receiverIn st) (receiver-same st (fit-true _ z)) record { reason = reason; seq = seq }) refl
+      (λ z. error-kept (receiverIn st) (receiver-same st (fit-true _ z)) record { reason = reason; seq = seq }) refl
 
   pub nak-keeps : KeptOne (λ (a : CEvent). a .refusal) st (nakExport st)
   unfolding nakExport nakAnswer loaded
-  nak-keeps = guard-keeps _ _ toldOf _ _ (receiver.nakAnswer (receiverIn st)) (λ z. naked-kept (receiverIn st) (receiver-same st (fit-true _ z))) refl
+  nak-keeps = guard-keeps _ _ toldOf _ _ (receiver.nakAnswer (receiverIn st)) (λ z. nak-kept (receiverIn st) (receiver-same st (fit-true _ z))) refl
 
 -- ---- the sender's calls, and a reset
 module _ (st ring : List ℕ) where
   abbrev SentKept : Sent × List ℕ → Type 0
   SentKept = Kept (λ (e : Sent × List ℕ). outcomeNumber (e .0 .answer)) (λ (e : Sent × List ℕ). (withSender st (e .0 .sender) ≡ st) × (e .1 ≡ ring))
 
-  abbrev RequestedKept : Requested → Type 0
-  RequestedKept = Kept (λ (e : Requested). outcomeOf (e .outcome) .refusal) (λ (e : Requested). withSender st (e .sender) ≡ st)
+  abbrev RequestedKept : RequestHeard → Type 0
+  RequestedKept = Kept (λ (e : RequestHeard). outcomeOf (e .outcome) .refusal) (λ (e : RequestHeard). withSender st (e .sender) ≡ st)
 
   abbrev PushedKept : Sender → Pushed → Type 0
   PushedKept s = Kept (λ (e : Pushed). outcomeOf (pushOutcome (e .answer)) .refusal) (λ (e : Pushed). withSender st (withQueue s (e .queue)) ≡ st)
@@ -196,7 +196,7 @@ module _ (st ring : List ℕ) where
     pub request-keeps : (cfg : List ℕ) (seq count : ℕ) → KeptOne (λ (a : COutcome). a .refusal) st (requestExport st cfg ring seq count)
     unfolding requestExport requestAnswer loaded
     request-keeps cfg seq count =
-        guard-keeps _ _ (λ (e : Requested). (outcomeOf (e .outcome), withSender st (e .sender))) _ _
+        guard-keeps _ _ (λ (e : RequestHeard). (outcomeOf (e .outcome), withSender st (e .sender))) _ _
         (sender.requestAnswer (senderIn st) (settingsOf cfg) ring record { seq = seq; count = count })
         (λ z. requested-kept (senderIn st) (settingsOf cfg) (sender-same st wide (ready-fits cfg (senderFits st) z)) record { seq = seq; count = count }) refl
 
@@ -313,29 +313,29 @@ module _ (st p b ring : List ℕ) where
     sent-kept-by n d a after bytes ring′ (wrote w) = done refl
     sent-kept-by n d a after bytes ring′ (large z) = as-was (whole, refl, λ g. absurd (g refl))
 
-    after-kept : (n : ℕ) (d : DataStream) (cfg : StreamConfig) (now : ℕ) (next : PayloadWriter) (bytes : List ℕ) → Since x b next bytes
-        → WroteKept (sentAfter n d cfg now next bytes ring)
+    after-kept : (n : ℕ) (d : DataStream) (cfg : StreamConfig) (time : ℕ) (next : PayloadWriter) (bytes : List ℕ) → Since x b next bytes
+        → WroteKept (sentAfter n d cfg time next bytes ring)
     unfolding sentAfter
-    after-kept n d cfg now next bytes since =
-        sent-kept-by n _ _ _ _ _ (tried-since since (written-tried (d .sender) cfg now next bytes ring))
+    after-kept n d cfg time next bytes since =
+        sent-kept-by n _ _ _ _ _ (tried-since since (written-tried (d .sender) cfg time next bytes ring))
 
-    module _ (d : DataStream) (cfg : StreamConfig) (now : ℕ) (same : stored d ≡ st) where
+    module _ (d : DataStream) (cfg : StreamConfig) (time : ℕ) (same : stored d ≡ st) where
       request-kept : (e : ReceiverTaken × List ℕ) → Taking (d .receiver) x b e
-          → WroteKept (afterRequest (e .0 .answer) (withReceiverOf d (e .0 .receiver)) cfg now (e .0 .payload) (e .1) ring)
+          → WroteKept (afterRequest (e .0 .answer) (withReceiverOf d (e .0 .receiver)) cfg time (e .0 .payload) (e .1) ring)
       request-kept e (refused why) = as-was (whole, refl, λ g. (same, whole, refl, refl))
-      request-kept e (none next) = after-kept 0 (withReceiverOf d next) cfg now x b as-before
+      request-kept e (none next) = after-kept 0 (withReceiverOf d next) cfg time x b as-before
       request-kept e more = done refl
-      request-kept e (taken next after bytes some) = after-kept 1 (withReceiverOf d next) cfg now after bytes (not-empty some)
+      request-kept e (taken next after bytes some) = after-kept 1 (withReceiverOf d next) cfg time after bytes (not-empty some)
 
       -- where the request is what is refused
       request-same : (e : ReceiverTaken × List ℕ) → Taking (d .receiver) x b e → (requestOf (e .0 .answer) .refusal ≡ 0 → ⊥)
-          → WroteSame (afterRequest (e .0 .answer) (withReceiverOf d (e .0 .receiver)) cfg now (e .0 .payload) (e .1) ring)
+          → WroteSame (afterRequest (e .0 .answer) (withReceiverOf d (e .0 .receiver)) cfg time (e .0 .payload) (e .1) ring)
       request-same e (refused why) n = (same, whole, refl, refl)
       request-same e (none next) n = absurd (n refl)
       request-same e more n = absurd (n refl)
       request-same e (taken next after bytes some) n = absurd (n refl)
 
-      wrote-kept : WroteKept (writeAnswer d cfg now x b ring)
+      wrote-kept : WroteKept (writeAnswer d cfg time x b ring)
       unfolding writeAnswer streamWritten
       wrote-kept =
           by-entry (checkOf cfg) (streamValid d ring && payloadValid x (length b)) (writeRefused d x b ring) _
@@ -353,7 +353,7 @@ module _ (st p b ring : List ℕ) where
       by-request Done true true false e f g n = (same, whole, refl, refl)
       by-request Done true true true e f g n = g n
 
-      wrote-same : (requestOf (receiver.takeAnswer (d .receiver) cfg x b .0 .answer) .refusal ≡ 0 → ⊥) → WroteSame (writeAnswer d cfg now x b ring)
+      wrote-same : (requestOf (receiver.takeAnswer (d .receiver) cfg x b .0 .answer) .refusal ≡ 0 → ⊥) → WroteSame (writeAnswer d cfg time x b ring)
       unfolding writeAnswer streamWritten streamValid receiver.takeAnswer
       wrote-same n =
           by-request (checkOf cfg) (receiverValid (d .receiver)) (senderValid (d .sender) ring) (payloadValid x (length b)) _ _

@@ -17,9 +17,9 @@ use Rattle.stream.specs.declared.stream.WasReset.{WasReset}
 use Rattle.stream.specs.declared.stream.Sent.{Sent}
 use Rattle.stream.specs.declared.stream.Heard.{Heard}
 use Rattle.stream.specs.declared.stream.Wrote.{Wrote}
-use Rattle.stream.specs.declared.stream.Requested.{Requested}
+use Rattle.stream.specs.declared.stream.RequestHeard.{RequestHeard}
 use Rattle.stream.specs.declared.stream.Told.{Told}
-use Rattle.stream.specs.declared.stream.Taken.{Taken}
+use Rattle.stream.specs.declared.stream.RequestWritten.{RequestWritten}
 use Rattle.c_state.specs.Stream.{streamWords, fits, receiverFits, senderFits, loaded, stored, withReceiver, withSender}
 use Rattle.c_words.specs.Guard.{guarded, fitNumber}
 use Rattle.c_words.specs.Settings.{readyNumber, settingsOf}
@@ -60,7 +60,7 @@ unfoldable pub sendExport : List ℕ → List ℕ → List ℕ → List ℕ → 
 sendExport st cfg ring ws =
     guarded (readyNumber cfg (senderFits st)) (λ n. (n, st, ring)) (sentInto st (sendAnswer (loaded st) (settingsOf cfg) ring ws))
 
-abbrev requestedInto : List ℕ → Requested → COutcome × List ℕ
+abbrev requestedInto : List ℕ → RequestHeard → COutcome × List ℕ
 requestedInto st e = (outcomeOf (e .outcome), withSender st (e .stream .sender))
 
 unfoldable pub requestExport : List ℕ → List ℕ → List ℕ → ℕ → ℕ → COutcome × List ℕ
@@ -91,7 +91,7 @@ pollExport st cfg time =
     guarded (readyNumber cfg (receiverFits st)) (λ n. (eventRefused n, st)) (toldInto st (pollAnswer (loaded st) (settingsOf cfg) time))
 
 -- the answer, the stream's words, the payload's words and its bytes
-abbrev takenInto : List ℕ → Taken × List ℕ → CRequest × List ℕ × List ℕ × List ℕ
+abbrev takenInto : List ℕ → RequestWritten × List ℕ → CRequest × List ℕ × List ℕ × List ℕ
 takenInto st e = (requestOf (e .0 .answer), withReceiver st (e .0 .stream .receiver), payloadWords (e .0 .payload), e .1)
 
 unfoldable pub takeExport : List ℕ → List ℕ → List ℕ → List ℕ → CRequest × List ℕ × List ℕ × List ℕ

@@ -22,7 +22,7 @@ use config::answer::Outcome;
 use stream::stream::DataStream;
 
 // A fresh stream: a receive window of `window` numbers, the lent history, which is zeroed, and a
-// request ring of `places` places. A start that is refused stores nothing.
+// request queue of `places` places. A start that is refused stores nothing.
 #[no_mangle]
 pub extern "C" fn sirmjold_stream_new(
     s: &mut [u64],

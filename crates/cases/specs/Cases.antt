@@ -44,7 +44,7 @@ range first count = Of record { first = first; count = count }
 abbrev pub empty : ℕ → PayloadWriter
 empty max = record { len = 0; max = max }
 
--- ---- the sender: 01 names no sizes for its cases; here a history of 65 words and a request ring of 4
+-- ---- the sender: 01 names no sizes for its cases; here a history of 65 words and a request queue of 4
 -- the first word, queued, and written at 1000
 abbrev pub queued : Sent × List ℕ
 queued = sendAnswer (freshSender 65 4) defaults (replicate 65 0) (0x20903C40 ∷ [])

@@ -9,8 +9,8 @@ use borrow.Author.Tests.{eq-eqb, ne-eqb}
 use Rattle.config.specs.declared.refusal.Refusal.the-variants.{Malformed}
 use Rattle.packet.specs.Bytes.{wordsOf}
 use Rattle.packet.specs.Read.{csdOf, wordAt}
-use Rattle.packet.specs.declared.reader.Header.{Header}
-use Rattle.packet.specs.declared.reader.Lookup.the-variants.{Word, Absent}
+use Rattle.packet.specs.declared.cursor.Header.{Header}
+use Rattle.packet.specs.declared.cursor.Lookup.the-variants.{Word, Absent}
 use Rattle.packet.proofs.Reading.{word-found, word-missed}
 use Rattle.command.specs.Parse.{requestIn, errorIn, parsedOf}
 use Rattle.command.specs.declared.parse.Command.{Command}

@@ -5,7 +5,7 @@ use mathlib.Core.List.{List, [], _∷_}
 use lib.Dec.{eqb}
 use Rattle.config.specs.declared.refusal.Refusal.the-variants.{Malformed}
 use Rattle.packet.specs.Read.{csdOf}
-use Rattle.packet.specs.declared.reader.Header.{Header}
+use Rattle.packet.specs.declared.cursor.Header.{Header}
 use Rattle.command.specs.declared.parse.Command.{Command}
 use Rattle.command.specs.declared.parse.Command.the-variants.{UmpData, RetransmitRequest, RetransmitError, Raw, Refused}
 

@@ -20,14 +20,14 @@ impl UmpData {
     pub fn write(p: PayloadWriter, buf: &mut [u8], seq: SeqNum, words: &[u32]) -> Wrote
         ensures { λ r. ⌜ (r, now (buf .exit)) ≡ dataWritten p (now (buf .entry)) seq (now (words .entry)) ⌝ }
     {
-        if packet::valid::is_valid(p, buf.len()) {
+        if packet::tested::is_valid(p, buf.len()) {
             if MAX_COMMAND_WORDS < words.len() {
                 return refused(p, Refusal::InvalidUmpData);
             }
             if whole_messages(words) {
                 let high = (seq / 0x100) as u8;
                 let low = (seq % 0x100) as u8;
-                return packet::valid::command(p, buf, 0xFF, high, low, words);
+                return packet::tested::command(p, buf, 0xFF, high, low, words);
             }
             return refused(p, Refusal::InvalidUmpData);
         }

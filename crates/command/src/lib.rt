@@ -11,11 +11,11 @@
 //   data        UmpData::write (13, 5, 3, 2)
 //   retransmit  RetransmitRequest::write (13, 3, 2), RetransmitError::write (13, 11, 3, 2)
 //   parse       what a received command is (10)
-//   valid       writing into a payload that has passed the state test
+//   tested      writing into a payload that has passed the state test
 //   theorems    reading gives back what was written
 pub mod data;
 pub mod message;
 pub mod parse;
 pub mod retransmit;
+pub mod tested;
 pub mod theorems;
-pub mod valid;

@@ -6,8 +6,8 @@ ghost use mathlib.Core.Path.{_≡_};
 ghost use Prim.Native.Nat.{_≤_};
 ghost use Rattle.packet.specs.Bytes.{wordsOf};
 ghost use Rattle.command.specs.Messages.{messageWords, wholeOf, messageAt};
-use packet::reader::Lookup;
-use packet::reader::word;
+use packet::cursor::Lookup;
+use packet::cursor::word;
 
 // Words of a message, by its type: a hex digit for each, type 0 the last.
 const WORDS: u64 = 0x4443_3222_1142_2111;

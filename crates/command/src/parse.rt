@@ -6,9 +6,9 @@ use super::data::UmpData;
 use super::retransmit::RetransmitError;
 use super::retransmit::RetransmitRequest;
 use config::refusal::Refusal;
-use packet::reader::Header;
-use packet::reader::Lookup;
-use packet::reader::word;
+use packet::cursor::Header;
+use packet::cursor::Lookup;
+use packet::cursor::word;
 
 pub enum Command {
     // Its messages stand in the command's bytes.

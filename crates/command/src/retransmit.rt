@@ -2,7 +2,7 @@
 ghost use mathlib.Core.Path.{_≡_};
 ghost use Rattle.command.specs.Write.{isDefined, requestPacket, errorWritten};
 ghost use Rattle.packet.specs.Write.{writtenOf};
-use super::valid;
+use super::tested;
 use config::answer::Outcome;
 use config::refusal::Refusal;
 use config::sequence::SeqNum;
@@ -31,8 +31,8 @@ impl RetransmitRequest {
     pub fn write(self, p: PayloadWriter, buf: &mut [u8]) -> Wrote
         ensures { λ r. ⌜ (r, now (buf .exit)) ≡ writtenOf p (now (buf .entry)) (requestPacket self) ⌝ }
     {
-        if packet::valid::is_valid(p, buf.len()) {
-            return valid::write_request(self, p, buf);
+        if packet::tested::is_valid(p, buf.len()) {
+            return tested::write_request(self, p, buf);
         }
         Wrote {
             payload: p,
@@ -53,8 +53,8 @@ impl RetransmitError {
     pub fn write(self, p: PayloadWriter, buf: &mut [u8]) -> Wrote
         ensures { λ r. ⌜ (r, now (buf .exit)) ≡ errorWritten self p (now (buf .entry)) ⌝ }
     {
-        if packet::valid::is_valid(p, buf.len()) {
-            return valid::write_error(self, p, buf);
+        if packet::tested::is_valid(p, buf.len()) {
+            return tested::write_error(self, p, buf);
         }
         Wrote {
             payload: p,

@@ -4,6 +4,6 @@ use Prim.Native.Nat.{ℕ, _+_, min}
 abbrev pub lastTime : ℕ
 lastTime = 18446744073709551615
 
--- the time `wait` after `now`
+-- the time `wait` after `time`
 abbrev pub later : ℕ → ℕ → ℕ
-later now wait = min (now + wait) lastTime
+later time wait = min (time + wait) lastTime

@@ -25,7 +25,7 @@ pub enum Refusal {
     Malformed,
     // A reason that is not in the table of its command.
     ReasonNotAllowed,
-    // A window, history, request ring or loss sheet of a size that is not taken.
+    // A window, history, request queue or loss sheet of a size that is not taken.
     SizeNotAllowed,
     // A state that no call has left.
     InvalidState,

@@ -41,7 +41,7 @@ impl StreamConfig {
         max_command_words: MAX_COMMAND_WORDS,
     };
 
-    // The same, as a call.
+    // `DEFAULT`, as a call.
     pub fn default() -> Self
         ensures { λ r. ⌜ r ≡ defaults ⌝ }
     {

@@ -24,11 +24,11 @@ use Rattle.window.proofs.Positions.{processed-fresh}
 use Rattle.window.proofs.Preserved.{valid-fresh}
 use Rattle.window.proofs.Accepts.{accept-as-duplicate}
 use Rattle.window.proofs.InOrder.{accept-in-order}
-use Rattle.receiver.specs.Receiver.{validOf, restOf, settledOf, heardOf, polledOf, erroredOf, nakedOf, takenOf}
+use Rattle.receiver.specs.Receiver.{validOf, restOf, settledOf, heardOf, polledOf, errorOf, nakOf, takenOf}
 use Rattle.receiver.specs.Answers.{pollAnswer, eventRefused, errorAnswer, nakAnswer, takeAnswer, requestRefused}
 use Rattle.receiver.specs.declared.receiver.Receiver.{Receiver}
 use Rattle.receiver.specs.declared.receiver.Told.{Told}
-use Rattle.receiver.specs.declared.receiver.Requested.{Requested}
+use Rattle.receiver.specs.declared.receiver.RequestWritten.{RequestWritten}
 use Rattle.receiver.specs.declared.receiver.Hearing.the-variants.{Delivery as Delivered}
 use Rattle.receiver_log.specs.Log.{lossIn}
 use Rattle.config.specs.inner.Choices.{by-cond, by-check}
@@ -50,30 +50,30 @@ module _ (W : ℕ) (least : 1 ≤ W) (most : W ≤ maxWindow) (off : Bool) (h : 
 
   -- ---- calls that hear nothing
 
-  pub rest-polled : (s : StreamConfig) (now : ℕ) → (pollAnswer rest s now .receiver ≡ rest) × (lossIn (pollAnswer rest s now .event) ≡ Nothing)
+  pub rest-polled : (s : StreamConfig) (time : ℕ) → (pollAnswer rest s time .receiver ≡ rest) × (lossIn (pollAnswer rest s time .event) ≡ Nothing)
   unfolding pollAnswer polledOf
-  rest-polled s now =
+  rest-polled s time =
       rw rest-valid (by-check (λ (x : Told). (x .receiver ≡ rest) × (lossIn (x .event) ≡ Nothing)) (checkOf s) (eventRefused rest) _ (λ why. (refl, refl)) (λ e. (refl, refl)))
 
-  pub rest-errored : (e : RetransmitError) → (errorAnswer rest e .receiver ≡ rest) × (lossIn (errorAnswer rest e .event) ≡ Nothing)
-  unfolding errorAnswer erroredOf
-  rest-errored e = rw rest-valid (refl, refl)
+  pub rest-error : (e : RetransmitError) → (errorAnswer rest e .receiver ≡ rest) × (lossIn (errorAnswer rest e .event) ≡ Nothing)
+  unfolding errorAnswer errorOf
+  rest-error e = rw rest-valid (refl, refl)
 
-  pub rest-naked : (nakAnswer rest .receiver ≡ restOf true (allProcessed W h)) × (lossIn (nakAnswer rest .event) ≡ Nothing)
-  unfolding nakAnswer nakedOf
-  rest-naked = rw rest-valid (refl, refl)
+  pub rest-nak : (nakAnswer rest .receiver ≡ restOf true (allProcessed W h)) × (lossIn (nakAnswer rest .event) ≡ Nothing)
+  unfolding nakAnswer nakOf
+  rest-nak = rw rest-valid (refl, refl)
 
   pub rest-taken : (s : StreamConfig) (p : PayloadWriter) (b : List ℕ) → takeAnswer rest s p b .0 .receiver ≡ rest
   unfolding takeAnswer takenOf
   rest-taken s p b =
-      rw rest-valid (by-check (λ (x : Requested × List ℕ). x .0 .receiver ≡ rest) (checkOf s) (requestRefused rest p b) _ (λ why. refl)
-      (λ k. by-cond (λ (x : Requested × List ℕ). x .0 .receiver ≡ rest) (payloadValid p (length b)) _ _ (λ e. refl) (λ e. refl)))
+      rw rest-valid (by-check (λ (x : RequestWritten × List ℕ). x .0 .receiver ≡ rest) (checkOf s) (requestRefused rest p b) _ (λ why. refl)
+      (λ k. by-cond (λ (x : RequestWritten × List ℕ). x .0 .receiver ≡ rest) (payloadValid p (length b)) _ _ (λ e. refl) (λ e. refl)))
 
   -- ---- a data command
 
-  settled : (s : StreamConfig) (now g : ℕ) (c : Class) → settledOf rest s now (allProcessed W g) c ≡ restOf off (allProcessed W g)
+  settled : (s : StreamConfig) (time g : ℕ) (c : Class) → settledOf rest s time (allProcessed W g) c ≡ restOf off (allProcessed W g)
   unfolding settledOf
-  settled s now g c = rw (none-missing W g)
+  settled s time g c = rw (none-missing W g)
 
   next : (seq : ℕ) → ahead h seq ≡ 1 → inOrder (allProcessed W h) seq ≡ true
   unfolding inOrder
@@ -84,13 +84,13 @@ module _ (W : ℕ) (least : 1 ≤ W) (most : W ≤ maxWindow) (off : Bool) (h : 
   low = mod-lt (2 ^ W - 1) (pow-pos 64)
 
   -- the next number
-  pub rest-next : (s : StreamConfig) (now seq : ℕ) → ahead h seq ≡ 1
-      → heardOf rest s now seq ≡ record { receiver = restOf off (allProcessed W seq); answer = Delivered record { seq = seq; class = New 0; gap = Nothing; lost = Nothing } }
+  pub rest-next : (s : StreamConfig) (time seq : ℕ) → ahead h seq ≡ 1
+      → heardOf rest s time seq ≡ record { receiver = restOf off (allProcessed W seq); answer = Delivered record { seq = seq; class = New 0; gap = Nothing; lost = Nothing } }
   unfolding heardOf
-  rest-next s now seq e = rw (← accept-in-order (allProcessed W h) (valid-fresh W h least most) seq (next seq e) low) (rw (settled s now seq (New 0)))
+  rest-next s time seq e = rw (← accept-in-order (allProcessed W h) (valid-fresh W h least most) seq (next seq e) low) (rw (settled s time seq (New 0)))
 
   -- a number that is read as behind
-  pub rest-behind : (s : StreamConfig) (now seq : ℕ) → within 1 reach (ahead h seq) ≡ false
-      → heardOf rest s now seq ≡ record { receiver = rest; answer = Delivered record { seq = seq; class = Duplicate; gap = Nothing; lost = Nothing } }
+  pub rest-behind : (s : StreamConfig) (time seq : ℕ) → within 1 reach (ahead h seq) ≡ false
+      → heardOf rest s time seq ≡ record { receiver = rest; answer = Delivered record { seq = seq; class = Duplicate; gap = Nothing; lost = Nothing } }
   unfolding heardOf
-  rest-behind s now seq e = rw (accept-as-duplicate (allProcessed W h) seq e (processed-fresh W h (ahead seq h)), settled s now h Duplicate)
+  rest-behind s time seq e = rw (accept-as-duplicate (allProcessed W h) seq e (processed-fresh W h (ahead seq h)), settled s time h Duplicate)

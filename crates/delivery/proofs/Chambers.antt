@@ -63,9 +63,9 @@ pub record Same (t u : List Report) : Type 0 where
   pub words : (x : ℕ) → delivered u x ≡ delivered t x
 
 pub unheard-same : (e : Entry) (t : List Report) → isHeard e ≡ false → Same t (reportOf e ∷ t)
-unheard-same (data-entry s now seq ws (Delivered d)) t h = absurd (never refl h)
-unheard-same (data-entry s now seq ws (HearingRefused why)) t h = record { top = refl; count = λ x. refl; words = λ x. refl }
-unheard-same (poll-entry s now e) t h = record { top = refl; count = λ x. refl; words = λ x. refl }
+unheard-same (data-entry s time seq ws (Delivered d)) t h = absurd (never refl h)
+unheard-same (data-entry s time seq ws (HearingRefused why)) t h = record { top = refl; count = λ x. refl; words = λ x. refl }
+unheard-same (poll-entry s time e) t h = record { top = refl; count = λ x. refl; words = λ x. refl }
 unheard-same (error-entry q e) t h = record { top = refl; count = λ x. refl; words = λ x. refl }
 unheard-same (nak-entry e) t h = record { top = refl; count = λ x. refl; words = λ x. refl }
 unheard-same (take-entry s p b a q c) t h = record { top = refl; count = λ x. refl; words = λ x. refl }

@@ -43,10 +43,10 @@ not-both true = refl
 not-both false = refl
 
 -- changes neither sender nor history
-pub astray-keeps : (s : Sender) (cfg : StreamConfig) (now : ℕ) (p : PayloadWriter) (b ring : List ℕ) → (checkOf cfg ≡ Done → payloadValid p (length b) ≡ false)
-    → (writeAnswer s cfg now p b ring .0 .sender ≡ s) × (writeAnswer s cfg now p b ring .2 ≡ ring)
+pub astray-keeps : (s : Sender) (cfg : StreamConfig) (time : ℕ) (p : PayloadWriter) (b ring : List ℕ) → (checkOf cfg ≡ Done → payloadValid p (length b) ≡ false)
+    → (writeAnswer s cfg time p b ring .0 .sender ≡ s) × (writeAnswer s cfg time p b ring .2 ≡ ring)
 unfolding writeAnswer
-astray-keeps s cfg now p b ring h = by-check Kept (checkOf cfg) _ _ (λ why. (refl, refl)) (λ passed. rw (h passed, not-both (validOf s ring)) (refl, refl))
+astray-keeps s cfg time p b ring h = by-check Kept (checkOf cfg) _ _ (λ why. (refl, refl)) (λ passed. rw (h passed, not-both (validOf s ring)) (refl, refl))
   where
     Kept : Wrote × List ℕ × List ℕ → Type 0
     Kept w = (w .0 .sender ≡ s) × (w .2 ≡ ring)
@@ -132,19 +132,19 @@ module _ (c q : ℕ) where
       by-cond (StepGood t) (ltb k (length (d .payloads))) _ _
       (λ e. put-good d t i k (omega (arith, tests)) (f (payloadAt d k)) (keeps (payloadAt d k) (on k (written t)))) (λ e. noted-good d t i)
 
-  unfoldable pub write-good : (d : Console) (t : List Entry) → Good d t → (k : ℕ) (cfg : StreamConfig) (now : ℕ) → TypedConfig cfg → k < length (d .payloads) → StepGood t (writeStep d k cfg now)
-  write-good d t i k cfg now typed l =
+  unfoldable pub write-good : (d : Console) (t : List Entry) → Good d t → (k : ℕ) (cfg : StreamConfig) (time : ℕ) → TypedConfig cfg → k < length (d .payloads) → StepGood t (writeStep d k cfg time)
+  write-good d t i k cfg time typed l =
       let v : Lent = payloadAt d k in
-      let w = writeAnswer (d .sender) cfg now (v .payload) (v .buffer) (d .ring) in
+      let w = writeAnswer (d .sender) cfg time (v .payload) (v .buffer) (d .ring) in
       let u : Lent = record { payload = w .0 .payload; buffer = w .1 } in
-      let f = write-follows c q (d .sender) (d .ring) (i .book) (i .follows) cfg typed now (v .payload) (v .buffer) in
+      let f = write-follows c q (d .sender) (d .ring) (i .book) (i .follows) cfg typed time (v .payload) (v .buffer) in
       let before : Reads v (on k (written t)) = i .payloads .open-ones k l in
-      let g = write-grown c (i .follows .most) (accepted t) cfg now (i .book) (v .payload) (v .buffer) (commands (written t)) (before .packets) (omega (arith, i .follows .least)) (i .agrees) (before .holds) in
+      let g = write-grown c (i .follows .most) (accepted t) cfg time (i .book) (v .payload) (v .buffer) (commands (written t)) (before .packets) (omega (arith, i .follows .least)) (i .agrees) (before .holds) in
       let holds : Holds (w .0 .payload) (w .1) (before .packets ++ g .more) = rw (f .2, f .3) (g .holds) in
       let after : Reads u (on k (written t) ++ dataIn (g .more)) = reads-more v u (on k (written t)) before (g .more) holds in
       let adds : added v u ≡ dataIn (g .more) = reads-added v u (on k (written t)) (dataIn (g .more)) before after in
       record {
-        book = writeIn c cfg now (i .book) (v .payload) (v .buffer) .book;
+        book = writeIn c cfg time (i .book) (v .payload) (v .buffer) .book;
         follows = f .0;
         agrees = rw (commands-tagged k (held v) (added v u) (written t), adds) (g .agrees);
         payloads = payloads-wrote (d .payloads) (written t) t (i .payloads) k l u v (w .0 .answer) (dataIn (g .more)) before after;
@@ -158,19 +158,19 @@ module _ (c q : ℕ) where
   step-good d t i (lend-again k rest) a = touch-good d t i k (lentAgain rest) (reads-lent rest)
   step-good d t i (queue-words cfg ws) a = queue-good d t i cfg ws a
   step-good d t i (retransmit-request cfg r) a = request-good d t i cfg r
-  step-good d t i (write-into k cfg now) a =
-      by-cond (StepGood t) (ltb k (length (d .payloads))) _ _ (λ e. write-good d t i k cfg now a (omega (arith, tests))) (λ e. noted-good d t i)
+  step-good d t i (write-into k cfg time) a =
+      by-cond (StepGood t) (ltb k (length (d .payloads))) _ _ (λ e. write-good d t i k cfg time a (omega (arith, tests))) (λ e. noted-good d t i)
   step-good d t i (put-into k call) a = touch-good d t i k (putInto call) (λ v cs. reads-put call v cs (a .0) (a .1))
-  step-good d t i (write-astray p b cfg now) a =
-      let e = astray-keeps (d .sender) cfg now p b (d .ring) a in rw (e .0, e .1) (noted-good d t i)
+  step-good d t i (write-astray p b cfg time) a =
+      let e = astray-keeps (d .sender) cfg time p b (d .ring) a in rw (e .0, e .1) (noted-good d t i)
 
   log-good : (calls : List Call) (d : Console) (t : List Entry) → Good d t → AllAllowed calls → (e : Console) × Good e (logFrom d t calls)
   unfolding logFrom
   log-good [] d t i a = (d, i)
   log-good (call ∷ calls) d t i a = log-good calls (stepOf d call .console) (stepOf d call .entry ∷ t) (step-good d t i call (a .0)) (a .1)
 
-  pub console-good : (memory : List ℕ) → newAnswer c q memory .0 .answer ≡ Done → (calls : List Call) → AllAllowed calls
-      → (e : Console) × Good e (logFrom (freshConsole c q memory) [] calls)
-  console-good memory started calls a =
-      log-good calls (freshConsole c q memory) []
-      record { book = nothing; follows = start-follows c q memory started; agrees = nothing-agrees c; payloads = none-opened } a
+  pub console-good : (ring₀ : List ℕ) → newAnswer c q ring₀ .0 .answer ≡ Done → (calls : List Call) → AllAllowed calls
+      → (e : Console) × Good e (logFrom (freshConsole c q ring₀) [] calls)
+  console-good ring₀ started calls a =
+      log-good calls (freshConsole c q ring₀) []
+      record { book = nothing; follows = start-follows c q ring₀ started; agrees = nothing-agrees c; payloads = none-opened } a

@@ -45,25 +45,25 @@ abbrev Apart : Call → Type 0
 Apart (open-payload limit buffer) = Unit {0}
 Apart (lend-again k rest) = Unit {0}
 Apart (put-into k call) = Unit {0}
-Apart (write-astray p b cfg now) = Unit {0}
+Apart (write-astray p b cfg time) = Unit {0}
 Apart (queue-words cfg ws) = ⊥
 Apart (retransmit-request cfg r) = ⊥
-Apart (write-into k cfg now) = ⊥
+Apart (write-into k cfg time) = ⊥
 
 -- of a console: R and K up to 255, a buffer lent again, a write refused for its payload's state
-pub every-call : (limit k : ℕ) (buffer ws : List ℕ) (cfg : StreamConfig) (r : RetransmitRequest) (now : ℕ) (call : Writes.Call) (p : PayloadWriter)
+pub every-call : (limit k : ℕ) (buffer ws : List ℕ) (cfg : StreamConfig) (r : RetransmitRequest) (time : ℕ) (call : Writes.Call) (p : PayloadWriter)
     → Words32 ws → cfg .«fec_repeats» < 256 → cfg .«idle_further» < 256 → Writes.Typed call → isData (Writes.commandOf call) ≡ false → payloadValid p (length buffer) ≡ false
-    → AllAllowed (open-payload limit buffer ∷ lend-again k buffer ∷ queue-words cfg ws ∷ retransmit-request cfg r ∷ write-into k cfg now ∷ put-into k call ∷ write-astray p buffer cfg now ∷ [])
-every-call limit k buffer ws cfg r now call p w f g t d e = (tt, (tt, (w, (tt, ((f, g), ((t, d), (λ passed. e, tt)))))))
+    → AllAllowed (open-payload limit buffer ∷ lend-again k buffer ∷ queue-words cfg ws ∷ retransmit-request cfg r ∷ write-into k cfg time ∷ put-into k call ∷ write-astray p buffer cfg time ∷ [])
+every-call limit k buffer ws cfg r time call p w f g t d e = (tt, (tt, (w, (tt, ((f, g), ((t, d), (λ passed. e, tt)))))))
 
 -- or for its settings
-pub every-refused : (p : PayloadWriter) (buffer : List ℕ) (cfg : StreamConfig) (now : ℕ) → (checkOf cfg ≡ Done → ⊥) → Allowed (write-astray p buffer cfg now)
-every-refused p buffer cfg now h passed = absurd (h passed)
+pub every-refused : (p : PayloadWriter) (buffer : List ℕ) (cfg : StreamConfig) (time : ℕ) → (checkOf cfg ≡ Done → ⊥) → Allowed (write-astray p buffer cfg time)
+every-refused p buffer cfg time h passed = absurd (h passed)
 
 -- of a chamber
-pub every-arrival : (cfg : StreamConfig) (now seq : ℕ) (ws : List ℕ) (e : RetransmitError) (p : PayloadWriter) (b : List ℕ) → seq < 65536
-    → AllTyped (Chamber.data-command cfg now seq ws ∷ Chamber.poll cfg now ∷ Chamber.retransmit-error e ∷ Chamber.nak ∷ Chamber.take-request cfg p b ∷ [])
-every-arrival cfg now seq ws e p b l = (l, (tt, (tt, (tt, (tt, tt)))))
+pub every-arrival : (cfg : StreamConfig) (time seq : ℕ) (ws : List ℕ) (e : RetransmitError) (p : PayloadWriter) (b : List ℕ) → seq < 65536
+    → AllTyped (Chamber.data-command cfg time seq ws ∷ Chamber.poll cfg time ∷ Chamber.retransmit-error e ∷ Chamber.nak ∷ Chamber.take-request cfg p b ∷ [])
+every-arrival cfg time seq ws e p b l = (l, (tt, (tt, (tt, (tt, tt)))))
 
 -- the log holds each call, refused ones too
 pub every-entry : (calls : List Call) (c : Console) (t : List Entry) → length (logFrom c t calls) ≡ length calls + length t
@@ -74,13 +74,13 @@ every-entry (call ∷ calls) c t = every-entry calls (stepOf c call .console) (s
 -- ---- runs
 
 -- a history of 65 to 32,768 words, 1 to 16 places for requests, a window of 1 to 128, and any lists of these calls
-pub every-run : (words places W : ℕ) (memory : List ℕ) (calls : List Call) (arrivals : List Chamber.Call)
-    → 65 ≤ words → words ≤ 32768 → length memory ≡ words → 1 ≤ places → places ≤ 16 → 1 ≤ W → W ≤ 128 → AllAllowed calls → AllTyped arrivals → Run
-every-run words places W memory calls arrivals a b c d e f g allowed typed = record {
+pub every-run : (words places W : ℕ) (ring₀ : List ℕ) (calls : List Call) (arrivals : List Chamber.Call)
+    → 65 ≤ words → words ≤ 32768 → length ring₀ ≡ words → 1 ≤ places → places ≤ 16 → 1 ≤ W → W ≤ 128 → AllAllowed calls → AllTyped arrivals → Run
+every-run words places W ring₀ calls arrivals a b c d e f g allowed typed = record {
   words = words;
   places = places;
-  memory = memory;
-  started = every-size words places memory a b c d e;
+  ring₀ = ring₀;
+  started = every-size words places ring₀ a b c d e;
   calls = calls;
   allowed = allowed;
   window = W;
@@ -96,17 +96,17 @@ every-run words places W memory calls arrivals a b c d e f g allowed typed = rec
 pub every-reach : {t : List Entry} {q : List Heard} {ps : List ℕ} → Line t q ps
     → (k : ℕ) (v : Lent) → Was t k v → (before behind : List Command) (c : Command) → dataOf (bytes v) ≡ before ++ (c ∷ behind)
     → origin + positionOf (written t) k (length before) ≤ highest ps + 32767 → highest ps ≤ origin + positionOf (written t) k (length before) + 32768
-    → (cfg : StreamConfig) (now : ℕ) (d : Delivery)
-    → Line t (data-entry cfg now (c .number) (c .words) (Delivered d) ∷ q) (positionOf (written t) k (length before) ∷ ps)
-every-reach {t = t} l k v w before behind c e m n cfg now d = hear l k v w before behind c e (positionOf (written t) k (length before)) refl (omega (arith, m)) (omega (arith, n)) cfg now d
+    → (cfg : StreamConfig) (time : ℕ) (d : Delivery)
+    → Line t (data-entry cfg time (c .number) (c .words) (Delivered d) ∷ q) (positionOf (written t) k (length before) ∷ ps)
+every-reach {t = t} l k v w before behind c e m n cfg time d = hear l k v w before behind c e (positionOf (written t) k (length before)) refl (omega (arith, m)) (omega (arith, n)) cfg time d
 
 -- between the commands heard: each other call, and a refused data command, from wherever it came
 pub every-other : {t : List Entry} {q : List Heard} {ps : List ℕ} → Line t q ps
-    → (cfg : StreamConfig) (now seq : ℕ) (ws : List ℕ) (why : Refusal) (e : RetransmitError) (told asked naked : StreamEvent) (p r : PayloadWriter) (b d : List ℕ) (a : Request)
-    → Line t (data-entry cfg now seq ws (HearingRefused why) ∷ poll-entry cfg now told ∷ error-entry e asked ∷ nak-entry naked ∷ take-entry cfg p b a r d ∷ q) ps
-every-other l cfg now seq ws why e told asked naked p r b d a =
-    pass (pass (pass (pass (pass l (take-entry cfg p b a r d) refl) (nak-entry naked) refl) (error-entry e asked) refl) (poll-entry cfg now told) refl)
-    (data-entry cfg now seq ws (HearingRefused why)) refl
+    → (cfg : StreamConfig) (time seq : ℕ) (ws : List ℕ) (why : Refusal) (e : RetransmitError) (told asked denied : StreamEvent) (p r : PayloadWriter) (b d : List ℕ) (a : Request)
+    → Line t (data-entry cfg time seq ws (HearingRefused why) ∷ poll-entry cfg time told ∷ error-entry e asked ∷ nak-entry denied ∷ take-entry cfg p b a r d ∷ q) ps
+every-other l cfg time seq ws why e told asked denied p r b d a =
+    pass (pass (pass (pass (pass l (take-entry cfg p b a r d) refl) (nak-entry denied) refl) (error-entry e asked) refl) (poll-entry cfg time told) refl)
+    (data-entry cfg time seq ws (HearingRefused why)) refl
 
 -- ---- what is asked, and what follows
 
@@ -125,7 +125,7 @@ every-pair c = c .first .performances
 
 -- what is handed on is all words, for the line alone; and a take is any receiver's, of any payload
 pub every-heard : HandedWords → (u : Run) (ps : List ℕ) → Line (sentLog u) (heardLog u) ps
-    → (cfg : StreamConfig) (now seq : ℕ) (ws : List ℕ) (d : Delivery) → List·Memᴰ (data-entry cfg now seq ws (Delivered d)) (heardLog u) → AllHanded (d .class) ws
+    → (cfg : StreamConfig) (time seq : ℕ) (ws : List ℕ) (d : Delivery) → List·Memᴰ (data-entry cfg time seq ws (Delivered d)) (heardLog u) → AllHanded (d .class) ws
 every-heard h = h
 
 pub every-take : Takes → (r : Receiver) (cfg : StreamConfig) (v : Lent) → TakenBy v (takeAnswer r cfg (v .payload) (v .buffer))
@@ -149,24 +149,24 @@ pub every-new : (R : ℕ) (C : List (List ℕ)) (u v : Lent) (ws : List ℕ) →
 every-new R C u v ws e d = one e ws d
 
 -- each other call, and a refused data command, may stand between
-pub every-between : (q : List Heard) (cfg : StreamConfig) (now seq : ℕ) (ws : List ℕ) (why : Refusal) (e : RetransmitError) (told asked naked : StreamEvent) (p r : PayloadWriter) (b d : List ℕ) (a : Request)
-    → heardCommands (data-entry cfg now seq ws (HearingRefused why) ∷ poll-entry cfg now told ∷ error-entry e asked ∷ nak-entry naked ∷ take-entry cfg p b a r d ∷ q) ≡ heardCommands q
-every-between q cfg now seq ws why e told asked naked p r b d a = refl
+pub every-between : (q : List Heard) (cfg : StreamConfig) (time seq : ℕ) (ws : List ℕ) (why : Refusal) (e : RetransmitError) (told asked denied : StreamEvent) (p r : PayloadWriter) (b d : List ℕ) (a : Request)
+    → heardCommands (data-entry cfg time seq ws (HearingRefused why) ∷ poll-entry cfg time told ∷ error-entry e asked ∷ nak-entry denied ∷ take-entry cfg p b a r d ∷ q) ≡ heardCommands q
+every-between q cfg time seq ws why e told asked denied p r b d a = refl
 
 -- a sender is paced whatever payloads are opened, lent again and put into between, and whatever writes are refused
 pub every-pace : (R s n : ℕ) (d : Console) (calls : List Call) (call : Call) → Apart call → Paced R s (stepOf d call .console) n calls → Paced R s d n (call ∷ calls)
 every-pace R s n d calls (open-payload limit buffer) x h = h
 every-pace R s n d calls (lend-again k rest) x h = h
 every-pace R s n d calls (put-into k call) x h = h
-every-pace R s n d calls (write-astray p b cfg now) x h = h
+every-pace R s n d calls (write-astray p b cfg time) x h = h
 every-pace R s n d calls (queue-words cfg ws) x h = absurd x
 every-pace R s n d calls (retransmit-request cfg r) x h = absurd x
-every-pace R s n d calls (write-into k cfg now) x h = absurd x
+every-pace R s n d calls (write-into k cfg time) x h = absurd x
 
 -- what is asked of it, with the figures written out: of each write, and of the history
 pub every-write : (R s : ℕ) (cfg : StreamConfig) (v : Lent) → checkOf cfg ≡ Done → cfg .«fec_repeats» ≡ R → v .payload .len ≡ 0
     → 4 + (R + 1) * (4 + 4 * s) ≤ v .payload .max → 4 + (R + 1) * (4 + 4 * s) ≤ length (v .buffer) → Ready R s cfg v
 every-write R s cfg v a b c d e = record { passes = a; repeats = b; empty = c; limit = d; lent = e }
 
-pub every-paced : PacedSender → (u : Run) (R s : ℕ) → (R + 1) * (1 + s) ≤ u .words → Paced R s (freshConsole (u .words) (u .places) (u .memory)) 0 (u .calls) → Brings R (sentLog u)
+pub every-paced : PacedSender → (u : Run) (R s : ℕ) → (R + 1) * (1 + s) ≤ u .words → Paced R s (freshConsole (u .words) (u .places) (u .ring₀)) 0 (u .calls) → Brings R (sentLog u)
 every-paced p u R s h c = p .brings u R s record { history = h; paced = c }

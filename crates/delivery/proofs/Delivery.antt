@@ -144,24 +144,24 @@ module _ (words places : ℕ) (d : Console) (t : List Entry) (i : Good words pla
 
   right : {q : List Heard} {ps : List ℕ} → Line t q ps → Right (reports q) ps
   right fresh = right-fresh
-  right (hear {q = q} {ps = ps} r k v w before behind s e p at-p m n cfg now f) =
+  right (hear {q = q} {ps = ps} r k v w before behind s e p at-p m n cfg time f) =
       right-heard (reports q) ps (right r) s p (rw at-p (found-at k (length before) s (heard-found k v w before behind s e))) (omega (arith, m)) (omega (arith, n)) (f .class) (f .lost)
   right (pass {q = q} {ps = ps} r e x) = right-same (reports q) (reportOf e ∷ reports q) ps (right r) (unheard-same e (reports q) x)
 
   -- of each command heard, the program hands on all words or none
-  all-handed : {q : List Heard} {ps : List ℕ} → Line t q ps → (cfg : StreamConfig) (now seq : ℕ) (ws : List ℕ) (d : Delivery)
-      → List·Memᴰ (data-entry cfg now seq ws (Delivered d)) q → AllHanded (d .class) ws
-  all-handed fresh cfg now seq ws d h = absurd (List·Memᴰ·not-nil h)
-  all-handed (hear {q = q} r k v w before behind s e p at-p m n cfg₀ now₀ f) cfg now seq ws d h = by (List·Memᴰ·cases-cons h) (λ y. all-handed r cfg now seq ws d y)
+  all-handed : {q : List Heard} {ps : List ℕ} → Line t q ps → (cfg : StreamConfig) (time seq : ℕ) (ws : List ℕ) (d : Delivery)
+      → List·Memᴰ (data-entry cfg time seq ws (Delivered d)) q → AllHanded (d .class) ws
+  all-handed fresh cfg time seq ws d h = absurd (List·Memᴰ·not-nil h)
+  all-handed (hear {q = q} r k v w before behind s e p at-p m n cfg₀ now₀ f) cfg time seq ws d h = by (List·Memᴰ·cases-cons h) (λ y. all-handed r cfg time seq ws d y)
     where
-      by : (data-entry cfg now seq ws (Delivered d) ≡ data-entry cfg₀ now₀ (s .number) (s .words) (Delivered f)) ⊎ List·Memᴰ (data-entry cfg now seq ws (Delivered d)) q
-          → (List·Memᴰ (data-entry cfg now seq ws (Delivered d)) q → AllHanded (d .class) ws) → AllHanded (d .class) ws
+      by : (data-entry cfg time seq ws (Delivered d) ≡ data-entry cfg₀ now₀ (s .number) (s .words) (Delivered f)) ⊎ List·Memᴰ (data-entry cfg time seq ws (Delivered d)) q
+          → (List·Memᴰ (data-entry cfg time seq ws (Delivered d)) q → AllHanded (d .class) ws) → AllHanded (d .class) ws
       by (inl x) rest = let same : ws ≡ s .words = cc in rw same (copy-of k v w before behind s e .all-handed (d .class))
       by (inr y) rest = rest y
-  all-handed (pass {q = q} r e x) cfg now seq ws d h = by (List·Memᴰ·cases-cons h) (λ y. all-handed r cfg now seq ws d y)
+  all-handed (pass {q = q} r e x) cfg time seq ws d h = by (List·Memᴰ·cases-cons h) (λ y. all-handed r cfg time seq ws d y)
     where
-      by : (data-entry cfg now seq ws (Delivered d) ≡ e) ⊎ List·Memᴰ (data-entry cfg now seq ws (Delivered d)) q
-          → (List·Memᴰ (data-entry cfg now seq ws (Delivered d)) q → AllHanded (d .class) ws) → AllHanded (d .class) ws
+      by : (data-entry cfg time seq ws (Delivered d) ≡ e) ⊎ List·Memᴰ (data-entry cfg time seq ws (Delivered d)) q
+          → (List·Memᴰ (data-entry cfg time seq ws (Delivered d)) q → AllHanded (d .class) ws) → AllHanded (d .class) ws
       by (inl y) rest = absurd (never (ap isHeard (sym y)) x)
       by (inr y) rest = rest y
 
@@ -211,7 +211,7 @@ promise : (u : Run) → Promise (u .window) (heardIn u)
 promise u = receiver-promise (u .window) (omega (arith, u .least)) (omega (arith, u .most)) (u .arrivals) (u .typed)
 
 pub good : (u : Run) → (d : Console) × Good (u .words) (u .places) d (sentLog u)
-good u = console-good (u .words) (u .places) (u .memory) (u .started) (u .calls) (u .allowed)
+good u = console-good (u .words) (u .places) (u .ring₀) (u .started) (u .calls) (u .allowed)
 
 on-line : (u : Run) (ps : List ℕ) → Line (sentLog u) (heardLog u) ps → Right (u .words) (u .places) (good u .0) (sentLog u) (good u .1) (heardIn u) ps
 on-line u ps line = right (u .words) (u .places) (good u .0) (sentLog u) (good u .1) line

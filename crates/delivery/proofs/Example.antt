@@ -346,7 +346,7 @@ pub example : Run
 example = record {
   words = 65;
   places = 4;
-  memory = zeros 65;
+  ring₀ = zeros 65;
   started = started;
   calls = calls;
   allowed = allowed;

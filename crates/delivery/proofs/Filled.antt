@@ -70,7 +70,7 @@ commands-numbered (ws ∷ es) xs C p e l =
 abbrev pub Right : (R s c : ℕ) (history : (R + 1) * (1 + s) ≤ c) → Lent → List Command → WriteIn → Type 0
 Right R s c history v w a = Kept R s c history 0 (a .book) × Brought R (contents w) v record { payload = a .payload; buffer = a .bytes }
 
-module _ (R s c : ℕ) (history : (R + 1) * (1 + s) ≤ c) (most : c ≤ 32768) (cfg : StreamConfig) (now : ℕ) (v : Lent) (ready : Ready R s cfg v) (opened : v .payload .max ≤ 1400) where
+module _ (R s c : ℕ) (history : (R + 1) * (1 + s) ≤ c) (most : c ≤ 32768) (cfg : StreamConfig) (time : ℕ) (v : Lent) (ready : Ready R s cfg v) (opened : v .payload .max ≤ 1400) where
   abbrev p : PayloadWriter
   p = v .payload
 
@@ -174,21 +174,21 @@ module _ (R s c : ℕ) (history : (R + 1) * (1 + s) ≤ c) (most : c ≤ 32768) 
       again-all : againIn b (cfg .«fec_repeats») p by first ≡ again
       again-all = ap (λ (r : ℕ). againIn b r p by first) (ready .repeats) ∙ repeats-all p by first again all-fit
 
-      new-right : b .unwritten ≡ ws ∷ [] → Right R s c history v w (newBy cfg now 0 b p by (first ∷ []))
+      new-right : b .unwritten ≡ ws ∷ [] → Right R s c history v w (newBy cfg time 0 b p by (first ∷ []))
       new-right e =
           let n : length row - length again ≡ 1 = omega (arith, length-append again (first ∷ [])) in
-          rw (first-fits, again-all, all-written, n) (written-kept R s c history cfg now b ws few k e, one held-none ws row-data)
+          rw (first-fits, again-all, all-written, n) (written-kept R s c history cfg time b ws few k e, one held-none ws row-data)
 
   -- ---- whatever is unwritten
 
-  new-brings : (n : ℕ) (b : Book) (accepted : List ℕ) (w : List Command) → Agrees c b accepted w → Kept R s c history n b → n ≤ s → Right R s c history v w (newWritten cfg now 0 b p by)
+  new-brings : (n : ℕ) (b : Book) (accepted : List ℕ) (w : List Command) → Agrees c b accepted w → Kept R s c history n b → n ≤ s → Right R s c history v w (newWritten cfg time 0 b p by)
   unfolding newWritten dataFrom
   new-brings n b accepted w i k l = go (b .unwritten) refl (k .unwritten)
     where
       at : ℕ
       at = after (oldestIn b) (length (b .written))
 
-      go : (us : List (List ℕ)) → b .unwritten ≡ us → Open n us → Right R s c history v w (newBy cfg now 0 b p by (newIn b))
+      go : (us : List (List ℕ)) → b .unwritten ≡ us → Open n us → Right R s c history v w (newBy cfg time 0 b p by (newIn b))
       go us e Room.none =
           rw (ap (dataFrom at) e)
           (record { holding = k .holding; unwritten = rw e Room.none }, nothing (drop-length (dataOf (bytes v))))
@@ -197,10 +197,10 @@ module _ (R s c : ℕ) (history : (R + 1) * (1 + s) ≤ c) (most : c ≤ 32768) 
           (new-right b accepted w i (k .holding) ws (omega arith) (rw e at (i .new) .0) e)
 
   pub write-brings : (n : ℕ) (b : Book) (accepted : List ℕ) (w : List Command) → Agrees c b accepted w → Kept R s c history n b → n ≤ s → 1 ≤ c
-      → Right R s c history v w (writeIn c cfg now b p by)
+      → Right R s c history v w (writeIn c cfg time b p by)
   unfolding writeIn writtenIn servedIn
   write-brings n b accepted w i k l some =
       let served : servedIn b (b .waiting) p by ≡ servedIn b [] p by = ap (λ (rs : List RetransmitRequest). servedIn b rs p by) (k .holding .no-request) in
       let left : Kept R s c history n (withWaiting b []) = record { holding = record { no-request = refl; few = k .holding .few; last = k .holding .last }; unwritten = k .unwritten } in
       rw (ready .passes, valid, served)
-      (new-brings n (idledIn c cfg now (withWaiting b [])) accepted w (idled-agrees c most (withWaiting b []) accepted w i cfg now some) (idled-kept R s c history n (withWaiting b []) cfg now left l) l)
+      (new-brings n (idledIn c cfg time (withWaiting b [])) accepted w (idled-agrees c most (withWaiting b []) accepted w i cfg time some) (idled-kept R s c history n (withWaiting b []) cfg time left l) l)

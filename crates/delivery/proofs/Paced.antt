@@ -76,15 +76,15 @@ module _ (R s c q : ℕ) (history : (R + 1) * (1 + s) ≤ c) where
   queue-pace n d t i cfg ws h m l =
       record { good = queue-good c q d t (i .good) cfg ws h; kept = sent-kept R s c history n (i .good .book) cfg ws (i .kept) l m; few = l; brings = i .brings }
 
-  write-pace : (n : ℕ) (d : Console) (t : List Entry) → Pace n d t → (k : ℕ) (cfg : StreamConfig) (now : ℕ) → TypedConfig cfg → Ready R s cfg (payloadAt d k) → k < length (d .payloads)
-      → StepPace 0 t (writeStep d k cfg now)
+  write-pace : (n : ℕ) (d : Console) (t : List Entry) → Pace n d t → (k : ℕ) (cfg : StreamConfig) (time : ℕ) → TypedConfig cfg → Ready R s cfg (payloadAt d k) → k < length (d .payloads)
+      → StepPace 0 t (writeStep d k cfg time)
   unfolding write-good
-  write-pace n d t i k cfg now typed ready l =
+  write-pace n d t i k cfg time typed ready l =
       let g = i .good in
       let v : Lent = payloadAt d k in
-      let f = write-follows c q (d .sender) (d .ring) (g .book) (g .follows) cfg typed now (v .payload) (v .buffer) in
-      let r = write-brings R s c history (g .follows .most) cfg now v ready (g .payloads .open-ones k l .holds .opened) n (g .book) (accepted t) (commands (written t)) (g .agrees) (i .kept) (i .few) (omega (arith, g .follows .least)) in
-      record { good = write-good c q d t g k cfg now typed l; kept = r .0; few = omega arith; brings = (rw (f .2, f .3) (r .1), i .brings) }
+      let f = write-follows c q (d .sender) (d .ring) (g .book) (g .follows) cfg typed time (v .payload) (v .buffer) in
+      let r = write-brings R s c history (g .follows .most) cfg time v ready (g .payloads .open-ones k l .holds .opened) n (g .book) (accepted t) (commands (written t)) (g .agrees) (i .kept) (i .few) (omega (arith, g .follows .least)) in
+      record { good = write-good c q d t g k cfg time typed l; kept = r .0; few = omega arith; brings = (rw (f .2, f .3) (r .1), i .brings) }
 
   -- ---- a payload that is ready is open
 
@@ -105,21 +105,21 @@ module _ (R s c q : ℕ) (history : (R + 1) * (1 + s) ≤ c) where
   log-pace (lend-again k rest ∷ calls) n d t i a h = log-pace calls n _ _ (put-pace n d t i k (lentAgain rest) (reads-lent rest)) (a .1) h
   log-pace (queue-words cfg ws ∷ calls) n d t i a h = log-pace calls (n + length ws) _ _ (queue-pace n d t i cfg ws (a .0) (h .0) (omega (arith, h .1))) (a .1) (h .2)
   log-pace (retransmit-request cfg r ∷ calls) n d t i a h = absurd h
-  log-pace (write-into k cfg now ∷ calls) n d t i a h =
+  log-pace (write-into k cfg time ∷ calls) n d t i a h =
       let o = ready-open d k cfg (h .0) in
-      rw o (log-pace calls 0 _ _ (write-pace n d t i k cfg now (a .0) (h .0) (omega (arith, tests))) (a .1) (rw o at (h .1)))
+      rw o (log-pace calls 0 _ _ (write-pace n d t i k cfg time (a .0) (h .0) (omega (arith, tests))) (a .1) (rw o at (h .1)))
   log-pace (put-into k call ∷ calls) n d t i a h = log-pace calls n _ _ (put-pace n d t i k (putInto call) (λ v cs. reads-put call v cs (a .0 .0) (a .0 .1))) (a .1) h
-  log-pace (write-astray p b cfg now ∷ calls) n d t i a h =
-      let e = astray-keeps (d .sender) cfg now p b (d .ring) (a .0) in
+  log-pace (write-astray p b cfg time ∷ calls) n d t i a h =
+      let e = astray-keeps (d .sender) cfg time p b (d .ring) (a .0) in
       rw (e .0, e .1) (log-pace calls n _ _ (noted-pace n d t i) (a .1) (rw (e .0, e .1) at h))
 
 -- ---- the theorem
 
 brings : (u : Run) (R s : ℕ) → Keeps R s u → Brings R (sentLog u)
 brings u R s k =
-    log-pace R s (u .words) (u .places) (k .history) (u .calls) 0 (freshConsole (u .words) (u .places) (u .memory)) []
+    log-pace R s (u .words) (u .places) (k .history) (u .calls) 0 (freshConsole (u .words) (u .places) (u .ring₀)) []
     record {
-      good = record { book = nothing; follows = start-follows (u .words) (u .places) (u .memory) (u .started); agrees = nothing-agrees (u .words); payloads = none-opened };
+      good = record { book = nothing; follows = start-follows (u .words) (u .places) (u .ring₀) (u .started); agrees = nothing-agrees (u .words); payloads = none-opened };
       kept = record { holding = record { no-request = refl; few = tt; last = omega arith }; unwritten = none };
       few = omega arith;
       brings = tt;
@@ -128,9 +128,9 @@ brings u R s k =
 
 -- ---- rounds
 
-write-count : (d : Console) (k : ℕ) (cfg : StreamConfig) (now : ℕ) → length (stepOf d (write-into k cfg now) .console .payloads) ≡ length (d .payloads)
+write-count : (d : Console) (k : ℕ) (cfg : StreamConfig) (time : ℕ) → length (stepOf d (write-into k cfg time) .console .payloads) ≡ length (d .payloads)
 unfolding stepOf
-write-count d k cfg now =
+write-count d k cfg time =
     by-cond (λ (x : Step). length (x .console .payloads) ≡ length (d .payloads)) (ltb k (length (d .payloads))) _ _ (λ e. length-set (d .payloads) k _) (λ e. refl)
 
 rounds-paced : (R s : ℕ) (rs : List Round) (k : ℕ) (d : Console) → length (d .payloads) ≡ k → AllFit R s rs → Paced R s d 0 (roundsFrom k rs)
@@ -148,7 +148,7 @@ rounds-paced R s (r ∷ rs) k d n f =
       omega (arith, fit .few),
       (
         rw here record { passes = fit .passes; repeats = fit .repeats; empty = refl; limit = fit .limit; lent = fit .lent },
-        rounds-paced R s rs (suc k) (stepOf queued (write-into k (r .settings) (r .now)) .console) (write-count queued k (r .settings) (r .now) ∙ length-append (d .payloads) (v ∷ []) ∙ omega arith) (f .1),
+        rounds-paced R s rs (suc k) (stepOf queued (write-into k (r .settings) (r .time)) .console) (write-count queued k (r .settings) (r .time) ∙ length-append (d .payloads) (v ∷ []) ∙ omega arith) (f .1),
       ),
     )
   where
@@ -159,5 +159,5 @@ pub paced-sender : PacedSender
 paced-sender = record {
   brings = brings;
   alone = λ u R s k a. repeats-alone u R record { brings = brings u R s k; gone = _; arrives = a; last = refl };
-  rounds = λ R s words places memory rs f. rounds-paced R s rs 0 (freshConsole words places memory) refl f;
+  rounds = λ R s words places ring₀ rs f. rounds-paced R s rs 0 (freshConsole words places ring₀) refl f;
 }

@@ -36,7 +36,7 @@ lastHeld (noted ∷ t) = lastHeld t
 
 -- commands of s words, R repeats, into payloads of a limit
 abbrev round : ℕ → ℕ → ℕ → ℕ → Round
-round R s limit i = record { limit = limit; buffer = zeros limit; settings = settings R; words = replicate s 0x20903C40; now = i * 10 }
+round R s limit i = record { limit = limit; buffer = zeros limit; settings = settings R; words = replicate s 0x20903C40; time = i * 10 }
 
 abbrev sent : List Round → List Entry
 sent rs = logFrom (freshConsole 65 1 (zeros 65)) [] (roundsFrom 0 rs)

@@ -40,7 +40,7 @@ abbrev queue : List ℕ → Call
 queue ws = queue-words (settings 0) ws
 
 abbrev write : ℕ → Call
-write now = write-into 0 (settings 0) now
+write time = write-into 0 (settings 0) time
 
 abbrev together : List Call
 together = opened ∷ queue A ∷ queue B ∷ write 0 ∷ []

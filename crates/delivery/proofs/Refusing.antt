@@ -62,8 +62,8 @@ abbrev isRefused : Writing → Bool
 isRefused (Written w) = false
 isRefused (NotWritten why) = true
 
-module _ (cfg : StreamConfig) (now : ℕ) where
-  new-refused : (n : ℕ) (b : Book) (p : PayloadWriter) (by : List ℕ) (new : List Packet) → isRefused (newBy cfg now n b p by new .answer) ≡ true → p .len ≡ 0
+module _ (cfg : StreamConfig) (time : ℕ) where
+  new-refused : (n : ℕ) (b : Book) (p : PayloadWriter) (by : List ℕ) (new : List Packet) → isRefused (newBy cfg time n b p by new .answer) ≡ true → p .len ≡ 0
   new-refused n b p by [] e = absurd (never e refl)
   new-refused n b p by (first ∷ others) e =
       by-cond Ok (not (fitAll p by (first ∷ []))) _ _
@@ -73,16 +73,16 @@ module _ (cfg : StreamConfig) (now : ℕ) where
       Ok : WriteIn → Type 0
       Ok a = isRefused (a .answer) ≡ true → p .len ≡ 0
 
-  new-written-refused : (n : ℕ) (b : Book) (p : PayloadWriter) (by : List ℕ) → isRefused (newWritten cfg now n b p by .answer) ≡ true → p .len ≡ 0
+  new-written-refused : (n : ℕ) (b : Book) (p : PayloadWriter) (by : List ℕ) → isRefused (newWritten cfg time n b p by .answer) ≡ true → p .len ≡ 0
   unfolding newWritten
   new-written-refused n b p by e = new-refused n b p by (newIn b) e
 
-  written-refused : (c : ℕ) (b : Book) (p : PayloadWriter) (by : List ℕ) → isRefused (writtenIn c cfg now b p by .answer) ≡ true → p .len ≡ 0
+  written-refused : (c : ℕ) (b : Book) (p : PayloadWriter) (by : List ℕ) → isRefused (writtenIn c cfg time b p by .answer) ≡ true → p .len ≡ 0
   unfolding writtenIn
   written-refused c b p by e =
       let s = servedIn b (b .waiting) p by in
       by-cond (λ (a : WriteIn). isRefused (a .answer) ≡ true → p .len ≡ 0) (s .more) _ _ (λ more x. absurd (never x refl))
-      (λ all x. served-empty b (b .waiting) p by (new-written-refused (s .commands) (idledIn c cfg now (withWaiting b (s .waiting))) (s .payload) (s .bytes) x)) e
+      (λ all x. served-empty b (b .waiting) p by (new-written-refused (s .commands) (idledIn c cfg time (withWaiting b (s .waiting))) (s .payload) (s .bytes) x)) e
 
 -- ---- any refused write
 
@@ -95,23 +95,23 @@ empty-opened p room v z =
     rw (a, b) (ap (λ (n : ℕ). Payload record { len = n; max = p .max }) (sym z))
 
 abbrev Listed : StreamConfig → ℕ → PayloadWriter → List ℕ → Type 0
-Listed cfg now p by = Allowed (write-astray p by cfg now) ⊎ (openedOf (p .max) ≡ Payload p)
+Listed cfg time p by = Allowed (write-astray p by cfg time) ⊎ (openedOf (p .max) ≡ Payload p)
 
-in-lists : (c : ℕ) (cfg : StreamConfig) (now : ℕ) (b : Book) (p : PayloadWriter) (by : List ℕ) → isRefused (writeIn c cfg now b p by .answer) ≡ true → Listed cfg now p by
+in-lists : (c : ℕ) (cfg : StreamConfig) (time : ℕ) (b : Book) (p : PayloadWriter) (by : List ℕ) → isRefused (writeIn c cfg time b p by .answer) ≡ true → Listed cfg time p by
 unfolding writeIn
-in-lists c cfg now b p by e = go (checkOf cfg) (payloadValid p (length by)) refl refl e
+in-lists c cfg time b p by e = go (checkOf cfg) (payloadValid p (length by)) refl refl e
   where
     go : (k : Outcome) (v : Bool) → checkOf cfg ≡ k → payloadValid p (length by) ≡ v
-        → isRefused (entry k v (Sender.refused b p by) (writtenIn c cfg now b p by) .answer) ≡ true → Listed cfg now p by
+        → isRefused (entry k v (Sender.refused b p by) (writtenIn c cfg time b p by) .answer) ≡ true → Listed cfg time p by
     go (Refused why) v s i x = inl (λ passed. let z : ⊥ = (let y : _≡_ {A = ℕ} 0 1 = cc in omega arith) in absurd z)
     go Done false s i x = inl (λ passed. i)
-    go Done true s i x = inr (empty-opened p (length by) i (written-refused cfg now c b p by x))
+    go Done true s i x = inr (empty-opened p (length by) i (written-refused cfg time c b p by x))
 
 -- after any list of calls on a fresh sender
-pub every-refused-write : (c q : ℕ) (memory : List ℕ) → Started c q memory → (calls : List Call) → AllTyped calls
-    → (cfg : StreamConfig) → TypedConfig cfg → (now : ℕ) (p : PayloadWriter) (by : List ℕ) (why : Refusal)
-    → writeAnswer (run c q memory calls .sender) cfg now p by (run c q memory calls .ring) .0 .answer ≡ NotWritten why
-    → Listed cfg now p by
-every-refused-write c q memory started calls typed cfg settings now p by why e =
-    let f = write-follows c q (run c q memory calls .sender) (run c q memory calls .ring) (bookOf c q calls) (run-ok c q memory started calls typed) cfg settings now p by in
-    in-lists c cfg now (bookOf c q calls) p by (ap isRefused (sym (f .1) ∙ e))
+pub every-refused-write : (c q : ℕ) (ring₀ : List ℕ) → Started c q ring₀ → (calls : List Call) → AllTyped calls
+    → (cfg : StreamConfig) → TypedConfig cfg → (time : ℕ) (p : PayloadWriter) (by : List ℕ) (why : Refusal)
+    → writeAnswer (run c q ring₀ calls .sender) cfg time p by (run c q ring₀ calls .ring) .0 .answer ≡ NotWritten why
+    → Listed cfg time p by
+every-refused-write c q ring₀ started calls typed cfg settings time p by why e =
+    let f = write-follows c q (run c q ring₀ calls .sender) (run c q ring₀ calls .ring) (bookOf c q calls) (run-ok c q ring₀ started calls typed) cfg settings time p by in
+    in-lists c cfg time (bookOf c q calls) p by (ap isRefused (sym (f .1) ∙ e))

@@ -39,7 +39,7 @@ use Rattle.delivery.proofs.Lent.{Payloads}
 use Rattle.delivery.proofs.Chambers.{read-position}
 use Rattle.delivery.proofs.Brought.{length-from, one-each, written-many, sent-holds}
 use Rattle.delivery.proofs.Steady.{Steady, still, steady-from, Last, was-up, was-back, last-of, none-heard}
-use Rattle.delivery.proofs.AtRest.{rest-polled, rest-errored, rest-naked, rest-taken, rest-next, rest-behind}
+use Rattle.delivery.proofs.AtRest.{rest-polled, rest-error, rest-nak, rest-taken, rest-next, rest-behind}
 use Rattle.delivery.proofs.Delivery.{good}
 use Rattle.delivery.proofs.InTime.{all-handed-on}
 
@@ -75,15 +75,15 @@ module _ (W : ℕ) (least : 1 ≤ W) (most : W ≤ maxWindow) (C : List (List �
   rest-quiet n r x t e a off is q = record { off = off; is = is; top = rw q (a .top); all = rw q (a .all); no-loss = rw q (refl, a .no-loss) }
 
   -- a data command that isn't refused
-  module _ (r : Receiver) (t : List Entry) (s : StreamConfig) (now seq : ℕ) (ws : List ℕ) where
+  module _ (r : Receiver) (t : List Entry) (s : StreamConfig) (time seq : ℕ) (ws : List ℕ) where
     abbrev Next : ℕ → Heard → Type 0
-    Next n x = AtRest n (x .receiver) (data-entry s now seq ws (x .answer) ∷ t)
+    Next n x = AtRest n (x .receiver) (data-entry s time seq ws (x .answer) ∷ t)
 
-    rest-up : (n : ℕ) → AtRest n r t → n < length C → seq ≡ n % turn → ws ≡ getD C n [] → Next (suc n) (heardOf r s now seq)
+    rest-up : (n : ℕ) → AtRest n r t → n < length C → seq ≡ n % turn → ws ≡ getD C n [] → Next (suc n) (heardOf r s time seq)
     rest-up n a l es ew =
         let h : ℕ = (origin - 1 + n) % turn in
         let here : place (high (reports t)) seq ≡ origin + n = rw (a .top, es) (read-position (origin - 1 + n) n (omega arith) (omega arith)) in
-        rw (a .is, rest-next W least most (a .off) h s now seq (rw es (omega arith))) record {
+        rw (a .is, rest-next W least most (a .off) h s time seq (rw es (omega arith))) record {
           off = a .off;
           is = let e : seq ≡ (origin - 1 + suc n) % turn = omega arith in rw e;
           top = rw (here, a .top) (omega arith);
@@ -92,11 +92,11 @@ module _ (W : ℕ) (least : 1 ≤ W) (most : W ≤ maxWindow) (C : List (List �
           no-loss = (refl, a .no-loss);
         }
 
-    rest-back : (n : ℕ) → AtRest n r t → (p : ℕ) → p < n → n ≤ p + (reach + 2) → seq ≡ p % turn → Next n (heardOf r s now seq)
+    rest-back : (n : ℕ) → AtRest n r t → (p : ℕ) → p < n → n ≤ p + (reach + 2) → seq ≡ p % turn → Next n (heardOf r s time seq)
     rest-back n a p l m es =
         let h : ℕ = (origin - 1 + n) % turn in
         let here : place (high (reports t)) seq ≡ origin + p = rw (a .top, es) (read-position (origin - 1 + n) p (omega arith) (omega arith)) in
-        rw (a .is, rest-behind W least most (a .off) h s now seq (rw es (read-back n p l m))) record { off = a .off; is = refl; top = rw (here, a .top) (omega arith); all = a .all; no-loss = (refl, a .no-loss) }
+        rw (a .is, rest-behind W least most (a .off) h s time seq (rw es (read-back n p l m))) record { off = a .off; is = refl; top = rw (here, a .top) (omega arith); all = a .all; no-loss = (refl, a .no-loss) }
 
   -- ---- every call
 
@@ -104,37 +104,37 @@ module _ (W : ℕ) (least : 1 ≤ W) (most : W ≤ maxWindow) (C : List (List �
   abbrev Keeps : Receiver → List Entry → Type 0
   Keeps r t = (n : ℕ) → Steady C (heardCommands t) n → AtRest n r t
 
-  heard-kept : (r : Receiver) (t : List Entry) (s : StreamConfig) (now seq : ℕ) (ws : List ℕ) → Keeps r t
-      → Keeps (heardOf r s now seq .receiver) (data-entry s now seq ws (heardOf r s now seq .answer) ∷ t)
+  heard-kept : (r : Receiver) (t : List Entry) (s : StreamConfig) (time seq : ℕ) (ws : List ℕ) → Keeps r t
+      → Keeps (heardOf r s time seq .receiver) (data-entry s time seq ws (heardOf r s time seq .answer) ∷ t)
   unfolding heardOf
-  heard-kept r t s now seq ws k n st = by (last-of C _ (heardCommands t) record { number = seq; words = ws } n st refl)
+  heard-kept r t s time seq ws k n st = by (last-of C _ (heardCommands t) record { number = seq; words = ws } n st refl)
     where
-      by : {m : ℕ} → Last C (heardCommands t) record { number = seq; words = ws } m → Next r t s now seq ws m (heardOf r s now seq)
-      by (was-up {n = m} b l e) = rest-up r t s now seq ws m (k m b) l (ap (λ (c : Command). c .number) e) (ap (λ (c : Command). c .words) e)
-      by (was-back {n = m} b p l d e) = rest-back r t s now seq ws m (k m b) p l d (ap (λ (c : Command). c .number) e)
+      by : {m : ℕ} → Last C (heardCommands t) record { number = seq; words = ws } m → Next r t s time seq ws m (heardOf r s time seq)
+      by (was-up {n = m} b l e) = rest-up r t s time seq ws m (k m b) l (ap (λ (c : Command). c .number) e) (ap (λ (c : Command). c .words) e)
+      by (was-back {n = m} b p l d e) = rest-back r t s time seq ws m (k m b) p l d (ap (λ (c : Command). c .number) e)
 
-  data-kept : (r : Receiver) (t : List Entry) (s : StreamConfig) (now seq : ℕ) (ws : List ℕ) → Follows W r t → Keeps r t
-      → Keeps (dataAnswer r s now seq .receiver) (data-entry s now seq ws (dataAnswer r s now seq .answer) ∷ t)
+  data-kept : (r : Receiver) (t : List Entry) (s : StreamConfig) (time seq : ℕ) (ws : List ℕ) → Follows W r t → Keeps r t
+      → Keeps (dataAnswer r s time seq .receiver) (data-entry s time seq ws (dataAnswer r s time seq .answer) ∷ t)
   unfolding dataAnswer
-  data-kept r t s now seq ws i k =
-      rw (passes r (i .held .valid)) (by-check (λ (x : Heard). Keeps (x .receiver) (data-entry s now seq ws (x .answer) ∷ t)) (checkOf s) (hearingRefused r) (heardOf r s now seq)
+  data-kept r t s time seq ws i k =
+      rw (passes r (i .held .valid)) (by-check (λ (x : Heard). Keeps (x .receiver) (data-entry s time seq ws (x .answer) ∷ t)) (checkOf s) (hearingRefused r) (heardOf r s time seq)
       (λ why n st. let a = k n st in rest-quiet n r r t _ a (a .off) (a .is) refl)
-      (λ e. heard-kept r t s now seq ws k))
+      (λ e. heard-kept r t s time seq ws k))
 
   step-kept : (r : Receiver) (t : List Entry) (c : Call) → Follows W r t → Keeps r t → Keeps (stepOf r c .receiver) (stepOf r c .entry ∷ t)
   unfolding stepOf
-  step-kept r t (data-command s now seq ws) i k = data-kept r t s now seq ws i k
-  step-kept r t (poll s now) i k = λ n st.
+  step-kept r t (data-command s time seq ws) i k = data-kept r t s time seq ws i k
+  step-kept r t (poll s time) i k = λ n st.
       let a = k n st in
-      let q = rw (← a .is) at (rest-polled W least most (a .off) ((origin - 1 + n) % turn) s now) in
-      rest-quiet n r (pollAnswer r s now .receiver) t _ a (a .off) (q .0 ∙ a .is) (ap told (q .1))
+      let q = rw (← a .is) at (rest-polled W least most (a .off) ((origin - 1 + n) % turn) s time) in
+      rest-quiet n r (pollAnswer r s time .receiver) t _ a (a .off) (q .0 ∙ a .is) (ap told (q .1))
   step-kept r t (retransmit-error e) i k = λ n st.
       let a = k n st in
-      let q = rw (← a .is) at (rest-errored W least most (a .off) ((origin - 1 + n) % turn) e) in
+      let q = rw (← a .is) at (rest-error W least most (a .off) ((origin - 1 + n) % turn) e) in
       rest-quiet n r (errorAnswer r e .receiver) t _ a (a .off) (q .0 ∙ a .is) (ap told (q .1))
   step-kept r t nak i k = λ n st.
       let a = k n st in
-      let q = rw (← a .is) at (rest-naked W least most (a .off) ((origin - 1 + n) % turn)) in
+      let q = rw (← a .is) at (rest-nak W least most (a .off) ((origin - 1 + n) % turn)) in
       rest-quiet n r (nakAnswer r .receiver) t _ a true (q .0) (ap told (q .1))
   step-kept r t (take-request s p b) i k = λ n st.
       let a = k n st in

@@ -58,7 +58,7 @@ note i = getD (0x20903C40 ∷ 0x20803C00 ∷ 0x20903E40 ∷ 0x20803E00 ∷ 0x209
 
 -- payload i with command i, 10 ms after the last
 abbrev round : ℕ → Round
-round i = record { limit = 1400; buffer = zeros 28; settings = settings 2; words = note i; now = i * 10 }
+round i = record { limit = 1400; buffer = zeros 28; settings = settings 2; words = note i; time = i * 10 }
 
 abbrev rounds : List Round
 rounds = round 0 ∷ round 1 ∷ round 2 ∷ round 3 ∷ round 4 ∷ round 5 ∷ []
@@ -92,7 +92,7 @@ sent-is = refl
 -- ---- the chamber
 
 abbrev hears : ℕ → ℕ → Chamber.Call
-hears now i = data-command (settings 2) now i (note i)
+hears time i = data-command (settings 2) time i (note i)
 
 abbrev arrivals : List Chamber.Call
 arrivals =
@@ -102,7 +102,7 @@ arrivals =
     ∷ []
 
 abbrev answer : ℕ → ℕ → Class → Heard
-answer now i class = data-entry (settings 2) now i (note i) (Delivered (delivery i class Nothing))
+answer time i class = data-entry (settings 2) time i (note i) (Delivered (delivery i class Nothing))
 
 abbrev arrived : List Heard
 arrived =
@@ -158,7 +158,7 @@ example : Run
 example = record {
   words = 65;
   places = 1;
-  memory = zeros 65;
+  ring₀ = zeros 65;
   started = started;
   calls = calls;
   allowed = allowed;

@@ -181,27 +181,27 @@ module _ (R s c : ℕ) (history : (R + 1) * (1 + s) ≤ c) where
 
   -- ---- a due idle command
 
-  pub idled-kept : (n : ℕ) (b : Book) (cfg : StreamConfig) (now : ℕ) → Kept n b → n ≤ s → Kept n (idledIn c cfg now b)
+  pub idled-kept : (n : ℕ) (b : Book) (cfg : StreamConfig) (time : ℕ) → Kept n b → n ≤ s → Kept n (idledIn c cfg time b)
   unfolding idledIn
-  idled-kept n b cfg now k l = by (b .idle)
+  idled-kept n b cfg time k l = by (b .idle)
     where
       empty : (us : List (List ℕ)) → isEmpty us ≡ true → us ≡ []
       empty [] e = refl
       empty (u ∷ us) e = absurd (let z : _≡_ {A = ℕ} 0 1 = cc in omega arith)
 
-      by : (t : IdleTimer) → Kept n (idledBy c cfg now b t)
+      by : (t : IdleTimer) → Kept n (idledBy c cfg time b t)
       by Off = k
       by (Waiting t) =
-          by-cond (Kept n) (not (isEmpty (b .unwritten)) || ltb now (t .due)) _ _ (λ e. k)
+          by-cond (Kept n) (not (isEmpty (b .unwritten)) || ltb time (t .due)) _ _ (λ e. k)
           (λ e.
           let p = pushed-kept n [] b (k .holding) (empty (b .unwritten) (not-false _ (or-left (not (isEmpty (b .unwritten))) _ e))) (omega arith) l in
           record { holding = p .holding; unwritten = p .unwritten })
 
   -- ---- the one unwritten command is written
 
-  pub written-kept : (cfg : StreamConfig) (now : ℕ) (b : Book) (ws : List ℕ) → length ws ≤ s → Holding b → b .unwritten ≡ ws ∷ [] → Kept 0 (writtenOn cfg now 1 b)
+  pub written-kept : (cfg : StreamConfig) (time : ℕ) (b : Book) (ws : List ℕ) → length ws ≤ s → Holding b → b .unwritten ≡ ws ∷ [] → Kept 0 (writtenOn cfg time 1 b)
   unfolding writtenOn
-  written-kept cfg now b ws l h e =
+  written-kept cfg time b ws l h e =
       rw (ap (take 1) e, ap (drop 1) e)
       record {
         holding = record {

@@ -138,14 +138,14 @@ module _ (c : ℕ) (most : c ≤ 32768) (b : Book) (accepted : List ℕ) (w : Li
   empty-none [] e = refl
   empty-none (u ∷ us) e = absurd (let z : _≡_ {A = ℕ} 0 1 = cc in omega arith)
 
-  pub idled-agrees : (cfg : StreamConfig) (now : ℕ) → 1 ≤ c → Agrees c (idledIn c cfg now b) accepted w
+  pub idled-agrees : (cfg : StreamConfig) (time : ℕ) → 1 ≤ c → Agrees c (idledIn c cfg time b) accepted w
   unfolding idledIn Words32
-  idled-agrees cfg now l = by (b .idle)
+  idled-agrees cfg time l = by (b .idle)
     where
-      by : (t : IdleTimer) → Agrees c (idledBy c cfg now b t) accepted w
+      by : (t : IdleTimer) → Agrees c (idledBy c cfg time b t) accepted w
       by Off = i
       by (Waiting t) =
-          by-cond (λ (d : Book). Agrees c d accepted w) (not (isEmpty (b .unwritten)) || ltb now (t .due)) _ _ (λ e. i)
+          by-cond (λ (d : Book). Agrees c d accepted w) (not (isEmpty (b .unwritten)) || ltb time (t .due)) _ _ (λ e. i)
           (λ e.
           let none : size (b .unwritten) ≡ 0 = empty-none (b .unwritten) (not-false _ (or-left (not (isEmpty (b .unwritten))) _ e)) in
           rw append-nil at (pushed-agrees c [] b accepted w i record { short = omega arith; whole = whole-nil; words32 = tt } (omega arith)))
@@ -157,9 +157,9 @@ module _ (c : ℕ) (most : c ≤ 32768) (b : Book) (accepted : List ℕ) (w : Li
       let e : after (oldestIn b) (length (b .written)) ≡ length (i .gone ++ b .written) % turn = rw (length-append (i .gone) (b .written)) (omega (arith, i .oldest)) in
       rw (take-data n (after (oldestIn b) (length (b .written))) (b .unwritten), e) (data-from (take n (b .unwritten)) (length (i .gone ++ b .written)))
 
-  new-agrees : (cfg : StreamConfig) (now n : ℕ) → Agrees c (writtenOn cfg now n b) accepted (onto (dataIn (take n (newIn b))) w)
+  new-agrees : (cfg : StreamConfig) (time n : ℕ) → Agrees c (writtenOn cfg time n b) accepted (onto (dataIn (take n (newIn b))) w)
   unfolding writtenOn
-  new-agrees cfg now n =
+  new-agrees cfg time n =
       let us : List (List ℕ) = b .unwritten in
       let C : List (List ℕ) = i .gone ++ b .written in
       let e : i .gone ++ (b .written ++ take n us) ≡ C ++ take n us = sym (append-assoc (i .gone) (b .written) (take n us)) in
@@ -181,24 +181,24 @@ module _ (c : ℕ) (most : c ≤ 32768) (accepted : List ℕ) where
   unchanged w cs b p by i h = record { more = []; agrees = i; holds = rw append-nil h }
 
   -- the first n of copies and new commands
-  row-agrees : (cfg : StreamConfig) (now n : ℕ) (b : Book) (w : List Command) (i : Agrees c b accepted w) (again : List Packet) → Copies (i .gone ++ b .written) again
-      → Agrees c (writtenOn cfg now (n - length again) b) accepted (onto (dataIn (take n (again ++ newIn b))) w)
-  row-agrees cfg now n b w i again k =
+  row-agrees : (cfg : StreamConfig) (time n : ℕ) (b : Book) (w : List Command) (i : Agrees c b accepted w) (again : List Packet) → Copies (i .gone ++ b .written) again
+      → Agrees c (writtenOn cfg time (n - length again) b) accepted (onto (dataIn (take n (again ++ newIn b))) w)
+  row-agrees cfg time n b w i again k =
       let m : ℕ = n - length again in
       let v : List Command = onto (dataIn (take n again)) w in
       let copied : Agrees c b accepted v = copies-agree c most b accepted w i (take n again) (copies-take (i .gone ++ b .written) n again k) in
       rw (take-append n again (newIn b), data-append (take n again) (take m (newIn b)), onto-append (dataIn (take n again)) (dataIn (take m (newIn b))) w)
-      (new-agrees c most b accepted v copied cfg now m)
+      (new-agrees c most b accepted v copied cfg time m)
 
-  new-grown : (cfg : StreamConfig) (now n : ℕ) (b : Book) (p : PayloadWriter) (by : List ℕ) (w : List Command) (cs : List Packet) → Agrees c b accepted w → Holds p by cs
-      → GrownBy c accepted w cs (newWritten cfg now n b p by)
+  new-grown : (cfg : StreamConfig) (time n : ℕ) (b : Book) (p : PayloadWriter) (by : List ℕ) (w : List Command) (cs : List Packet) → Agrees c b accepted w → Holds p by cs
+      → GrownBy c accepted w cs (newWritten cfg time n b p by)
   unfolding newWritten
-  new-grown cfg now n b p by w cs i h = go (newIn b) refl
+  new-grown cfg time n b p by w cs i h = go (newIn b) refl
     where
       same : Grown c accepted w cs b p by
       same = unchanged w cs b p by i h
 
-      go : (l : List Packet) → newIn b ≡ l → GrownBy c accepted w cs (newBy cfg now n b p by l)
+      go : (l : List Packet) → newIn b ≡ l → GrownBy c accepted w cs (newBy cfg time n b p by l)
       go [] e = same
       go (first ∷ others) e =
           let again : List Packet = againIn b (cfg .«fec_repeats») p by first in
@@ -210,7 +210,7 @@ module _ (c : ℕ) (most : c ≤ 32768) (accepted : List ℕ) where
           (λ over. by-cond (GrownBy c accepted w cs) (eqb (p .len) 0) _ _ (λ empty. same) (λ some. same))
           (λ fits. record {
             more = take (out .written) (again ++ (first ∷ others));
-            agrees = rw e at (row-agrees cfg now (out .written) b w i again k);
+            agrees = rw e at (row-agrees cfg time (out .written) b w i again k);
             holds = holds-row (again ++ (first ∷ others)) p by cs (all-append Encodable again (first ∷ others) (k .encodable) new) h;
           })
 
@@ -224,10 +224,10 @@ module _ (c : ℕ) (most : c ≤ 32768) (accepted : List ℕ) where
         holds = rw (← append-assoc) (g .holds);
       }
 
-  written-grown : (cfg : StreamConfig) (now : ℕ) (b : Book) (p : PayloadWriter) (by : List ℕ) (w : List Command) (cs : List Packet) → 1 ≤ c → Agrees c b accepted w → Holds p by cs
-      → GrownBy c accepted w cs (writtenIn c cfg now b p by)
+  written-grown : (cfg : StreamConfig) (time : ℕ) (b : Book) (p : PayloadWriter) (by : List ℕ) (w : List Command) (cs : List Packet) → 1 ≤ c → Agrees c b accepted w → Holds p by cs
+      → GrownBy c accepted w cs (writtenIn c cfg time b p by)
   unfolding writtenIn
-  written-grown cfg now b p by w cs l i h =
+  written-grown cfg time b p by w cs l i h =
       let s = servedIn b (b .waiting) p by in
       let r = served-holds c most b accepted w i (b .waiting) p by cs h in
       let v : List Command = onto (dataIn (r .more)) w in
@@ -235,12 +235,12 @@ module _ (c : ℕ) (most : c ≤ 32768) (accepted : List ℕ) where
       by-cond (GrownBy c accepted w cs) (s .more) _ _
       (λ more. record { more = r .more; agrees = j; holds = r .holds })
       (λ all. grown-more w cs (r .more) _ _ _
-      (new-grown cfg now (s .commands) (idledIn c cfg now (withWaiting b (s .waiting))) (s .payload) (s .bytes) v (cs ++ r .more)
-      (idled-agrees c most (withWaiting b (s .waiting)) accepted v j cfg now l) (r .holds)))
+      (new-grown cfg time (s .commands) (idledIn c cfg time (withWaiting b (s .waiting))) (s .payload) (s .bytes) v (cs ++ r .more)
+      (idled-agrees c most (withWaiting b (s .waiting)) accepted v j cfg time l) (r .holds)))
 
-  pub write-grown : (cfg : StreamConfig) (now : ℕ) (b : Book) (p : PayloadWriter) (by : List ℕ) (w : List Command) (cs : List Packet) → 1 ≤ c → Agrees c b accepted w → Holds p by cs
-      → GrownBy c accepted w cs (writeIn c cfg now b p by)
+  pub write-grown : (cfg : StreamConfig) (time : ℕ) (b : Book) (p : PayloadWriter) (by : List ℕ) (w : List Command) (cs : List Packet) → 1 ≤ c → Agrees c b accepted w → Holds p by cs
+      → GrownBy c accepted w cs (writeIn c cfg time b p by)
   unfolding writeIn
-  write-grown cfg now b p by w cs l i h =
+  write-grown cfg time b p by w cs l i h =
       entry-any (GrownBy c accepted w cs) _ _ (λ why. unchanged w cs b p by i h) (checkOf cfg) (payloadValid p (length by))
-      (λ passed valid. written-grown cfg now b p by w cs l i h)
+      (λ passed valid. written-grown cfg time b p by w cs l i h)

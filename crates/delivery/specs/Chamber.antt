@@ -13,9 +13,9 @@ use Rattle.receiver_log.specs.Log.{Report, heard, told, origin, high, hands, ha
 
 -- heard: a data command that a call takes without refusing
 abbrev pub isHeard : Entry → Bool
-isHeard (data-entry s now seq ws (Delivered d)) = true
-isHeard (data-entry s now seq ws (HearingRefused why)) = false
-isHeard (poll-entry s now e) = false
+isHeard (data-entry s time seq ws (Delivered d)) = true
+isHeard (data-entry s time seq ws (HearingRefused why)) = false
+isHeard (poll-entry s time e) = false
 isHeard (error-entry q e) = false
 isHeard (nak-entry e) = false
 isHeard (take-entry s p b a q c) = false
@@ -39,7 +39,7 @@ listed f x (suc n) = f x ∷ listed f (suc x) n
 unfoldable pub handedOn : List Report → List ℕ
 handedOn t = joined (delivered t) 0 (suc (high t))
 
--- the same position by position, from position 0 to the highest
+-- what is handed on at each position, from position 0 to the highest, not joined
 unfoldable pub handedByPosition : List Report → List (List ℕ)
 handedByPosition t = listed (delivered t) origin (suc (high t) - origin)
 

@@ -105,9 +105,9 @@ abbrev pub putInto : Writes.Call → Lent → Lent
 putInto call v = let w = callOf call (v .payload) (v .buffer) in record { payload = w .0 .payload; buffer = w .1 }
 
 abbrev pub writeStep : Console → ℕ → StreamConfig → ℕ → Step
-writeStep c k cfg now =
+writeStep c k cfg time =
     let v : Lent = payloadAt c k in
-    let w = writeAnswer (c .sender) cfg now (v .payload) (v .buffer) (c .ring) in
+    let w = writeAnswer (c .sender) cfg time (v .payload) (v .buffer) (c .ring) in
     let u : Lent = record { payload = w .0 .payload; buffer = w .1 } in
     record { console = record { sender = w .0 .sender; ring = w .2; payloads = set (c .payloads) k u }; entry = wrote k v u (w .0 .answer) }
 
@@ -120,10 +120,10 @@ stepOf c (queue-words cfg ws) =
     record { console = record { sender = a .0 .sender; ring = a .1; payloads = c .payloads }; entry = queued cfg ws (a .0 .answer) }
 stepOf c (retransmit-request cfg r) =
     noting record { sender = requestAnswer (c .sender) cfg (c .ring) r .sender; ring = c .ring; payloads = c .payloads }
-stepOf c (write-into k cfg now) = cond (ltb k (length (c .payloads))) (writeStep c k cfg now) (noting c)
+stepOf c (write-into k cfg time) = cond (ltb k (length (c .payloads))) (writeStep c k cfg time) (noting c)
 stepOf c (put-into k call) = cond (ltb k (length (c .payloads))) (putStep c k (putInto call (payloadAt c k))) (noting c)
-stepOf c (write-astray p b cfg now) =
-    let w = writeAnswer (c .sender) cfg now p b (c .ring) in
+stepOf c (write-astray p b cfg time) =
+    let w = writeAnswer (c .sender) cfg time p b (c .ring) in
     noting record { sender = w .0 .sender; ring = w .2; payloads = c .payloads }
 
 -- the log after a list of calls, newest first
@@ -133,7 +133,7 @@ logFrom c t (call ∷ calls) = logFrom (stepOf c call .console) (stepOf c call .
 
 -- a start over a lent history of `words` words, with `places` places for requests; no payload is open
 abbrev pub freshConsole : ℕ → ℕ → List ℕ → Console
-freshConsole words places memory = record { sender = newAnswer words places memory .0 .sender; ring = newAnswer words places memory .1; payloads = [] }
+freshConsole words places ring₀ = record { sender = newAnswer words places ring₀ .0 .sender; ring = newAnswer words places ring₀ .1; payloads = [] }
 
 -- arguments lie in their types: words have 32 bits, R and K 8; and a payload's only data commands are the sender's: no other call writes one
 abbrev pub Allowed : Call → Type 0
@@ -141,9 +141,9 @@ Allowed (open-payload limit buffer) = Unit {0}
 Allowed (lend-again k rest) = Unit {0}
 Allowed (queue-words cfg ws) = Words32 ws
 Allowed (retransmit-request cfg r) = Unit {0}
-Allowed (write-into k cfg now) = TypedConfig cfg
+Allowed (write-into k cfg time) = TypedConfig cfg
 Allowed (put-into k call) = WriteTyped call × (isData (commandOf call) ≡ false)
-Allowed (write-astray p b cfg now) = checkOf cfg ≡ Done → payloadValid p (length b) ≡ false
+Allowed (write-astray p b cfg time) = checkOf cfg ≡ Done → payloadValid p (length b) ≡ false
 
 abbrev pub AllAllowed : List Call → Type 0
 AllAllowed [] = Unit {0}

@@ -33,12 +33,12 @@ abbrev pub Paced : ℕ → ℕ → Console → ℕ → List Call → Type 0
 Paced R s d n [] = Unit {0}
 Paced R s d n (queue-words cfg ws ∷ calls) =
     (s ≤ cfg .«max_command_words») × (n + length ws ≤ s) × Paced R s (stepOf d (queue-words cfg ws) .console) (n + length ws) calls
-Paced R s d n (write-into k cfg now ∷ calls) = Ready R s cfg (payloadAt d k) × Paced R s (stepOf d (write-into k cfg now) .console) 0 calls
+Paced R s d n (write-into k cfg time ∷ calls) = Ready R s cfg (payloadAt d k) × Paced R s (stepOf d (write-into k cfg time) .console) 0 calls
 Paced R s d n (retransmit-request cfg r ∷ calls) = ⊥
 Paced R s d n (open-payload limit buffer ∷ calls) = Paced R s (stepOf d (open-payload limit buffer) .console) n calls
 Paced R s d n (lend-again k rest ∷ calls) = Paced R s (stepOf d (lend-again k rest) .console) n calls
 Paced R s d n (put-into k call ∷ calls) = Paced R s (stepOf d (put-into k call) .console) n calls
-Paced R s d n (write-astray p b cfg now ∷ calls) = Paced R s (stepOf d (write-astray p b cfg now) .console) n calls
+Paced R s d n (write-astray p b cfg time ∷ calls) = Paced R s (stepOf d (write-astray p b cfg time) .console) n calls
 
 -- ---- the plainest such calls, round by round: open a payload, queue words, perhaps none, and write
 
@@ -47,13 +47,13 @@ pub record Round : Type 0 where
   pub buffer : List ℕ
   pub settings : StreamConfig
   pub words : List ℕ
-  pub now : ℕ
+  pub time : ℕ
 
 -- from payload k on
 abbrev pub roundsFrom : ℕ → List Round → List Call
 roundsFrom k [] = []
 roundsFrom k (r ∷ rs) =
-    open-payload (r .limit) (r .buffer) ∷ queue-words (r .settings) (r .words) ∷ write-into k (r .settings) (r .now) ∷ roundsFrom (suc k) rs
+    open-payload (r .limit) (r .buffer) ∷ queue-words (r .settings) (r .words) ∷ write-into k (r .settings) (r .time) ∷ roundsFrom (suc k) rs
 
 pub record Fits (R s : ℕ) (r : Round) : Type 0 where
   pub passes : checkOf (r .settings) ≡ Done
@@ -73,7 +73,7 @@ AllFit R s (r ∷ rs) = Fits R s r × AllFit R s rs
 -- a console that keeps to it, with a history that has the room
 pub record Keeps (R s : ℕ) (u : Run) : Type 0 where
   pub history : historyNeed R s ≤ u .words
-  pub paced : Paced R s (freshConsole (u .words) (u .places) (u .memory)) 0 (u .calls)
+  pub paced : Paced R s (freshConsole (u .words) (u .places) (u .ring₀)) 0 (u .calls)
 
 pub record PacedSender : Type 0 where
   -- its written payloads are as the sentence asks
@@ -82,4 +82,4 @@ pub record PacedSender : Type 0 where
   pub alone : (u : Run) (R s : ℕ) → Keeps R s u → Arrives R (sentLog u) (length (writtenPayloads (sentLog u))) (heardCommands (heardLog u))
       → AllHandedOn (positions (sentLog u)) (heardIn u)
   -- rounds keep to it
-  pub rounds : (R s words places : ℕ) (memory : List ℕ) (rs : List Round) → AllFit R s rs → Paced R s (freshConsole words places memory) 0 (roundsFrom 0 rs)
+  pub rounds : (R s words places : ℕ) (ring₀ : List ℕ) (rs : List Round) → AllFit R s rs → Paced R s (freshConsole words places ring₀) 0 (roundsFrom 0 rs)

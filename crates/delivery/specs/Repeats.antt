@@ -66,16 +66,16 @@ pub data Arrives (R : ℕ) (t : List Entry) : ℕ → List Command → Type 0 wh
   -- one arrives, after some that are lost
   next : {n : ℕ} {cs : List Command} → Arrives R t n cs → (lost : ℕ) → lost ≤ R
       → (v : Lent) → SentAs t (n + lost) v → Arrives R t (suc (n + lost)) (cs ++ dataOf (bytes v))
-  -- the same again
+  -- the one that arrived last arrives again
   again : {j : ℕ} {cs : List Command} → Arrives R t (suc j) cs
       → (v : Lent) → SentAs t j v → Arrives R t (suc j) (cs ++ dataOf (bytes v))
 
 -- the data commands that the receiver is given and does not refuse, in order
 abbrev pub heardCommands : List Heard → List Command
 heardCommands [] = []
-heardCommands (data-entry s now seq ws (Delivered d) ∷ q) = heardCommands q ++ (record { number = seq; words = ws } ∷ [])
-heardCommands (data-entry s now seq ws (HearingRefused why) ∷ q) = heardCommands q
-heardCommands (poll-entry s now e ∷ q) = heardCommands q
+heardCommands (data-entry s time seq ws (Delivered d) ∷ q) = heardCommands q ++ (record { number = seq; words = ws } ∷ [])
+heardCommands (data-entry s time seq ws (HearingRefused why) ∷ q) = heardCommands q
+heardCommands (poll-entry s time e ∷ q) = heardCommands q
 heardCommands (error-entry r e ∷ q) = heardCommands q
 heardCommands (nak-entry e ∷ q) = heardCommands q
 heardCommands (take-entry s p b a r c ∷ q) = heardCommands q

@@ -43,8 +43,8 @@ pub data Line (t : List Entry) : List Heard → List ℕ → Type 0 where
       -- by the sender's positions, not over 32,767 ahead of nor 32,768 behind the highest heard
       → (p : ℕ) → p ≡ positionOf (written t) k (length before)
       → origin + p ≤ highest ps + reach → highest ps ≤ origin + p + (reach + 1)
-      → (cfg : StreamConfig) (now : ℕ) (d : Delivery)
-      → Line t (data-entry cfg now (c .number) (c .words) (Delivered d) ∷ q) (p ∷ ps)
+      → (cfg : StreamConfig) (time : ℕ) (d : Delivery)
+      → Line t (data-entry cfg time (c .number) (c .words) (Delivered d) ∷ q) (p ∷ ps)
   -- any other call, and a data command that is refused, from wherever it came
   pass : {q : List Heard} {ps : List ℕ} → Line t q ps → (e : Heard) → isHeard e ≡ false → Line t (e ∷ q) ps
 
@@ -88,8 +88,8 @@ pub record ByPosition (C : List (List ℕ)) (t : List Report) : Type 0 where
 pub record Run : Type 0 where
   pub words : ℕ
   pub places : ℕ
-  pub memory : List ℕ
-  pub started : newAnswer words places memory .0 .answer ≡ Done
+  pub ring₀ : List ℕ
+  pub started : newAnswer words places ring₀ .0 .answer ≡ Done
   pub calls : List Call
   pub allowed : AllAllowed calls
   pub window : ℕ
@@ -99,7 +99,7 @@ pub record Run : Type 0 where
   pub typed : AllTyped arrivals
 
 abbrev pub sentLog : Run → List Entry
-sentLog u = logFrom (freshConsole (u .words) (u .places) (u .memory)) [] (u .calls)
+sentLog u = logFrom (freshConsole (u .words) (u .places) (u .ring₀)) [] (u .calls)
 
 abbrev pub heardLog : Run → List Heard
 heardLog u = logOf (u .window) (u .arrivals)
@@ -147,4 +147,4 @@ pub record Contract : Type 0 where
 abbrev pub HandedWords : Type 0
 HandedWords =
     (u : Run) (ps : List ℕ) → Line (sentLog u) (heardLog u) ps
-    → (cfg : StreamConfig) (now seq : ℕ) (ws : List ℕ) (d : Delivery) → List·Memᴰ (data-entry cfg now seq ws (Delivered d)) (heardLog u) → AllHanded (d .class) ws
+    → (cfg : StreamConfig) (time seq : ℕ) (ws : List ℕ) (d : Delivery) → List·Memᴰ (data-entry cfg time seq ws (Delivered d)) (heardLog u) → AllHanded (d .class) ws

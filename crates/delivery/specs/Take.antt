@@ -13,7 +13,7 @@ use Rattle.receiver.specs.declared.receiver.Asked.the-variants.{Request as Aske
 use Rattle.receiver.specs.declared.receiver.Receiver.{Receiver}
 use Rattle.receiver.specs.declared.receiver.Request.{Request}
 use Rattle.receiver.specs.declared.receiver.Request.the-variants.{Nothing as NotDue, Written, More, Refused}
-use Rattle.receiver.specs.declared.receiver.Requested.{Requested}
+use Rattle.receiver.specs.declared.receiver.RequestWritten.{RequestWritten}
 use Rattle.delivery.specs.Console.{Lent, putInto}
 
 -- what taking leaves: the answer, the payload with its buffer, and what is then unanswered
@@ -25,7 +25,7 @@ pub data Taken (v : Lent) : Request → Lent → Asked → Type 0 where
   more : (a : Asked) → Taken v More v a
   refused : (a : Asked) (why : Refusal) → Taken v (Refused why) v a
 
-abbrev pub TakenBy : Lent → Requested × List ℕ → Type 0
+abbrev pub TakenBy : Lent → RequestWritten × List ℕ → Type 0
 TakenBy v t = Taken v (t .0 .answer) record { payload = t .0 .payload; buffer = t .1 } (t .0 .receiver .asked)
 
 -- by a receiver in whatever state, with whatever settings

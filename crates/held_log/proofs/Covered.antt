@@ -17,9 +17,9 @@ use Rattle.held_log.specs.Log.{callsOf, since}
 use Rattle.held_log.specs.Theorems.{Unreleased, HeldUnreleased}
 
 -- each answer is given as it is
-pub every-answer : (s : StreamConfig) (now seq : ℕ) (ws : List ℕ) (a : Hearing) (e : StreamEvent) (q : RetransmitError) (t : List Entry)
-    → callsOf (data-entry s now seq ws a ∷ poll-entry s now e ∷ error-entry q e ∷ nak-entry e ∷ t) ≡ delivered a ws ∷ told e ∷ told e ∷ told e ∷ callsOf t
-every-answer s now seq ws a e q t = refl
+pub every-answer : (s : StreamConfig) (time seq : ℕ) (ws : List ℕ) (a : Hearing) (e : StreamEvent) (q : RetransmitError) (t : List Entry)
+    → callsOf (data-entry s time seq ws a ∷ poll-entry s time e ∷ error-entry q e ∷ nak-entry e ∷ t) ≡ delivered a ws ∷ told e ∷ told e ∷ told e ∷ callsOf t
+every-answer s time seq ws a e q t = refl
 
 -- a window of 1 to 128, written out
 pub every-size : HeldUnreleased → (W g k : ℕ) → 1 ≤ W → W ≤ 128 → (calls : List Chamber.Call) → AllTyped calls → (before : List Call)

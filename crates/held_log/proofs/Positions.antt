@@ -77,16 +77,16 @@ AllWhole (heard seq ws c l ∷ t) = (handedWords c ws ≡ cond (hands c) ws []) 
 AllWhole (told l ∷ t) = AllWhole t
 
 pub all-whole : (log : List Entry)
-    → ((cfg : StreamConfig) (now seq : ℕ) (ws : List ℕ) (d : Delivery) → List·Memᴰ (data-entry cfg now seq ws (Delivered d)) log → AllHanded (d .class) ws)
+    → ((cfg : StreamConfig) (time seq : ℕ) (ws : List ℕ) (d : Delivery) → List·Memᴰ (data-entry cfg time seq ws (Delivered d)) log → AllHanded (d .class) ws)
     → AllWhole (reports log)
 all-whole [] f = tt
-all-whole (data-entry s now seq ws (Delivered d) ∷ t) f =
-    (f s now seq ws d (List·Memᴰ·head refl) .words, all-whole t (λ cfg now seq ws d m. f cfg now seq ws d (List·Memᴰ·tail m)))
-all-whole (data-entry s now seq ws (HearingRefused why) ∷ t) f = all-whole t (λ cfg now seq ws d m. f cfg now seq ws d (List·Memᴰ·tail m))
-all-whole (poll-entry s now e ∷ t) f = all-whole t (λ cfg now seq ws d m. f cfg now seq ws d (List·Memᴰ·tail m))
-all-whole (error-entry q e ∷ t) f = all-whole t (λ cfg now seq ws d m. f cfg now seq ws d (List·Memᴰ·tail m))
-all-whole (nak-entry e ∷ t) f = all-whole t (λ cfg now seq ws d m. f cfg now seq ws d (List·Memᴰ·tail m))
-all-whole (take-entry s p b a q c ∷ t) f = all-whole t (λ cfg now seq ws d m. f cfg now seq ws d (List·Memᴰ·tail m))
+all-whole (data-entry s time seq ws (Delivered d) ∷ t) f =
+    (f s time seq ws d (List·Memᴰ·head refl) .words, all-whole t (λ cfg time seq ws d m. f cfg time seq ws d (List·Memᴰ·tail m)))
+all-whole (data-entry s time seq ws (HearingRefused why) ∷ t) f = all-whole t (λ cfg time seq ws d m. f cfg time seq ws d (List·Memᴰ·tail m))
+all-whole (poll-entry s time e ∷ t) f = all-whole t (λ cfg time seq ws d m. f cfg time seq ws d (List·Memᴰ·tail m))
+all-whole (error-entry q e ∷ t) f = all-whole t (λ cfg time seq ws d m. f cfg time seq ws d (List·Memᴰ·tail m))
+all-whole (nak-entry e ∷ t) f = all-whole t (λ cfg time seq ws d m. f cfg time seq ws d (List·Memᴰ·tail m))
+all-whole (take-entry s p b a q c ∷ t) f = all-whole t (λ cfg time seq ws d m. f cfg time seq ws d (List·Memᴰ·tail m))
 
 module _ (x : ℕ) where
   heard-words : (t : List Report) → AllWhole t → delivered t x ≡ wordsIn (heardAt t x)

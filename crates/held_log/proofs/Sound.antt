@@ -163,10 +163,10 @@ module _ (W : ℕ) (most : W ≤ maxWindow) (t : List Entry) (p : Promise W (rep
   abbrev H : ℕ
   H = high (reports t)
 
-  data-next : (s : StreamConfig) (now seq : ℕ) (ws : List ℕ) (k : Outcome)
-      → Next (reports t) (reportOf (data-entry s now seq ws (tested k HearingRefused (Delivered (deliveryIn W (reports t) seq)))))
-  data-next s now seq ws Done = (class-rises W most (reports t) p seq ws (lostIn W (reports t) seq), number-below W most (reports t) p seq)
-  data-next s now seq ws (Refused why) = (tt, no-loss H)
+  data-next : (s : StreamConfig) (time seq : ℕ) (ws : List ℕ) (k : Outcome)
+      → Next (reports t) (reportOf (data-entry s time seq ws (tested k HearingRefused (Delivered (deliveryIn W (reports t) seq)))))
+  data-next s time seq ws Done = (class-rises W most (reports t) p seq ws (lostIn W (reports t) seq), number-below W most (reports t) p seq)
+  data-next s time seq ws (Refused why) = (tt, no-loss H)
 
   loss-of-missing : (m : Span) → LossBelow H m → (k : Outcome) (tick : Tick) → LossBelow H (lossIn (tested k EventRefused (pollEvent m tick)))
   loss-of-missing m h (Refused why) tick = no-loss H
@@ -205,9 +205,9 @@ module _ (W : ℕ) (most : W ≤ maxWindow) (t : List Entry) (p : Promise W (rep
 
   pub next-sound : (c : Call) → Next (reports t) (reportOf (answerOf W t c))
   unfolding answerOf
-  next-sound (data-command s now seq ws) = data-next s now seq ws (checkOf s)
-  next-sound (poll s now) =
-      (tt, loss-of-missing (missingIn W (reports t)) (missing-below W most (reports t) p) (checkOf s) (tickAt (enabledIn t s) s now (timerIn W t)))
+  next-sound (data-command s time seq ws) = data-next s time seq ws (checkOf s)
+  next-sound (poll s time) =
+      (tt, loss-of-missing (missingIn W (reports t)) (missing-below W most (reports t) p) (checkOf s) (tickAt (enabledIn t s) s time (timerIn W t)))
   next-sound (retransmit-error e) = (tt, error-below e (askedIn W t))
   next-sound nak = (tt, nak-below (missingIn W (reports t)) (missing-below W most (reports t) p) (askedIn W t))
   next-sound (take-request s q b) = rw (take-quiet s q b (dueIn W t && enabledIn t s) (requestIn W (reports t))) (tt, no-loss H)

@@ -150,11 +150,11 @@ module _ (g k : ℕ) where
 
   pub standing : (log : List Entry) → Sound (reports log) → heldIn g k (callsOf log) ≡ true → Standing (reports log)
   standing [] s e = absurd (never e refl)
-  standing (data-entry c now seq ws (Delivered d) ∷ t) s e =
+  standing (data-entry c time seq ws (Delivered d) ∷ t) s e =
       after-heard seq ws (reports t) (d .class) (d .lost) (heldIn g k (callsOf t)) s (standing t (s .2))
       (sym (through-append g k (silenced (d .lost)) (handed (d .class) (messagesOf ws .whole)) (heldIn g k (callsOf t))) ∙ e)
-  standing (data-entry c now seq ws (HearingRefused why) ∷ t) s e = after-told Nothing (heldIn g k (callsOf t)) (reports t) (standing t (s .2)) e
-  standing (poll-entry c now a ∷ t) s e = after-told (lossIn a) (heldIn g k (callsOf t)) (reports t) (standing t (s .2)) e
+  standing (data-entry c time seq ws (HearingRefused why) ∷ t) s e = after-told Nothing (heldIn g k (callsOf t)) (reports t) (standing t (s .2)) e
+  standing (poll-entry c time a ∷ t) s e = after-told (lossIn a) (heldIn g k (callsOf t)) (reports t) (standing t (s .2)) e
   standing (error-entry q a ∷ t) s e = after-told (lossIn a) (heldIn g k (callsOf t)) (reports t) (standing t (s .2)) e
   standing (nak-entry a ∷ t) s e = after-told (lossIn a) (heldIn g k (callsOf t)) (reports t) (standing t (s .2)) e
   standing (take-entry c p b a q d ∷ t) s e = after-told Nothing (heldIn g k (callsOf t)) (reports t) (standing t (s .2)) e

@@ -6,8 +6,8 @@ use Rattle.held_notes.specs.Calls.{Call, delivered, told, restarted}
 -- taking a request tells nothing
 abbrev pub callsOf : List Entry → List Call
 callsOf [] = []
-callsOf (data-entry s now seq ws a ∷ t) = delivered a ws ∷ callsOf t
-callsOf (poll-entry s now e ∷ t) = told e ∷ callsOf t
+callsOf (data-entry s time seq ws a ∷ t) = delivered a ws ∷ callsOf t
+callsOf (poll-entry s time e ∷ t) = told e ∷ callsOf t
 callsOf (error-entry q e ∷ t) = told e ∷ callsOf t
 callsOf (nak-entry e ∷ t) = told e ∷ callsOf t
 callsOf (take-entry s p b a q c ∷ t) = callsOf t

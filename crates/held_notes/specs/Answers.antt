@@ -79,7 +79,7 @@ pub record Follows (s : HeldNotes) (silenced : Bool) (ms : List Moment) (r : Giv
   pub notes : r .notes ≡ givenBy silenced (s .held)
   pub answer : r .answer ≡ Done
 
--- the same after what was given already
+-- moments in order of time lead on from what was given already: no further note is given
 pub record Plays (s : Given) (ms : List Moment) (r : Given) : Type 0 where
   pub group : r .state .group ≡ s .state .group
   pub held : Leads (s .state .group) ms (s .state .held) (r .state .held)

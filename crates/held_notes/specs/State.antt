@@ -5,8 +5,8 @@ use mathlib.Core.Bool.{Bool, cond}
 use mathlib.Core.List.{List, [], _∷_, _++_}
 use lib.Dec.{eqb}
 use lib.ListN.{getD}
-use Rattle.packet.specs.declared.reader.Lookup.{Lookup}
-use Rattle.packet.specs.declared.reader.Lookup.the-variants.{Word, Absent}
+use Rattle.packet.specs.declared.cursor.Lookup.{Lookup}
+use Rattle.packet.specs.declared.cursor.Lookup.the-variants.{Word, Absent}
 use Rattle.held_notes.specs.Calls.{Moment, message, heldAfter, heldThrough}
 
 -- how many notes there are: 16 channels of 128

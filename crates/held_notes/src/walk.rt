@@ -9,8 +9,8 @@ ghost use Rattle.held_notes.specs.State.{wordIn, Leads};
 use super::note;
 use command::message::MessageItem;
 use command::message::UmpMessages;
-use packet::reader::Lookup;
-use packet::reader::word;
+use packet::cursor::Lookup;
+use packet::cursor::word;
 
 // The words of the whole message that starts at word `at`; 0 where there is none.
 fn words_at(body: &[u8], at: usize) -> usize

@@ -1,4 +1,4 @@
--- The request ring: its test, the ways out of its operations, and what these do to the list of requests that wait.
+-- The request queue: its test, the ways out of its operations, and what these do to the list of requests that wait.
 use mathlib.Core.Path.{_≡_, refl, sym, ap, _∙_}
 use mathlib.Core.Bool.{true, false}
 use mathlib.Core.List.{List, [], _∷_, _++_}

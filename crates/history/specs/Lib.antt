@@ -1,4 +1,4 @@
--- What the send history and the request ring hold, and what their operations do.
+-- What the send history and the request queue hold, and what their operations do.
 pub mod Ring
 pub mod Headers
 pub mod Walk

@@ -24,7 +24,7 @@ blank = record { seq = 0; count = 0 }
 abbrev pub noneWait : ℕ → RetransmitQueue
 noneWait size = record { items = replicate 16 blank; head = 0; len = 0; size = size }
 
--- 01, "State test": the request ring's part of number 13
+-- 01, "State test": the request queue's part of number 13
 abbrev pub queueOk : RetransmitQueue → Bool
 queueOk q = within 1 16 (q .size) && (ltb (q .head) (q .size) && leb (q .len) (q .size))
 

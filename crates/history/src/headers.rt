@@ -3,8 +3,8 @@
 //     at, seq, prev, words  --leg-->  the end of the slice  --slot-->  its start  --leg-->  ..
 //
 // A leg goes straight on, at most to the end of the slice, so that only the walk has to go round. There
-// are two kinds: `alike` passes entries of one length, and so does not wait for a header to be read to
-// find the next; `run` passes any.
+// are two kinds: `equal_leg` passes entries of one length, and so does not wait for a header to be read
+// to find the next; `any_leg` passes any.
 ghost use mathlib.Core.Path.{_≡_};
 ghost use mathlib.Core.Bool.{true, cond};
 ghost use Prim.Native.Nat.{ℕ, _≤_, _<_};
@@ -59,9 +59,9 @@ fn wrong() -> Leg
 }
 
 // Passes entries from the header at `at` on, up to `k` or to the end of the slice.
-fn run(buf: &[u32], at: usize, seq: SeqNum, k: usize) -> Leg
-    requires { ⌜ (at < length (now buf)) × (length (now buf) ≤ 32768) × (0 < k) ⌝ }
-    ensures { λ r. ⌜ ((p : ℕ) → Ran (now (buf .entry)) at seq p k r) ⌝ }
+fn any_leg(ring: &[u32], at: usize, seq: SeqNum, k: usize) -> Leg
+    requires { ⌜ (at < length (now ring)) × (length (now ring) ≤ 32768) × (0 < k) ⌝ }
+    ensures { λ r. ⌜ ((p : ℕ) → Ran (now (ring .entry)) at seq p k r) ⌝ }
 {
     let mut i = at;
     let mut passed = 0;
@@ -72,7 +72,7 @@ fn run(buf: &[u32], at: usize, seq: SeqNum, k: usize) -> Leg
         // The place after the entry; more than 64 words on if the number is wrong or bits 8 to 15 are
         // not zero. What does not need the header is computed apart, while that is read.
         let base = std::num::wrapping_sub_usize(i + 1, want as usize);
-        let next = std::num::wrapping_add_usize(buf[i] as usize, base);
+        let next = std::num::wrapping_add_usize(ring[i] as usize, base);
         if MAX_PL < std::num::wrapping_sub_usize(next, i + 1) {
             return wrong();
         }
@@ -83,7 +83,7 @@ fn run(buf: &[u32], at: usize, seq: SeqNum, k: usize) -> Leg
         if passed == k {
             break;
         }
-        if buf.len() <= i {
+        if ring.len() <= i {
             break;
         }
     }
@@ -97,20 +97,20 @@ fn run(buf: &[u32], at: usize, seq: SeqNum, k: usize) -> Leg
 }
 
 // Passes entries from the header at `at` on that have its length, up to `k` or to the end of the slice.
-fn alike(buf: &[u32], at: usize, seq: SeqNum, k: usize) -> Leg
-    requires { ⌜ (at < length (now buf)) × (length (now buf) ≤ 32768) × (0 < k) ⌝ }
-    ensures { λ r. ⌜ ((p : ℕ) → Ran (now (buf .entry)) at seq p k r) ⌝ }
+fn equal_leg(ring: &[u32], at: usize, seq: SeqNum, k: usize) -> Leg
+    requires { ⌜ (at < length (now ring)) × (length (now ring) ≤ 32768) × (0 < k) ⌝ }
+    ensures { λ r. ⌜ ((p : ℕ) → Ran (now (ring .entry)) at seq p k r) ⌝ }
 {
-    let pl = std::num::wrapping_sub_usize(buf[at] as usize, (seq as usize) * 0x1_0000);
+    let pl = std::num::wrapping_sub_usize(ring[at] as usize, (seq as usize) * 0x1_0000);
     if MAX_PL < pl {
         return wrong();
     }
     let step = 1 + pl;
     let mut i = at;
     let mut passed = 0;
-    let mut header = buf[at];
+    let mut header = ring[at];
     loop {
-        if buf[i] != header {
+        if ring[i] != header {
             break;
         }
         i += step;
@@ -119,7 +119,7 @@ fn alike(buf: &[u32], at: usize, seq: SeqNum, k: usize) -> Leg
         if passed == k {
             break;
         }
-        if buf.len() <= i {
+        if ring.len() <= i {
             break;
         }
     }
@@ -136,50 +136,50 @@ fn alike(buf: &[u32], at: usize, seq: SeqNum, k: usize) -> Leg
 const MOST: usize = 128;
 
 // A leg of at most `k` entries; `guess` says that they may have one length.
-fn next_leg(buf: &[u32], at: usize, seq: SeqNum, k: usize, guess: bool) -> Leg
-    requires { ⌜ (at < length (now buf)) × (length (now buf) ≤ 32768) × (0 < k) ⌝ }
-    ensures { λ r. ⌜ ((p : ℕ) → Ran (now (buf .entry)) at seq p k r) ⌝ }
+fn next_leg(ring: &[u32], at: usize, seq: SeqNum, k: usize, guess: bool) -> Leg
+    requires { ⌜ (at < length (now ring)) × (length (now ring) ≤ 32768) × (0 < k) ⌝ }
+    ensures { λ r. ⌜ ((p : ℕ) → Ran (now (ring .entry)) at seq p k r) ⌝ }
 {
     if guess {
-        return alike(buf, at, seq, k);
+        return equal_leg(ring, at, seq, k);
     }
-    run(buf, at, seq, least(k, MOST))
+    any_leg(ring, at, seq, least(k, MOST))
 }
 
 // Entries of one length that are worth the guess.
-const FEW: usize = 8;
+const WORTH_A_GUESS: usize = 8;
 
-// How many entries a leg must have passed for the next one to be `alike`.
-fn enough(guess: bool) -> usize
+// How many entries a leg must have passed for the next one to be an `equal_leg`.
+fn next_kind(guess: bool) -> usize
     ensures { λ r. ⌜ r ≡ cond guess 8 128 ⌝ }
 {
-    if guess { FEW } else { MOST }
+    if guess { WORTH_A_GUESS } else { MOST }
 }
 
 // Passes `k` entries.
-pub fn walk(buf: &[u32], from: Stop, k: usize) -> Stop
-    requires { ⌜ (from .at < length (now buf)) × (from .words ≤ length (now buf)) × (length (now buf) ≤ 32768) ⌝ }
-    ensures { λ r. ⌜ Walked (now (buf .entry)) from k r ⌝ }
+pub fn walk(ring: &[u32], from: Stop, k: usize) -> Stop
+    requires { ⌜ (from .at < length (now ring)) × (from .words ≤ length (now ring)) × (length (now ring) ≤ 32768) ⌝ }
+    ensures { λ r. ⌜ Walked (now (ring .entry)) from k r ⌝ }
 {
     let mut at = from.at;
     let mut seq = from.seq;
     let mut prev = from.prev;
     let mut words = from.words;
     let mut left = k;
-    let mut guess = FEW <= k;
+    let mut guess = WORTH_A_GUESS <= k;
     while 0 < left {
-        let out = next_leg(buf, at, seq, left, guess);
+        let out = next_leg(ring, at, seq, left, guess);
         if out.lost {
             return lost();
         }
         if words < out.words {
             return lost();
         }
-        at = ring::slot(buf.len(), at, out.words);
+        at = ring::slot(ring.len(), at, out.words);
         seq = out.seq;
         prev = out.prev;
         words -= out.words;
-        guess = enough(guess) <= out.passed;
+        guess = next_kind(guess) <= out.passed;
         left -= out.passed;
     }
     Stop {

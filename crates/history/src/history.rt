@@ -40,22 +40,22 @@ pub struct Tested {
 impl SendHistory {
     // The history's part of the state test; of the commands held, the newest `unsent` are not
     // written and take `unsent_words` words.
-    pub fn state_ok(self, buf: &[u32], unsent: usize, unsent_words: usize) -> bool
-        ensures { λ r. ⌜ r ≡ stateOk self (now (buf .entry)) unsent «unsent_words» ⌝ }
+    pub fn state_ok(self, ring: &[u32], unsent: usize, unsent_words: usize) -> bool
+        ensures { λ r. ⌜ r ≡ stateOk self (now (ring .entry)) unsent «unsent_words» ⌝ }
     {
-        let tested = self.state_walk(buf, unsent, unsent_words, 0);
+        let tested = self.state_walk(ring, unsent, unsent_words, 0);
         tested.ok
     }
 
-    // The same test, and from its walk the place of the header `back` before the unwritten ones, or of
+    // The state test, and from its walk the place of the header `back` before the unwritten ones, or of
     // the oldest where fewer are written.
-    pub fn state_walk(self, buf: &[u32], unsent: usize, unsent_words: usize, back: usize) -> Tested
-        ensures { λ r. ⌜ Answers (stateOk self (now (buf .entry)) unsent «unsent_words») self (now (buf .entry)) unsent back r ⌝ }
+    pub fn state_walk(self, ring: &[u32], unsent: usize, unsent_words: usize, back: usize) -> Tested
+        ensures { λ r. ⌜ Answers (stateOk self (now (ring .entry)) unsent «unsent_words») self (now (ring .entry)) unsent back r ⌝ }
     {
         if outside(MIN_WORDS, MAX_WORDS, self.size) {
             return refused();
         }
-        if buf.len() != self.size {
+        if ring.len() != self.size {
             return refused();
         }
         if self.size <= self.head {
@@ -67,7 +67,7 @@ impl SendHistory {
         if self.count < unsent {
             return refused();
         }
-        walks(self, buf, unsent, unsent_words, back)
+        walks(self, ring, unsent, unsent_words, back)
     }
 }
 
@@ -79,9 +79,9 @@ fn refused() -> Tested
 
 // One walk over the headers, from the oldest on, with a stop before the last `back` written entries and
 // one behind the written ones.
-fn walks(h: SendHistory, buf: &[u32], unsent: usize, unsent_words: usize, back: usize) -> Tested
-    requires { ⌜ (h .head < length (now buf)) × (length (now buf) ≤ 32768) × (h .used ≤ length (now buf)) × (unsent ≤ h .count) ⌝ }
-    ensures { λ r. ⌜ Answers (walkOk (now (buf .entry)) (h .last) unsent «unsent_words» (h .count) (h .head) (h .oldest) (h .used)) h (now (buf .entry)) unsent back r ⌝ }
+fn walks(h: SendHistory, ring: &[u32], unsent: usize, unsent_words: usize, back: usize) -> Tested
+    requires { ⌜ (h .head < length (now ring)) × (length (now ring) ≤ 32768) × (h .used ≤ length (now ring)) × (unsent ≤ h .count) ⌝ }
+    ensures { λ r. ⌜ Answers (walkOk (now (ring .entry)) (h .last) unsent «unsent_words» (h .count) (h .head) (h .oldest) (h .used)) h (now (ring .entry)) unsent back r ⌝ }
 {
     let written = h.count - unsent;
     let again = least(back, written);
@@ -92,18 +92,18 @@ fn walks(h: SendHistory, buf: &[u32], unsent: usize, unsent_words: usize, back: 
         prev: h.last,
         words: h.used,
     };
-    let first = headers::walk(buf, start, written - again);
+    let first = headers::walk(ring, start, written - again);
     if first.lost {
         return refused();
     }
-    let second = headers::walk(buf, first, again);
+    let second = headers::walk(ring, first, again);
     if second.lost {
         return refused();
     }
     if second.words != unsent_words {
         return refused();
     }
-    let all = headers::walk(buf, second, unsent);
+    let all = headers::walk(ring, second, unsent);
     if all.lost {
         return refused();
     }

@@ -14,7 +14,7 @@
 //   history   the state, and `state_ok`, the state test; `state_walk` is the same test, and hands on a
 //             place that its walk over the headers came by
 //   queue     the requests, and `state_ok`
-//   valid     what a sender calls once it has made those tests: `push`, `append_to_last`, `index_of`,
+//   tested    what a sender calls once it has made those tests: `push`, `append_to_last`, `index_of`,
 //             `write_entry` and their like; `push_request`, `set_front`, `pop`; and, once it has tested
 //             the sizes, `clear` and `clear_requests`, which start anew
 //   theorems  a command that passes the end gives the bytes that it gives when it does not
@@ -25,5 +25,5 @@ mod headers;
 pub mod history;
 pub mod queue;
 mod ring;
+pub mod tested;
 pub mod theorems;
-pub mod valid;

@@ -50,7 +50,7 @@ pub struct Popped {
 }
 
 impl RetransmitQueue {
-    // The request ring's part of the state test.
+    // The request queue's part of the state test.
     pub fn state_ok(self) -> bool
         ensures { λ r. ⌜ r ≡ queueOk self ⌝ }
     {

@@ -23,39 +23,39 @@ pub fn run_end(c: usize, at: usize, n: usize) -> usize
 }
 
 // Stores `n` words, from the word `from` on, at place `at` and after it, up to the end at most.
-fn put_run(buf: &mut [u32], at: usize, words: &[u32], from: usize, n: usize)
-    requires { ⌜ (from + n ≤ length (now words)) × (at + n ≤ length (now buf)) × (at < length (now buf)) ⌝ }
-    ensures { λ _. ⌜ (length (now (buf .exit)) ≡ length (now (buf .entry)))
-        × (ringStored (now (buf .exit)) (slotOf (length (now (buf .entry))) at n) (drop (from + n) (now (words .entry))) ≡ ringStored (now (buf .entry)) at (drop from (now (words .entry)))) ⌝ }
+fn put_run(ring: &mut [u32], at: usize, words: &[u32], from: usize, n: usize)
+    requires { ⌜ (from + n ≤ length (now words)) × (at + n ≤ length (now ring)) × (at < length (now ring)) ⌝ }
+    ensures { λ _. ⌜ (length (now (ring .exit)) ≡ length (now (ring .entry)))
+        × (ringStored (now (ring .exit)) (slotOf (length (now (ring .entry))) at n) (drop (from + n) (now (words .entry))) ≡ ringStored (now (ring .entry)) at (drop from (now (words .entry)))) ⌝ }
 {
     let mut k = 0;
     while k < n {
-        buf[at + k] = words[from + k];
+        ring[at + k] = words[from + k];
         k += 1;
     }
 }
 
 // Stores the words from place `at` on, round the end.
-pub fn put(buf: &mut [u32], at: usize, words: &[u32])
-    requires { ⌜ (at < length (now buf)) × (length (now words) ≤ length (now buf)) ⌝ }
-    ensures { λ _. ⌜ now (buf .exit) ≡ ringStored (now (buf .entry)) at (now (words .entry)) ⌝ }
+pub fn put(ring: &mut [u32], at: usize, words: &[u32])
+    requires { ⌜ (at < length (now ring)) × (length (now words) ≤ length (now ring)) ⌝ }
+    ensures { λ _. ⌜ now (ring .exit) ≡ ringStored (now (ring .entry)) at (now (words .entry)) ⌝ }
 {
     let n = words.len();
-    let room = run_end(buf.len(), at, n);
-    put_run(buf, at, words, 0, room);
+    let room = run_end(ring.len(), at, n);
+    put_run(ring, at, words, 0, room);
     if room < n {
-        put_run(buf, 0, words, room, n - room);
+        put_run(ring, 0, words, room, n - room);
         return;
     }
 }
 
 // Zeroes every word.
-pub fn zero(buf: &mut [u32])
-    ensures { λ _. ⌜ now (buf .exit) ≡ replicate (length (now (buf .entry))) 0 ⌝ }
+pub fn zero(ring: &mut [u32])
+    ensures { λ _. ⌜ now (ring .exit) ≡ replicate (length (now (ring .entry))) 0 ⌝ }
 {
     let mut k = 0;
-    while k < buf.len() {
-        buf[k] = 0;
+    while k < ring.len() {
+        ring[k] = 0;
         k += 1;
     }
 }

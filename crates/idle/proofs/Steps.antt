@@ -41,22 +41,22 @@ settings-growth cfg e = by (outside 1 64 (cfg .«max_command_words»)) (outside 
     by false false false f h = omega (arith, tests)
 
 -- ---- the start
-pub started : (cfg : StreamConfig) (now due : ℕ) → due ≡ later now (cfg .«idle_interval_ms») → Waiting record { due = due; step = 0; interval = cfg .«idle_interval_ms» } ≡ idleStart cfg now
-started cfg now due e = rw e
+pub started : (cfg : StreamConfig) (time due : ℕ) → due ≡ later time (cfg .«idle_interval_ms») → Waiting record { due = due; step = 0; interval = cfg .«idle_interval_ms» } ≡ idleStart cfg time
+started cfg time due e = rw e
 
 -- ---- the next step
-module _ (cfg : StreamConfig) (now : ℕ) (i : Idle) where
-  pub next-repeat : (due : ℕ) → i .step + 1 ≤ cfg .«fec_repeats» → due ≡ later now (i .interval) → Waiting record { due = due; step = i .step + 1; interval = i .interval } ≡ idleNext cfg now i
+module _ (cfg : StreamConfig) (time : ℕ) (i : Idle) where
+  pub next-repeat : (due : ℕ) → i .step + 1 ≤ cfg .«fec_repeats» → due ≡ later time (i .interval) → Waiting record { due = due; step = i .step + 1; interval = i .interval } ≡ idleNext cfg time i
   unfolding idleNext
   next-repeat due h e = rw (le-leb _ _ h, e)
 
   module _ (h : cfg .«fec_repeats» < i .step + 1) where
-    pub next-further : (due interval : ℕ) → i .step + 1 < 1 + cfg .«fec_repeats» + cfg .«idle_further» → interval ≡ grownBy (cfg .«idle_growth») (i .interval) → due ≡ later now interval
-        → Waiting record { due = due; step = i .step + 1; interval = interval } ≡ idleNext cfg now i
+    pub next-further : (due interval : ℕ) → i .step + 1 < 1 + cfg .«fec_repeats» + cfg .«idle_further» → interval ≡ grownBy (cfg .«idle_growth») (i .interval) → due ≡ later time interval
+        → Waiting record { due = due; step = i .step + 1; interval = interval } ≡ idleNext cfg time i
     unfolding idleNext
     next-further due interval l e f = rw (lt-leb _ _ h, lt-ltb _ _ l, f, e)
 
-    pub next-off : 1 + cfg .«fec_repeats» + cfg .«idle_further» ≤ i .step + 1 → Off ≡ idleNext cfg now i
+    pub next-off : 1 + cfg .«fec_repeats» + cfg .«idle_further» ≤ i .step + 1 → Off ≡ idleNext cfg time i
     unfolding idleNext
     next-off l = rw (lt-leb _ _ h, le-ltb _ _ l)
 
@@ -64,9 +64,9 @@ module _ (cfg : StreamConfig) (now : ℕ) (i : Idle) where
 pub idle-step : (t : IdleTimer) (i : Idle) → idleOk t ≡ true → t ≡ Waiting i → i .step ≤ 510
 idle-step t i ok e = leb-true _ _ (rw e at ok)
 
-pub next-ok : (cfg : StreamConfig) (now : ℕ) (i : Idle) → cfg .«fec_repeats» ≤ 255 → cfg .«idle_further» ≤ 255 → idleOk (idleNext cfg now i) ≡ true
+pub next-ok : (cfg : StreamConfig) (time : ℕ) (i : Idle) → cfg .«fec_repeats» ≤ 255 → cfg .«idle_further» ≤ 255 → idleOk (idleNext cfg time i) ≡ true
 unfolding idleNext
-next-ok cfg now i r k = elim (split (leb (i .step + 1) (cfg .«fec_repeats»))) [
+next-ok cfg time i r k = elim (split (leb (i .step + 1) (cfg .«fec_repeats»))) [
   | inl a ↦ rw a (omega (arith, tests, lifts))
   | inr a ↦ elim (split (ltb (i .step + 1) (1 + cfg .«fec_repeats» + cfg .«idle_further»))) [
     | inl b ↦ rw (a, b) (omega (arith, tests, lifts))

@@ -14,12 +14,12 @@ idleOk Off = true
 idleOk (Waiting i) = leb (i .step) 510
 
 abbrev pub isDue : IdleTimer → ℕ → Bool
-isDue Off now = false
-isDue (Waiting i) now = leb (i .due) now
+isDue Off time = false
+isDue (Waiting i) time = leb (i .due) time
 
 -- a command with words is written: the first idle command is due T1 later
 abbrev pub idleStart : StreamConfig → ℕ → IdleTimer
-idleStart cfg now = Waiting record { due = later now (cfg .«idle_interval_ms»); step = 0; interval = cfg .«idle_interval_ms» }
+idleStart cfg time = Waiting record { due = later time (cfg .«idle_interval_ms»); step = 0; interval = cfg .«idle_interval_ms» }
 
 -- a step that has grown
 abbrev pub grownBy : ℕ → ℕ → ℕ
@@ -27,9 +27,9 @@ grownBy growth interval = min (interval * growth) lastTime
 
 -- 1 + R Zero Length Commands at steps of T1, then K more, each step G times the one before, each due one step after the last was queued
 unfoldable pub idleNext : StreamConfig → ℕ → Idle → IdleTimer
-idleNext cfg now i =
+idleNext cfg time i =
     let step : ℕ = i .step + 1 in
     let grown : ℕ = grownBy (cfg .«idle_growth») (i .interval) in
-    cond (leb step (cfg .«fec_repeats»)) (Waiting record { due = later now (i .interval); step = step; interval = i .interval })
-    (cond (ltb step (1 + cfg .«fec_repeats» + cfg .«idle_further»)) (Waiting record { due = later now grown; step = step; interval = grown })
+    cond (leb step (cfg .«fec_repeats»)) (Waiting record { due = later time (i .interval); step = step; interval = i .interval })
+    (cond (ltb step (1 + cfg .«fec_repeats» + cfg .«idle_further»)) (Waiting record { due = later time grown; step = step; interval = grown })
     Off)

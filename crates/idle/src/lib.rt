@@ -7,6 +7,6 @@
 // A schedule has no clock: times are given by the caller, in ms, and so are the settings.
 //
 //   idle    `IdleTimer`: its start, its state test, and whether a command is due
-//   valid   the next step, over settings and a timer that were tested
+//   tested  the next step, over settings and a timer that were tested
 pub mod idle;
-pub mod valid;
+pub mod tested;

@@ -22,7 +22,7 @@ use Rattle.receiver.specs.declared.receiver.Timer.{Timer}
 use Rattle.receiver.specs.declared.receiver.Timer.the-variants.{Stopped, Running}
 use Rattle.receiver.specs.declared.receiver.Receiver.{Receiver}
 use Rattle.receiver.specs.declared.receiver.StreamEvent.the-variants.{Nothing as NoEvent}
-use Rattle.receiver.specs.declared.receiver.Requested.{Requested}
+use Rattle.receiver.specs.declared.receiver.RequestWritten.{RequestWritten}
 use Rattle.command.specs.declared.retransmit.RetransmitError.{RetransmitError}
 use Rattle.sender.specs.Answers as sender
 use Rattle.sender.specs.Queueing.{unsent, sentOf}
@@ -53,7 +53,7 @@ use Rattle.link_rules.specs.declared.run.Waiting.the-variants.{Nothing, Error}
 use Rattle.link.specs.Tally.{tallied, unread}
 use Rattle.link.specs.Turns.{Turn, wroteInto, queuedAt, chamberOf, pollLoss, thereOf, backOf}
 use Rattle.link.specs.Rests.{idleRests, timerRests, quietOf, noError, consoleRests, chamberRests}
-use Rattle.link.specs.declared.arriving.Arrival.{Arrival}
+use Rattle.link.specs.declared.arriving.Tally.{Tally}
 use Rattle.link.specs.declared.halves.Gone.{Gone}
 use Rattle.link.specs.declared.halves.Come.{Come}
 use Rattle.link.proofs.Walking.{tallied-none}
@@ -82,7 +82,7 @@ module _ (d : Bool) (u q : ℕ) (i : Bool) where
   idle-by : d ≡ false → u ≤ 0 → q ≤ 0 → (r : Bool) → r ≡ i → r ≡ (not d && (eqb u 0 && (eqb q 0 && i)))
   idle-by e l m r f = rw (e, zero-only u l, zero-only q m) f
 
-module _ (s : DataStream) (now : ℕ) where
+module _ (s : DataStream) (time : ℕ) where
   abbrev due : Bool
   due = s .receiver .«request_due»
 
@@ -93,41 +93,41 @@ module _ (s : DataStream) (now : ℕ) where
   requests = s .sender .queue .len
 
   abbrev rests : Bool
-  rests = idleRests (s .sender .idle) now
+  rests = idleRests (s .sender .idle) time
 
-  pub due-waits : due ≡ true → false ≡ quietOf s now
+  pub due-waits : due ≡ true → false ≡ quietOf s time
   unfolding quietOf
   due-waits = due-by due words requests rests
 
-  pub words-wait : due ≡ false → 0 < words → false ≡ quietOf s now
+  pub words-wait : due ≡ false → 0 < words → false ≡ quietOf s time
   unfolding quietOf
   words-wait = words-by due words requests rests
 
-  pub request-waits : due ≡ false → words ≤ 0 → 0 < requests → false ≡ quietOf s now
+  pub request-waits : due ≡ false → words ≤ 0 → 0 < requests → false ≡ quietOf s time
   unfolding quietOf
   request-waits = request-by due words requests rests
 
-  pub idle-decides : due ≡ false → words ≤ 0 → requests ≤ 0 → (r : Bool) → r ≡ rests → r ≡ quietOf s now
+  pub idle-decides : due ≡ false → words ≤ 0 → requests ≤ 0 → (r : Bool) → r ≡ rests → r ≡ quietOf s time
   unfolding quietOf
   idle-decides = idle-by due words requests rests
 
-module _ (t : IdleTimer) (now : ℕ) where
-  pub rests-off : t ≡ Off → true ≡ idleRests t now
+module _ (t : IdleTimer) (time : ℕ) where
+  pub rests-off : t ≡ Off → true ≡ idleRests t time
   unfolding idleRests
-  rests-off e = sym (ap (λ (x : IdleTimer). idleRests x now) e)
+  rests-off e = sym (ap (λ (x : IdleTimer). idleRests x time) e)
 
-  pub rests-until : (i : Idle) → t ≡ Waiting i → ltb now (i .due) ≡ idleRests t now
+  pub rests-until : (i : Idle) → t ≡ Waiting i → ltb time (i .due) ≡ idleRests t time
   unfolding idleRests
-  rests-until i e = sym (ap (λ (x : IdleTimer). idleRests x now) e)
+  rests-until i e = sym (ap (λ (x : IdleTimer). idleRests x time) e)
 
-module _ (t : Timer) (now : ℕ) where
-  pub timer-off : t ≡ Stopped → true ≡ timerRests t now
+module _ (t : Timer) (time : ℕ) where
+  pub timer-off : t ≡ Stopped → true ≡ timerRests t time
   unfolding timerRests
-  timer-off e = sym (ap (λ (x : Timer). timerRests x now) e)
+  timer-off e = sym (ap (λ (x : Timer). timerRests x time) e)
 
-  pub timer-until : (i : RequestTimer) → t ≡ Running i → ltb now (i .due) ≡ timerRests t now
+  pub timer-until : (i : RequestTimer) → t ≡ Running i → ltb time (i .due) ≡ timerRests t time
   unfolding timerRests
-  timer-until i e = sym (ap (λ (x : Timer). timerRests x now) e)
+  timer-until i e = sym (ap (λ (x : Timer). timerRests x time) e)
 
 module _ (w : ErrorWaiting) where
   pub error-none : w ≡ Nothing → true ≡ noError w
@@ -153,28 +153,28 @@ both-by a b e = rw e
 both-on : (a b r : Bool) → a ≡ true → r ≡ b → r ≡ (a && b)
 both-on a b r e f = rw e f
 
-module _ (s : DataStream) (now : ℕ) (l : Load) (w : ErrorWaiting) where
-  pub error-waits : (t : Bool) → t ≡ noError w → t ≡ false → false ≡ consoleRests s now (l .last) w
+module _ (s : DataStream) (time : ℕ) (l : Load) (w : ErrorWaiting) where
+  pub error-waits : (t : Bool) → t ≡ noError w → t ≡ false → false ≡ consoleRests s time (l .last) w
   unfolding consoleRests
   error-waits t e f = both-by (noError w) _ (sym e ∙ f)
 
-  pub words-come : (t : Bool) → t ≡ noError w → t ≡ true → (a : Words) → a ≡ load.askedOf l → 0 < a .count → false ≡ consoleRests s now (l .last) w
+  pub words-come : (t : Bool) → t ≡ noError w → t ≡ true → (a : Words) → a ≡ load.askedOf l → 0 < a .count → false ≡ consoleRests s time (l .last) w
   unfolding consoleRests
-  words-come t e f a g m = both-on (noError w) _ false (sym e ∙ f) (both-by (eqb (countOf (l .last)) 0) (quietOf s now) (above-zero (countOf (l .last)) (let n : a .count ≡ countOf (l .last) = ap (λ (x : Words). x .count) g in omega arith)))
+  words-come t e f a g m = both-on (noError w) _ false (sym e ∙ f) (both-by (eqb (countOf (l .last)) 0) (quietOf s time) (above-zero (countOf (l .last)) (let n : a .count ≡ countOf (l .last) = ap (λ (x : Words). x .count) g in omega arith)))
 
-  pub console-decides : (t : Bool) → t ≡ noError w → t ≡ true → (a : Words) → a ≡ load.askedOf l → a .count ≤ 0 → (r : Bool) → r ≡ quietOf s now → r ≡ consoleRests s now (l .last) w
+  pub console-decides : (t : Bool) → t ≡ noError w → t ≡ true → (a : Words) → a ≡ load.askedOf l → a .count ≤ 0 → (r : Bool) → r ≡ quietOf s time → r ≡ consoleRests s time (l .last) w
   unfolding consoleRests
   console-decides t e f a g m r h =
-      both-on (noError w) _ r (sym e ∙ f) (both-on (eqb (countOf (l .last)) 0) (quietOf s now) r (zero-only (countOf (l .last)) (let n : a .count ≡ countOf (l .last) = ap (λ (x : Words). x .count) g in omega arith)) h)
+      both-on (noError w) _ r (sym e ∙ f) (both-on (eqb (countOf (l .last)) 0) (quietOf s time) r (zero-only (countOf (l .last)) (let n : a .count ≡ countOf (l .last) = ap (λ (x : Words). x .count) g in omega arith)) h)
 
-module _ (s : DataStream) (now : ℕ) where
-  pub timer-waits : (t : Bool) → t ≡ timerRests (s .receiver .timer) now → t ≡ false → false ≡ chamberRests s now
+module _ (s : DataStream) (time : ℕ) where
+  pub timer-waits : (t : Bool) → t ≡ timerRests (s .receiver .timer) time → t ≡ false → false ≡ chamberRests s time
   unfolding chamberRests
-  timer-waits t e f = both-by (timerRests (s .receiver .timer) now) (quietOf s now) (sym e ∙ f)
+  timer-waits t e f = both-by (timerRests (s .receiver .timer) time) (quietOf s time) (sym e ∙ f)
 
-  pub chamber-decides : (t : Bool) → t ≡ timerRests (s .receiver .timer) now → t ≡ true → (r : Bool) → r ≡ quietOf s now → r ≡ chamberRests s now
+  pub chamber-decides : (t : Bool) → t ≡ timerRests (s .receiver .timer) time → t ≡ true → (r : Bool) → r ≡ quietOf s time → r ≡ chamberRests s time
   unfolding chamberRests
-  chamber-decides t e f r h = both-on (timerRests (s .receiver .timer) now) (quietOf s now) r (sym e ∙ f) h
+  chamber-decides t e f r h = both-on (timerRests (s .receiver .timer) time) (quietOf s time) r (sym e ∙ f) h
 
 chosen : {A : Type 0} (t : Bool) (x y : A) → t ≡ true → cond t x y ≡ x
 chosen t x y e = rw e
@@ -184,7 +184,7 @@ or-right true b e = refl
 or-right false b e = e
 
 -- ---- a sender with nothing to write
-module _ (x : Sender) (cfg : StreamConfig) (now : ℕ) (p : PayloadWriter) (b ring : List ℕ) where
+module _ (x : Sender) (cfg : StreamConfig) (time : ℕ) (p : PayloadWriter) (b ring : List ℕ) where
   abbrev nothing-served : Served
   nothing-served = record { sender = x; payload = p; bytes = b; written = 0; more = false }
 
@@ -196,51 +196,51 @@ module _ (x : Sender) (cfg : StreamConfig) (now : ℕ) (p : PayloadWriter) (b ri
   unfolding servedOf
   served-none e = served-by (x .queue .len) e
 
-  idled-by : (t : IdleTimer) → idleRests t now ≡ true → idledBy x cfg now ring t ≡ (x, ring)
+  idled-by : (t : IdleTimer) → idleRests t time ≡ true → idledBy x cfg time ring t ≡ (x, ring)
   unfolding idleRests
   idled-by Off e = refl
-  idled-by (Waiting i) e = chosen (ltb 0 (x .unsent) || ltb now (i .due)) _ _ (or-right (ltb 0 (x .unsent)) (ltb now (i .due)) e)
+  idled-by (Waiting i) e = chosen (ltb 0 (x .unsent) || ltb time (i .due)) _ _ (or-right (ltb 0 (x .unsent)) (ltb time (i .due)) e)
 
-  idled-none : idleRests (x .idle) now ≡ true → idledOf x cfg now ring ≡ (x, ring)
+  idled-none : idleRests (x .idle) time ≡ true → idledOf x cfg time ring ≡ (x, ring)
   unfolding idledOf
   idled-none e = idled-by (x .idle) e
 
   abbrev nothing-new : SenderWrote × List ℕ
   nothing-new = (wrote x p 0 false, b)
 
-  new-by : (n : ℕ) → n ≡ 0 → newBy x cfg now 0 p b ring (commandsAt x ring (writtenCount x) n) ≡ nothing-new
+  new-by : (n : ℕ) → n ≡ 0 → newBy x cfg time 0 p b ring (commandsAt x ring (writtenCount x) n) ≡ nothing-new
   unfolding packetsFrom
   new-by n e = rw e
 
-  new-none : x .unsent ≡ 0 → newOf x cfg now 0 p b ring ≡ nothing-new
+  new-none : x .unsent ≡ 0 → newOf x cfg time 0 p b ring ≡ nothing-new
   unfolding newOf
   new-none e = new-by (x .unsent) e
 
-  writes-nothing : x .unsent ≡ 0 → x .queue .len ≡ 0 → idleRests (x .idle) now ≡ true → writtenBy x cfg now p b ring ≡ (wrote x p 0 false, b, ring)
+  writes-nothing : x .unsent ≡ 0 → x .queue .len ≡ 0 → idleRests (x .idle) time ≡ true → writtenBy x cfg time p b ring ≡ (wrote x p 0 false, b, ring)
   unfolding writtenBy
   writes-nothing u q i = ap after-served (served-none q) ∙ ap after-idle (idled-none i) ∙ ap (λ (n : SenderWrote × List ℕ). (n .0, n .1, ring)) (new-none u)
     where
       after-served : Served → SenderWrote × List ℕ × List ℕ
       after-served s =
-          let idled = idledOf (s .sender) cfg now ring in
-          let new = newOf (idled .0) cfg now (s .written) (s .payload) (s .bytes) (idled .1) in
+          let idled = idledOf (s .sender) cfg time ring in
+          let new = newOf (idled .0) cfg time (s .written) (s .payload) (s .bytes) (idled .1) in
           cond (s .more) (wrote (s .sender) (s .payload) (s .written) true, s .bytes, ring) (new .0, new .1, idled .1)
 
       after-idle : Sender × List ℕ → SenderWrote × List ℕ × List ℕ
-      after-idle y = let new = newOf (y .0) cfg now 0 p b (y .1) in (new .0, new .1, y .1)
+      after-idle y = let new = newOf (y .0) cfg time 0 p b (y .1) in (new .0, new .1, y .1)
 
 -- ---- a stream with nothing to write
 taken-none : (r : Receiver) (cfg : StreamConfig) (p : PayloadWriter) (b : List ℕ) → not (r .«request_due») ≡ true → takenOf r cfg p b ≡ (notDue r p, b)
 unfolding takenOf
 taken-none r cfg p b e = chosen (not (r .«request_due»)) _ _ e
 
-module _ (s : DataStream) (cfg : StreamConfig) (now : ℕ) (p : PayloadWriter) (b ring : List ℕ) where
-  left-as-is : quietOf s now ≡ true → dataWritten s cfg now p b ring ≡ (record { stream = s; payload = p; answer = countedAlso 0 (wrote (s .sender) p 0 false .answer) }, b, ring)
+module _ (s : DataStream) (cfg : StreamConfig) (time : ℕ) (p : PayloadWriter) (b ring : List ℕ) where
+  left-as-is : quietOf s time ≡ true → dataWritten s cfg time p b ring ≡ (record { stream = s; payload = p; answer = countedAlso 0 (wrote (s .sender) p 0 false .answer) }, b, ring)
   unfolding quietOf dataWritten sentAfter
   left-as-is e =
-      ap (λ (t : Requested × List ℕ). afterRequest (t .0 .answer) (withReceiver s (t .0 .receiver)) cfg now (t .0 .payload) (t .1) ring) (taken-none (s .receiver) cfg p b (and-left d rest e))
+      ap (λ (t : RequestWritten × List ℕ). afterRequest (t .0 .answer) (withReceiver s (t .0 .receiver)) cfg time (t .0 .payload) (t .1) ring) (taken-none (s .receiver) cfg p b (and-left d rest e))
       ∙ ap (λ (w : SenderWrote × List ℕ × List ℕ). (record { stream = withSender s (w .0 .sender); payload = w .0 .payload; answer = countedAlso 0 (w .0 .answer) }, w .1, w .2))
-      (writes-nothing (s .sender) cfg now p b ring (eqb-true (s .sender .unsent) 0 (and-left u more r)) (eqb-true (s .sender .queue .len) 0 (and-left q i m)) (and-right q i m))
+      (writes-nothing (s .sender) cfg time p b ring (eqb-true (s .sender .unsent) 0 (and-left u more r)) (eqb-true (s .sender .queue .len) 0 (and-left q i m)) (and-right q i m))
     where
       d : Bool
       d = not (s .receiver .«request_due»)
@@ -252,7 +252,7 @@ module _ (s : DataStream) (cfg : StreamConfig) (now : ℕ) (p : PayloadWriter) (
       q = eqb (s .sender .queue .len) 0
 
       i : Bool
-      i = idleRests (s .sender .idle) now
+      i = idleRests (s .sender .idle) time
 
       more : Bool
       more = q && i
@@ -269,10 +269,10 @@ module _ (s : DataStream) (cfg : StreamConfig) (now : ℕ) (p : PayloadWriter) (
   abbrev turned : Wrote × List ℕ × List ℕ → Turn
   turned w = record { stream = w .0 .stream; ring = w .2; bytes = bytesIn (w .0 .payload) (w .1) }
 
-  quiet-turn : quietOf s now ≡ true → _≡_ {A = Turn} (record { stream = s; ring = ring; bytes = bytesIn p b }) (wroteInto s cfg now ring (p, b))
+  quiet-turn : quietOf s time ≡ true → _≡_ {A = Turn} (record { stream = s; ring = ring; bytes = bytesIn p b }) (wroteInto s cfg time ring (p, b))
   unfolding wroteInto writeAnswer
   quiet-turn e =
-      entry-any (λ (w : Wrote × List ℕ × List ℕ). left ≡ turned w) (writeRefused s p b ring) (dataWritten s cfg now p b ring) (λ why. refl)
+      entry-any (λ (w : Wrote × List ℕ × List ℕ). left ≡ turned w) (writeRefused s p b ring) (dataWritten s cfg time p b ring) (λ why. refl)
       (checkOf cfg) (validOf s ring && payloadValid p (length b)) (λ _ _. sym (ap turned (left-as-is e)))
     where
       left : Turn
@@ -297,26 +297,26 @@ module _ (s : DataStream) (cfg : StreamConfig) (ring : List ℕ) where
   queued-none x e = queued-by (countOf x) e
 
 -- ---- no poll
-module _ (s : DataStream) (cfg : StreamConfig) (now : ℕ) (e : timerRests (s .receiver .timer) now ≡ true) where
+module _ (s : DataStream) (cfg : StreamConfig) (time : ℕ) (e : timerRests (s .receiver .timer) time ≡ true) where
   abbrev counted : ReceiverTold → DataStream × ℕ
   counted t = (toldBy (s .sender) t .stream, eventLoss (toldBy (s .sender) t .event))
 
-  at-rest : (t : Timer) → timerRests t now ≡ true → polledAt (s .receiver) cfg now t ≡ record { receiver = s .receiver; event = NoEvent }
+  at-rest : (t : Timer) → timerRests t time ≡ true → polledAt (s .receiver) cfg time t ≡ record { receiver = s .receiver; event = NoEvent }
   unfolding timerRests
   at-rest Stopped f = refl
-  at-rest (Running t) f = chosen (ltb now (t .due)) _ _ f
+  at-rest (Running t) f = chosen (ltb time (t .due)) _ _ f
 
-  polled-none : (s, 0) ≡ counted (receiver.pollAnswer (s .receiver) cfg now)
+  polled-none : (s, 0) ≡ counted (receiver.pollAnswer (s .receiver) cfg time)
   unfolding receiver.pollAnswer polledOf
   polled-none =
-      entry-any (λ (t : ReceiverTold). (s, 0) ≡ counted t) (receiver.eventRefused (s .receiver)) (polledAt (s .receiver) cfg now (s .receiver .timer)) (λ why. refl)
+      entry-any (λ (t : ReceiverTold). (s, 0) ≡ counted t) (receiver.eventRefused (s .receiver)) (polledAt (s .receiver) cfg time (s .receiver .timer)) (λ why. refl)
       (checkOf cfg) (receiverValid (s .receiver)) (λ _ _. sym (ap counted (at-rest (s .receiver .timer) e)))
 
-  stays : s ≡ pollAnswer s cfg now .stream
+  stays : s ≡ pollAnswer s cfg time .stream
   unfolding pollAnswer
   stays = ap (λ (x : DataStream × ℕ). x .0) polled-none
 
-  no-loss : _≡_ {A = ℕ} 0 (pollLoss s cfg now)
+  no-loss : _≡_ {A = ℕ} 0 (pollLoss s cfg time)
   unfolding pollAnswer
   no-loss = ap (λ (x : DataStream × ℕ). x .1) polled-none
 
@@ -328,42 +328,42 @@ items-none = refl
 carried-none : (figure y : ℕ) → carried figure y [] ≡ []
 carried-none figure y = sym (by-cond (λ (x : List Item). [] ≡ x) (ltb (y % 256) figure) [] (itemsOf []) (λ _. refl) (λ _. sym items-none))
 
-reads-none : (s : DataStream) (cfg : StreamConfig) (now : ℕ) (ring : List ℕ) (items : List Item) → items ≡ [] → unread s ≡ tallied (unread s) (arrivedOf s cfg now ring items)
+reads-none : (s : DataStream) (cfg : StreamConfig) (time : ℕ) (ring : List ℕ) (items : List Item) → items ≡ [] → unread s ≡ tallied (unread s) (arrivedOf s cfg time ring items)
 unfolding arrivedOf
-reads-none s cfg now ring items e = rw e (sym (tallied-none (unread s)))
+reads-none s cfg time ring items e = rw e (sym (tallied-none (unread s)))
 
-module _ (console chamber : DataStream) (cfg : StreamConfig) (now : ℕ) where
-  pub there-rests : (x y figure : ℕ) (w : ErrorWaiting) (ring other : List ℕ) → consoleRests console now x w ≡ true
-      → _≡_ {A = Gone × List ℕ} (record { console = console; chamber = unread chamber }, ring) (thereOf console chamber cfg now x y figure w ring other)
+module _ (console chamber : DataStream) (cfg : StreamConfig) (time : ℕ) where
+  pub there-rests : (x y figure : ℕ) (w : ErrorWaiting) (ring other : List ℕ) → consoleRests console time x w ≡ true
+      → _≡_ {A = Gone × List ℕ} (record { console = console; chamber = unread chamber }, ring) (thereOf console chamber cfg time x y figure w ring other)
   unfolding consoleRests thereOf
   there-rests x y figure w ring other e =
-      ap (λ (r : Arrival). (record { console = console; chamber = r }, ring)) (reads-none chamber cfg now other (carried figure y []) (carried-none figure y))
-      ∙ ap (λ (c : Turn). (record { console = c .stream; chamber = tallied (unread chamber) (arrivedOf chamber cfg now other (carried figure y (c .bytes))) }, c .ring))
-      (console-is console cfg now ring x w console ring (queued-none console cfg ring x none) empty blank (begin-none w blank refl (none-waits w (and-left (noError w) rest e)))
-      (record { stream = console; ring = ring; bytes = [] }) (quiet-turn console cfg now empty blank ring quiet))
+      ap (λ (r : Tally). (record { console = console; chamber = r }, ring)) (reads-none chamber cfg time other (carried figure y []) (carried-none figure y))
+      ∙ ap (λ (c : Turn). (record { console = c .stream; chamber = tallied (unread chamber) (arrivedOf chamber cfg time other (carried figure y (c .bytes))) }, c .ring))
+      (console-is console cfg time ring x w console ring (queued-none console cfg ring x none) empty blank (begin-none w blank refl (none-waits w (and-left (noError w) rest e)))
+      (record { stream = console; ring = ring; bytes = [] }) (quiet-turn console cfg time empty blank ring quiet))
     where
       rest : Bool
-      rest = eqb (countOf x) 0 && quietOf console now
+      rest = eqb (countOf x) 0 && quietOf console time
 
       both : rest ≡ true
       both = and-right (noError w) rest e
 
       none : countOf x ≡ 0
-      none = eqb-true (countOf x) 0 (and-left (eqb (countOf x) 0) (quietOf console now) both)
+      none = eqb-true (countOf x) 0 (and-left (eqb (countOf x) 0) (quietOf console time) both)
 
-      quiet : quietOf console now ≡ true
-      quiet = and-right (eqb (countOf x) 0) (quietOf console now) both
+      quiet : quietOf console time ≡ true
+      quiet = and-right (eqb (countOf x) 0) (quietOf console time) both
 
-  pub back-rests : (ring other : List ℕ) → chamberRests chamber now ≡ true
-      → _≡_ {A = Come × List ℕ} (record { console = unread console; chamber = chamber; losses = 0 }, other) (backOf console chamber cfg now ring other)
+  pub back-rests : (ring other : List ℕ) → chamberRests chamber time ≡ true
+      → _≡_ {A = Come × List ℕ} (record { console = unread console; chamber = chamber; losses = 0 }, other) (backOf console chamber cfg time ring other)
   unfolding chamberRests backOf chamberOf
   back-rests ring other e =
-      ap₂ (λ (r : Arrival) (n : ℕ). (record { console = r; chamber = chamber; losses = n }, other)) (reads-none console cfg now ring (itemsOf []) items-none) (no-loss chamber cfg now rests)
-      ∙ ap (λ (d : Turn). (record { console = tallied (unread console) (arrivedOf console cfg now ring (itemsOf (d .bytes))); chamber = d .stream; losses = pollLoss chamber cfg now }, d .ring))
-      (quiet-turn chamber cfg now empty blank other quiet ∙ ap (λ (s : DataStream). wroteInto s cfg now other (empty, blank)) (stays chamber cfg now rests))
+      ap₂ (λ (r : Tally) (n : ℕ). (record { console = r; chamber = chamber; losses = n }, other)) (reads-none console cfg time ring (itemsOf []) items-none) (no-loss chamber cfg time rests)
+      ∙ ap (λ (d : Turn). (record { console = tallied (unread console) (arrivedOf console cfg time ring (itemsOf (d .bytes))); chamber = d .stream; losses = pollLoss chamber cfg time }, d .ring))
+      (quiet-turn chamber cfg time empty blank other quiet ∙ ap (λ (s : DataStream). wroteInto s cfg time other (empty, blank)) (stays chamber cfg time rests))
     where
-      rests : timerRests (chamber .receiver .timer) now ≡ true
-      rests = and-left (timerRests (chamber .receiver .timer) now) (quietOf chamber now) e
+      rests : timerRests (chamber .receiver .timer) time ≡ true
+      rests = and-left (timerRests (chamber .receiver .timer) time) (quietOf chamber time) e
 
-      quiet : quietOf chamber now ≡ true
-      quiet = and-right (timerRests (chamber .receiver .timer) now) (quietOf chamber now) e
+      quiet : quietOf chamber time ≡ true
+      quiet = and-right (timerRests (chamber .receiver .timer) time) (quietOf chamber time) e

@@ -28,7 +28,7 @@ use Rattle.link_rules.specs.Arriving.{eventLoss, arrivedOf}
 use Rattle.link.specs.Tally.{tallied, unread}
 use Rattle.link_rules.specs.Link.{empty, blank, carried}
 use Rattle.link.specs.Turns.{Turn, begun, wroteInto, queuedAt, consoleOf, chamberOf, pollLoss, partOf}
-use Rattle.link.specs.declared.arriving.Arrival.{Arrival}
+use Rattle.link.specs.declared.arriving.Tally.{Tally}
 use Rattle.link_rules.specs.declared.run.Waiting.{Waiting}
 use Rattle.link_rules.specs.declared.run.Waiting.the-variants.{Nothing, Error}
 use Rattle.link.proofs.Walking.{tallied-none}
@@ -42,10 +42,10 @@ pub begin-error : (w : Waiting) (e : RetransmitError) (buf out : List ℕ) (x : 
 begin-error w e buf out x f g h =
     ap (λ (y : Written × List ℕ). (y .0 .payload, y .1)) (h ∙ ap (errorWritten e empty) f) ∙ ap begun (sym g)
 
-pub written-turn : (s : DataStream) (cfg : StreamConfig) (now : ℕ) (p : PayloadWriter) (b ring : List ℕ) (x : Wrote) (bytes next : List ℕ) → (x, bytes, next) ≡ writeAnswer s cfg now p b ring
-    → _≡_ {A = Turn} (record { stream = x .stream; ring = next; bytes = partOf (x .payload .len) bytes }) (wroteInto s cfg now ring (p, b))
+pub written-turn : (s : DataStream) (cfg : StreamConfig) (time : ℕ) (p : PayloadWriter) (b ring : List ℕ) (x : Wrote) (bytes next : List ℕ) → (x, bytes, next) ≡ writeAnswer s cfg time p b ring
+    → _≡_ {A = Turn} (record { stream = x .stream; ring = next; bytes = partOf (x .payload .len) bytes }) (wroteInto s cfg time ring (p, b))
 unfolding wroteInto partOf
-written-turn s cfg now p b ring x bytes next e =
+written-turn s cfg time p b ring x bytes next e =
     ap (λ (w : Wrote × List ℕ × List ℕ). record { stream = w .0 .stream; ring = w .2; bytes = bytesIn (w .0 .payload) (w .1) }) e
 
 -- ---- the load's words
@@ -73,29 +73,29 @@ queued-is s cfg ring x ws e r out f = ap (λ (q : Sent × List ℕ). (q .0 .stre
 
 -- ---- the turns
 
-pub console-is : (s : DataStream) (cfg : StreamConfig) (now : ℕ) (ring : List ℕ) (x : ℕ) (w : Waiting) (q : DataStream) (after : List ℕ) → (q, after) ≡ queuedAt s cfg ring x
-    → (p : PayloadWriter) (b : List ℕ) → (p, b) ≡ begun w → (t : Turn) → t ≡ wroteInto q cfg now after (p, b) → t ≡ consoleOf s cfg now ring x w
+pub console-is : (s : DataStream) (cfg : StreamConfig) (time : ℕ) (ring : List ℕ) (x : ℕ) (w : Waiting) (q : DataStream) (after : List ℕ) → (q, after) ≡ queuedAt s cfg ring x
+    → (p : PayloadWriter) (b : List ℕ) → (p, b) ≡ begun w → (t : Turn) → t ≡ wroteInto q cfg time after (p, b) → t ≡ consoleOf s cfg time ring x w
 unfolding consoleOf
-console-is s cfg now ring x w q after e p b f t g =
-    g ∙ ap₂ (λ (y : DataStream × List ℕ) (z : PayloadWriter × List ℕ). wroteInto (y .0) cfg now (y .1) z) e f
+console-is s cfg time ring x w q after e p b f t g =
+    g ∙ ap₂ (λ (y : DataStream × List ℕ) (z : PayloadWriter × List ℕ). wroteInto (y .0) cfg time (y .1) z) e f
 
-pub chamber-is : (s : DataStream) (cfg : StreamConfig) (now : ℕ) (ring b : List ℕ) → b ≡ blank → (h : Told) → h ≡ pollAnswer s cfg now
-    → (t : Turn) → t ≡ wroteInto (h .stream) cfg now ring (empty, b) → t ≡ chamberOf s cfg now ring
+pub chamber-is : (s : DataStream) (cfg : StreamConfig) (time : ℕ) (ring b : List ℕ) → b ≡ blank → (h : Told) → h ≡ pollAnswer s cfg time
+    → (t : Turn) → t ≡ wroteInto (h .stream) cfg time ring (empty, b) → t ≡ chamberOf s cfg time ring
 unfolding chamberOf
-chamber-is s cfg now ring b e h f t g =
-    g ∙ ap₂ (λ (y : Told) (z : List ℕ). wroteInto (y .stream) cfg now ring (empty, z)) f e
+chamber-is s cfg time ring b e h f t g =
+    g ∙ ap₂ (λ (y : Told) (z : List ℕ). wroteInto (y .stream) cfg time ring (empty, z)) f e
 
-pub poll-loss-is : (s : DataStream) (cfg : StreamConfig) (now : ℕ) (h : Told) → h ≡ pollAnswer s cfg now → (n m : ℕ) → n ≡ eventLoss (h .event) → m ≡ n → m ≡ pollLoss s cfg now
-poll-loss-is s cfg now h f n m e g = g ∙ e ∙ ap (λ (y : Told). eventLoss (y .event)) f
+pub poll-loss-is : (s : DataStream) (cfg : StreamConfig) (time : ℕ) (h : Told) → h ≡ pollAnswer s cfg time → (n m : ℕ) → n ≡ eventLoss (h .event) → m ≡ n → m ≡ pollLoss s cfg time
+poll-loss-is s cfg time h f n m e g = g ∙ e ∙ ap (λ (y : Told). eventLoss (y .event)) f
 
 -- ---- the line
 
-module _ (s : DataStream) (cfg : StreamConfig) (now : ℕ) (ring : List ℕ) (figure x : ℕ) (bytes : List ℕ) where
-  pub line-drops : x % 256 < figure → unread s ≡ tallied (unread s) (arrivedOf s cfg now ring (carried figure x bytes))
+module _ (s : DataStream) (cfg : StreamConfig) (time : ℕ) (ring : List ℕ) (figure x : ℕ) (bytes : List ℕ) where
+  pub line-drops : x % 256 < figure → unread s ≡ tallied (unread s) (arrivedOf s cfg time ring (carried figure x bytes))
   unfolding arrivedOf
   line-drops l = rw (lt-ltb (x % 256) figure l) (sym (tallied-none (unread s)))
 
-  pub line-carries : figure ≤ x % 256 → (r : Arrival) → r ≡ tallied (unread s) (arrivedOf s cfg now ring (itemsOf bytes)) → r ≡ tallied (unread s) (arrivedOf s cfg now ring (carried figure x bytes))
+  pub line-carries : figure ≤ x % 256 → (r : Tally) → r ≡ tallied (unread s) (arrivedOf s cfg time ring (itemsOf bytes)) → r ≡ tallied (unread s) (arrivedOf s cfg time ring (carried figure x bytes))
   line-carries l r e = rw (le-ltb (x % 256) figure l) e
 
 -- ---- the first bytes of a buffer

@@ -13,18 +13,18 @@ use Rattle.link_rules.specs.declared.run.Waiting.the-variants.{Nothing, Error}
 
 -- no idle command is due
 unfoldable pub idleRests : IdleTimer → ℕ → Bool
-idleRests Off now = true
-idleRests (Waiting i) now = ltb now (i .due)
+idleRests Off time = true
+idleRests (Waiting i) time = ltb time (i .due)
 
 -- a poll has nothing to do
 unfoldable pub timerRests : Timer → ℕ → Bool
-timerRests Stopped now = true
-timerRests (Running t) now = ltb now (t .due)
+timerRests Stopped time = true
+timerRests (Running t) time = ltb time (t .due)
 
 -- nothing is to be written: no request is due, no command is unwritten, no request waits, no idle command is due
 unfoldable pub quietOf : DataStream → ℕ → Bool
-quietOf s now =
-    not (s .receiver .«request_due») && (eqb (s .sender .unsent) 0 && (eqb (s .sender .queue .len) 0 && idleRests (s .sender .idle) now))
+quietOf s time =
+    not (s .receiver .«request_due») && (eqb (s .sender .unsent) 0 && (eqb (s .sender .queue .len) 0 && idleRests (s .sender .idle) time))
 
 unfoldable pub noError : ErrorWaiting → Bool
 noError Nothing = true
@@ -32,8 +32,8 @@ noError (Error e) = false
 
 -- the console, with the load's value and the error that waits
 unfoldable pub consoleRests : DataStream → ℕ → ℕ → ErrorWaiting → Bool
-consoleRests s now x w = noError w && (eqb (countOf x) 0 && quietOf s now)
+consoleRests s time x w = noError w && (eqb (countOf x) 0 && quietOf s time)
 
 -- the chamber, which has read
 unfoldable pub chamberRests : DataStream → ℕ → Bool
-chamberRests s now = timerRests (s .receiver .timer) now && quietOf s now
+chamberRests s time = timerRests (s .receiver .timer) time && quietOf s time

@@ -35,21 +35,21 @@ abbrev pub queuedAt : DataStream → StreamConfig → List ℕ → ℕ → DataS
 queuedAt s cfg ring x = let q = sendAnswer s cfg ring (wordsOf x) in (q .0 .stream, q .1)
 
 unfoldable pub wroteInto : DataStream → StreamConfig → ℕ → List ℕ → PayloadWriter × List ℕ → Turn
-wroteInto s cfg now ring p =
-    let w = writeAnswer s cfg now (p .0) (p .1) ring in
+wroteInto s cfg time ring p =
+    let w = writeAnswer s cfg time (p .0) (p .1) ring in
     record { stream = w .0 .stream; ring = w .2; bytes = payloadOf w }
 
 unfoldable pub consoleOf : DataStream → StreamConfig → ℕ → List ℕ → ℕ → Waiting → Turn
-consoleOf s cfg now ring x waiting =
+consoleOf s cfg time ring x waiting =
     let q = queuedAt s cfg ring x in
-    wroteInto (q .0) cfg now (q .1) (begun waiting)
+    wroteInto (q .0) cfg time (q .1) (begun waiting)
 
 -- the chamber has read
 unfoldable pub chamberOf : DataStream → StreamConfig → ℕ → List ℕ → Turn
-chamberOf s cfg now ring = wroteInto (pollAnswer s cfg now .stream) cfg now ring (empty, blank)
+chamberOf s cfg time ring = wroteInto (pollAnswer s cfg time .stream) cfg time ring (empty, blank)
 
 abbrev pub pollLoss : DataStream → StreamConfig → ℕ → ℕ
-pollLoss s cfg now = eventLoss (pollAnswer s cfg now .event)
+pollLoss s cfg time = eventLoss (pollAnswer s cfg time .event)
 
 -- the first bytes of a buffer
 unfoldable pub partOf : ℕ → List ℕ → List ℕ
@@ -62,15 +62,15 @@ turnOf r buf ring = record { stream = r .stream; ring = ring; bytes = partOf (r 
 
 -- the console's turn, and what of it arrives at the chamber
 unfoldable pub thereOf : DataStream → DataStream → StreamConfig → ℕ → ℕ → ℕ → ℕ → Waiting → List ℕ → List ℕ → Gone × List ℕ
-thereOf console chamber cfg now x y figure waiting ring other =
-    let c = consoleOf console cfg now ring x waiting in
-    (record { console = c .stream; chamber = tallied (unread chamber) (arrivedOf chamber cfg now other (carried figure y (c .bytes))) }, c .ring)
+thereOf console chamber cfg time x y figure waiting ring other =
+    let c = consoleOf console cfg time ring x waiting in
+    (record { console = c .stream; chamber = tallied (unread chamber) (arrivedOf chamber cfg time other (carried figure y (c .bytes))) }, c .ring)
 
 -- the chamber's turn, and what of it arrives at the console
 unfoldable pub backOf : DataStream → DataStream → StreamConfig → ℕ → List ℕ → List ℕ → Come × List ℕ
-backOf console chamber cfg now ring other =
-    let d = chamberOf chamber cfg now other in (
-      record { console = tallied (unread console) (arrivedOf console cfg now ring (itemsOf (d .bytes))); chamber = d .stream; losses = pollLoss chamber cfg now },
+backOf console chamber cfg time ring other =
+    let d = chamberOf chamber cfg time other in (
+      record { console = tallied (unread console) (arrivedOf console cfg time ring (itemsOf (d .bytes))); chamber = d .stream; losses = pollLoss chamber cfg time },
       d .ring,
     )
 

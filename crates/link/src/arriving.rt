@@ -18,12 +18,12 @@ use command::retransmit::RetransmitError;
 use command::retransmit::RetransmitRequest;
 use config::settings::StreamConfig;
 use link_rules::run::Waiting;
-use packet::reader::Cursor;
-use packet::reader::Header;
-use packet::reader::PacketItem;
-use packet::reader::Packets;
-use packet::reader::body;
-use packet::reader::command_packets;
+use packet::cursor::Cursor;
+use packet::cursor::Header;
+use packet::cursor::PacketItem;
+use packet::cursor::Packets;
+use packet::cursor::body;
+use packet::cursor::command_packets;
 use receiver::messages::delivers;
 use receiver::receiver::Hearing;
 use receiver::receiver::StreamEvent;
@@ -33,7 +33,7 @@ use window::window::Class;
 use window::window::Span;
 
 // An end, and what is counted of the answers that it has given.
-pub struct Arrival {
+pub struct Tally {
     pub stream: DataStream,
     pub waiting: Waiting,
     // Commands handed on, at most one for each command read.
@@ -89,7 +89,7 @@ fn hands_on(class: Class) -> u32
 }
 
 // A data command.
-fn hear(a: Arrival, cfg: StreamConfig, time: u64, data: UmpData) -> Arrival
+fn hear(a: Tally, cfg: StreamConfig, time: u64, data: UmpData) -> Tally
     requires { ⌜ Few a ⌝ }
     ensures { λ r. ⌜ r ≡ tallied a (arrivedBy (a .stream) cfg time [] (UmpDataOf «data»)) ⌝ }
 {
@@ -99,7 +99,7 @@ fn hear(a: Arrival, cfg: StreamConfig, time: u64, data: UmpData) -> Arrival
     let stream = heard.stream;
     let answer = heard.answer;
     match answer {
-        Hearing::Refused(_) => Arrival {
+        Hearing::Refused(_) => Tally {
             stream,
             waiting,
             handed: a.handed,
@@ -108,7 +108,7 @@ fn hear(a: Arrival, cfg: StreamConfig, time: u64, data: UmpData) -> Arrival
         Hearing::Delivery(d) => {
             let class = d.class;
             let lost = d.lost;
-            Arrival {
+            Tally {
                 stream,
                 waiting,
                 handed: a.handed + hands_on(class),
@@ -119,7 +119,7 @@ fn hear(a: Arrival, cfg: StreamConfig, time: u64, data: UmpData) -> Arrival
 }
 
 // A Retransmit Request.
-fn request(a: Arrival, cfg: StreamConfig, ring: &[u32], req: RetransmitRequest) -> Arrival
+fn request(a: Tally, cfg: StreamConfig, ring: &[u32], req: RetransmitRequest) -> Tally
     ensures { λ r. ⌜ r ≡ tallied a (arrivedBy (a .stream) cfg 0 (now (ring .entry)) (RequestOf req)) ⌝ }
 {
     let before = a.stream;
@@ -127,7 +127,7 @@ fn request(a: Arrival, cfg: StreamConfig, ring: &[u32], req: RetransmitRequest) 
     let asked = before.on_retransmit_request(cfg, ring, req);
     let stream = asked.stream;
     let outcome = asked.outcome;
-    Arrival {
+    Tally {
         stream,
         waiting: error_after(waiting, outcome),
         handed: a.handed,
@@ -136,7 +136,7 @@ fn request(a: Arrival, cfg: StreamConfig, ring: &[u32], req: RetransmitRequest) 
 }
 
 // A Retransmit Error.
-fn error(a: Arrival, cfg: StreamConfig, err: RetransmitError) -> Arrival
+fn error(a: Tally, cfg: StreamConfig, err: RetransmitError) -> Tally
     requires { ⌜ Few a ⌝ }
     ensures { λ r. ⌜ r ≡ tallied a (arrivedBy (a .stream) cfg 0 [] (ErrorOf err)) ⌝ }
 {
@@ -145,7 +145,7 @@ fn error(a: Arrival, cfg: StreamConfig, err: RetransmitError) -> Arrival
     let told = before.on_retransmit_error(err);
     let stream = told.stream;
     let event = told.event;
-    Arrival {
+    Tally {
         stream,
         waiting,
         handed: a.handed,
@@ -154,7 +154,7 @@ fn error(a: Arrival, cfg: StreamConfig, err: RetransmitError) -> Arrival
 }
 
 // One command.
-fn command(a: Arrival, cfg: StreamConfig, time: u64, ring: &[u32], c: Command) -> Arrival
+fn command(a: Tally, cfg: StreamConfig, time: u64, ring: &[u32], c: Command) -> Tally
     requires { ⌜ Few a ⌝ }
     ensures { λ r. ⌜ r ≡ tallied a (arrivedBy (a .stream) cfg time (now (ring .entry)) c) ⌝ }
 {
@@ -168,7 +168,7 @@ fn command(a: Arrival, cfg: StreamConfig, time: u64, ring: &[u32], c: Command) -
 }
 
 // The commands of a payload that has the signature, one after the other.
-fn walk(first: Arrival, cfg: StreamConfig, time: u64, ring: &[u32], payload: &[u8]) -> Arrival
+fn walk(first: Tally, cfg: StreamConfig, time: u64, ring: &[u32], payload: &[u8]) -> Tally
     requires { ⌜ (length (now payload) ≤ 1400) × (first .handed ≡ 0) × (first .losses ≡ 0) ⌝ }
     ensures { λ r. ⌜ (r ≡ tallied first (arrivedOf (first .stream) cfg time (now (ring .entry)) (restAt (now (payload .entry)) 4))) × Few r ⌝ }
 {
@@ -202,11 +202,11 @@ fn walk(first: Arrival, cfg: StreamConfig, time: u64, ring: &[u32], payload: &[u
 }
 
 // A payload; nothing is read without the signature.
-pub fn arrive(s: DataStream, cfg: StreamConfig, time: u64, ring: &[u32], payload: &[u8]) -> Arrival
+pub fn arrive(s: DataStream, cfg: StreamConfig, time: u64, ring: &[u32], payload: &[u8]) -> Tally
     requires { ⌜ length (now payload) ≤ 1400 ⌝ }
     ensures { λ r. ⌜ (r ≡ tallied (unread s) (arrivedOf s cfg time (now (ring .entry)) (itemsOf (now (payload .entry))))) × Few r ⌝ }
 {
-    let none = Arrival {
+    let none = Tally {
         stream: s,
         waiting: Waiting::Nothing,
         handed: 0,

@@ -3,7 +3,7 @@ ghost use mathlib.Core.Path.{_≡_};
 ghost use Prim.Native.Nat.{_≤_};
 ghost use Rattle.link.specs.Tally.{Few};
 ghost use Rattle.link.specs.Turns.{thereOf, backOf};
-use super::arriving::Arrival;
+use super::arriving::Tally;
 use super::arriving::arrive;
 use super::quiet::chamber_rests;
 use super::quiet::console_rests;
@@ -19,12 +19,12 @@ use stream::stream::DataStream;
 // The console after its turn, and the chamber that has read.
 pub struct Gone {
     pub console: DataStream,
-    pub chamber: Arrival,
+    pub chamber: Tally,
 }
 
 // The console that has read, and the chamber after its turn.
 pub struct Come {
-    pub console: Arrival,
+    pub console: Tally,
     pub chamber: DataStream,
     // Losses that the chamber's poll reported.
     pub losses: u32,
@@ -74,7 +74,7 @@ pub fn there(
     if console_rests(console, time, load, waiting) {
         return Gone {
             console,
-            chamber: Arrival {
+            chamber: Tally {
                 stream: chamber,
                 waiting: Waiting::Nothing,
                 handed: 0,
@@ -133,7 +133,7 @@ pub fn back(
 {
     if chamber_rests(chamber, time) {
         return Come {
-            console: Arrival {
+            console: Tally {
                 stream: console,
                 waiting: Waiting::Nothing,
                 handed: 0,

@@ -6,7 +6,7 @@ ghost use Rattle.link_rules.specs.Arriving.{arrivedOf};
 ghost use Rattle.link.specs.Tally.{Few, tallied, unread};
 ghost use Rattle.link_rules.specs.Link.{limit, blank, carried};
 ghost use Rattle.link.specs.Turns.{begun, queuedAt, wroteInto, consoleOf, chamberOf, pollLoss, partOf, turnOf};
-use super::arriving::Arrival;
+use super::arriving::Tally;
 use super::arriving::arrive;
 use super::arriving::event_loss;
 use config::settings::StreamConfig;
@@ -134,12 +134,12 @@ pub fn carry(
     figure: u32,
     ring: &[u32],
     payload: &[u8],
-) -> Arrival
+) -> Tally
     requires { ⌜ length (now payload) ≤ limit ⌝ }
     ensures { λ r. ⌜ (r ≡ tallied (unread s) (arrivedOf s cfg time (now (ring .entry)) (carried figure (line .last) (now (payload .entry))))) × Few r ⌝ }
 {
     if line.last % 0x100 < figure {
-        return Arrival {
+        return Tally {
             stream: s,
             waiting: Waiting::Nothing,
             handed: 0,

@@ -21,7 +21,7 @@ use Rattle.window.specs.Marking.{hitAt, hitsOf, markOf}
 use Rattle.idle.specs.Schedule.{idleNext}
 use Rattle.rows.specs.Rows.{rowOf, packetsFrom, sizesOf, anyWords}
 use Rattle.rows.specs.Choice.{repeatsOf}
-use Rattle.receiver.specs.Receiver.{validOf as receiverValid, dueAfter, settledOf, heardOf, gaveUp, polledOf, erroredOf, offeredOf, takenOf}
+use Rattle.receiver.specs.Receiver.{validOf as receiverValid, dueAfter, settledOf, heardOf, gaveUp, polledOf, errorOf, offeredOf, takenOf}
 use Rattle.receiver.specs.Answers as receiver
 use Rattle.sender.specs.Answers as sender
 use Rattle.sender.specs.Commands.{fitting, front, behind, commandsIn, commandsOf, longer as longMessage, above}
@@ -38,7 +38,7 @@ use Rattle.link_rules.specs.Link.{callsOf, stepOf, runOf, runAnswer}
 use Rattle.link_rules.specs.Cases.{Runs}
 
 pub runs : Runs
-unfolding runAnswer runOf stepOf callsOf gapIn arrivedOf handedIn lossesIn errorIn next countOf sentAfter dataWritten writeAnswer sendAnswer requestAnswer dataAnswer errorAnswer pollAnswer streamValid rowOf packetsFrom servedIn servedOf idleNext idledOf sizesOf repeatsOf anyWords writtenOff newWritten writtenBy requestedOf roomOf needOf joinedTo pushedAll queuedTo queuedOf wordsCheck placedOf sentOf senderValid fitting front behind commandsIn commandsOf longMessage above sender.sendAnswer sender.requestAnswer receiver.dataAnswer receiver.pollAnswer receiver.errorAnswer receiverValid dueAfter settledOf heardOf gaveUp polledOf erroredOf offeredOf takenOf hitAt hitsOf markOf classOf movedOf lostOf newOf acceptOf windowValid processed missingOf spanOf requestOf val setOf topIn topOf bottomOf entryPacket request requests asks pushAnswer popOne popped grown pushed longer appended stateOk walkOk headerAt wordsFrom numbered slotOf ringStored ringRead errorWritten parsedOf typeWords divided messagesOf wholeOf wordsIn payloadValid writtenOf signed itemsFrom itemsOf bytesOf wordsOf spliced checkOf trailingZeros
+unfolding runAnswer runOf stepOf callsOf gapIn arrivedOf handedIn lossesIn errorIn next countOf sentAfter dataWritten writeAnswer sendAnswer requestAnswer dataAnswer errorAnswer pollAnswer streamValid rowOf packetsFrom servedIn servedOf idleNext idledOf sizesOf repeatsOf anyWords writtenOff newWritten writtenBy requestedOf roomOf needOf joinedTo pushedAll queuedTo queuedOf wordsCheck placedOf sentOf senderValid fitting front behind commandsIn commandsOf longMessage above sender.sendAnswer sender.requestAnswer receiver.dataAnswer receiver.pollAnswer receiver.errorAnswer receiverValid dueAfter settledOf heardOf gaveUp polledOf errorOf offeredOf takenOf hitAt hitsOf markOf classOf movedOf lostOf newOf acceptOf windowValid processed missingOf spanOf requestOf val setOf topIn topOf bottomOf entryPacket request requests asks pushAnswer popOne popped grown pushed longer appended stateOk walkOk headerAt wordsFrom numbered slotOf ringStored ringRead errorWritten parsedOf typeWords divided messagesOf wholeOf wordsIn payloadValid writtenOf signed itemsFrom itemsOf bytesOf wordsOf spliced checkOf trailingZeros
 runs = record {
   none = refl;
   repeats = refl;

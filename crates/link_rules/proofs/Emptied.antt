@@ -158,16 +158,16 @@ few-tiny (c ∷ cs) f = (omega (arith, f .0), few-tiny cs (f .1))
 
 -- ---- new commands behind them
 
-module _ (cfg : StreamConfig) (now n : ℕ) (k : Book) (p : PayloadWriter) (b : List ℕ) where
+module _ (cfg : StreamConfig) (time n : ℕ) (k : Book) (p : PayloadWriter) (b : List ℕ) where
   -- none is added
-  new-less : size (newWritten cfg now n k p b .book .unwritten) ≤ size (k .unwritten)
+  new-less : size (newWritten cfg time n k p b .book .unwritten) ≤ size (k .unwritten)
   unfolding newWritten writtenOn
   new-less = by (newIn k)
     where
       Less : WriteIn → Type 0
       Less x = size (x .book .unwritten) ≤ size (k .unwritten)
 
-      by : (cs : List Packet) → Less (newBy cfg now n k p b cs)
+      by : (cs : List Packet) → Less (newBy cfg time n k p b cs)
       by [] = omega arith
       by (first ∷ others) =
           let again = againIn k (cfg .«fec_repeats») p b first in
@@ -236,15 +236,15 @@ module _ (cfg : StreamConfig) (now n : ℕ) (k : Book) (p : PayloadWriter) (b : 
           let z : _≡_ {A = ℕ} 0 1 = cc in
           omega arith
 
-      new-some : Leaves (newBy cfg now n k p b (first ∷ others))
+      new-some : Leaves (newBy cfg time n k p b (first ∷ others))
       unfolding out again writtenOn
       new-some = by-cond Leaves (not (fitAll p b (first ∷ []))) _ _ (λ over. absurd (first-fits over)) (λ _. leaves)
 
-    new-leaves : Leaves (newWritten cfg now n k p b)
+    new-leaves : Leaves (newWritten cfg time n k p b)
     unfolding newWritten
     new-leaves = by (newIn k) refl
       where
-        by : (cs : List Packet) → newIn k ≡ cs → Leaves (newBy cfg now n k p b cs)
+        by : (cs : List Packet) → newIn k ≡ cs → Leaves (newBy cfg time n k p b cs)
         by [] e =
             let l : length (k .unwritten) ≡ 0 = sym (length-data (after (oldestIn k) (length (k .written))) (k .unwritten)) ∙ ap length e in
             let z : size (drop 0 (k .unwritten)) ≡ 0 = drop-all 0 (k .unwritten) (omega arith) in
@@ -263,28 +263,28 @@ unfolding size
 some-size [] x l = absurd (let z : ⊥ = omega arith in z)
 some-size (u ∷ us) x l = refl
 
-module _ (c : ℕ) (cfg : StreamConfig) (now : ℕ) (k : Book) where
-  idled-calm : 65 ≤ c → size (k .unwritten) + 16 ≤ c → size (idledIn c cfg now k .unwritten) + 16 ≤ c
+module _ (c : ℕ) (cfg : StreamConfig) (time : ℕ) (k : Book) where
+  idled-calm : 65 ≤ c → size (k .unwritten) + 16 ≤ c → size (idledIn c cfg time k .unwritten) + 16 ≤ c
   unfolding idledIn pushedIn freed size
   idled-calm least l = by (k .idle)
     where
-      by : (t : IdleTimer) → size (idledBy c cfg now k t .unwritten) + 16 ≤ c
+      by : (t : IdleTimer) → size (idledBy c cfg time k t .unwritten) + 16 ≤ c
       by Off = l
       by (Waiting i) =
-          by-cond (λ (x : Book). size (x .unwritten) + 16 ≤ c) (not (isEmpty (k .unwritten)) || ltb now (i .due)) _ _ (λ _. l)
-          (λ e. omega (arith, size-append (k .unwritten) ([] ∷ []), empty-size (k .unwritten) (ltb now (i .due)) e, least))
+          by-cond (λ (x : Book). size (x .unwritten) + 16 ≤ c) (not (isEmpty (k .unwritten)) || ltb time (i .due)) _ _ (λ _. l)
+          (λ e. omega (arith, size-append (k .unwritten) ([] ∷ []), empty-size (k .unwritten) (ltb time (i .due)) e, least))
 
-  idled-same : 0 < size (k .unwritten) → idledIn c cfg now k ≡ k
+  idled-same : 0 < size (k .unwritten) → idledIn c cfg time k ≡ k
   unfolding idledIn
   idled-same l = by (k .idle)
     where
-      by : (t : IdleTimer) → idledBy c cfg now k t ≡ k
+      by : (t : IdleTimer) → idledBy c cfg time k t ≡ k
       by Off = refl
-      by (Waiting i) = rw (some-size (k .unwritten) (ltb now (i .due)) l)
+      by (Waiting i) = rw (some-size (k .unwritten) (ltb time (i .due)) l)
 
 -- ---- the whole write
 
-module _ (c : ℕ) (cfg : StreamConfig) (ok : checkOf cfg ≡ Done) (now : ℕ) (k : Book) (small : Small k) (least : 65 ≤ c) (held : size (k .written) + size (k .unwritten) ≤ c)
+module _ (c : ℕ) (cfg : StreamConfig) (ok : checkOf cfg ≡ Done) (time : ℕ) (k : Book) (small : Small k) (least : 65 ≤ c) (held : size (k .written) + size (k .unwritten) ≤ c)
     (few : length (k .waiting) ≤ 16) (p : PayloadWriter) (b : List ℕ) (m : Room p b) (low : startOf p ≤ 20) where
   abbrev served : ServedIn
   served = servedIn k (k .waiting) p b
@@ -296,25 +296,25 @@ module _ (c : ℕ) (cfg : StreamConfig) (ok : checkOf cfg ≡ Done) (now : ℕ) 
   Calm x = size (x .book .unwritten) + 16 ≤ c
 
   abbrev result : WriteIn
-  result = cond (served .more) (wrote left (served .payload) (served .bytes) (served .commands) true) (newWritten cfg now (served .commands) (idledIn c cfg now left) (served .payload) (served .bytes))
+  result = cond (served .more) (wrote left (served .payload) (served .bytes) (served .commands) true) (newWritten cfg time (served .commands) (idledIn c cfg time left) (served .payload) (served .bytes))
 
   stays-calm : size (k .unwritten) + 16 ≤ c → Calm result
   stays-calm l =
-      let a = idled-calm c cfg now left least l in
-      let d = new-less cfg now (served .commands) (idledIn c cfg now left) (served .payload) (served .bytes) in
+      let a = idled-calm c cfg time left least l in
+      let d = new-less cfg time (served .commands) (idledIn c cfg time left) (served .payload) (served .bytes) in
       by-cond Calm (served .more) _ _ (λ _. l) (λ _. omega (arith, a, d))
 
   gets-calm : c < size (k .unwritten) + 16 → Calm result
   gets-calm l =
       let w : size (k .written) ≤ 15 = omega (arith, held) in
       let s = served-all k small w (k .waiting) p b m (omega (arith, few, low)) in
-      let e : idledIn c cfg now left ≡ left = idled-same c cfg now left (omega (arith, least)) in
+      let e : idledIn c cfg time left ≡ left = idled-same c cfg time left (omega (arith, least)) in
       let small′ : Small left = record { written = small .written; unwritten = small .unwritten; few = small .few } in
-      let n = new-leaves cfg now (served .commands) left (served .payload) (served .bytes) small′ w (s .room) (omega (arith, s .start, few, low)) c least (omega (arith, held)) in
+      let n = new-leaves cfg time (served .commands) left (served .payload) (served .bytes) small′ w (s .room) (omega (arith, s .start, few, low)) c least (omega (arith, held)) in
       by-cond Calm (served .more) _ _ (λ t. absurd (let f = s .none-left in let z : _≡_ {A = ℕ} 0 1 = cc in omega arith)) (λ _. rw e n)
 
   -- at least 16 words of the history are free of unwritten ones
-  pub write-calm : Calm (writeIn c cfg now k p b)
+  pub write-calm : Calm (writeIn c cfg time k p b)
   unfolding writeIn writtenIn
   write-calm = rw (ok, m .valid) (elim (split (leb (size (k .unwritten) + 16) c)) [
     | inl t ↦ stays-calm (leb-true (size (k .unwritten) + 16) c t)

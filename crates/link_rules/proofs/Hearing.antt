@@ -11,7 +11,7 @@ use Rattle.packet.specs.Read.{Item, whole, cut}
 use Rattle.command.specs.declared.parse.Command.{Command}
 use Rattle.command.specs.declared.parse.Command.the-variants.{UmpData, RetransmitRequest, RetransmitError, Raw, Refused}
 use Rattle.command.specs.declared.retransmit.RetransmitError.{RetransmitError as ErrorCommand}
-use Rattle.receiver.specs.Receiver.{validOf, heardOf, erroredOf}
+use Rattle.receiver.specs.Receiver.{validOf, heardOf, errorOf}
 use Rattle.receiver.specs.Answers as receiver
 use Rattle.receiver.specs.declared.receiver.Heard.{Heard}
 use Rattle.receiver.specs.declared.receiver.Told.{Told}
@@ -19,7 +19,7 @@ use Rattle.receiver_log.proofs.Follows.{passes}
 use Rattle.stream.specs.Ends.{dataAnswer, requestAnswer, errorAnswer}
 use Rattle.stream.specs.declared.stream.DataStream.{DataStream}
 use Rattle.link_rules.specs.Arriving.{Answer, heard, gapBy, gapIn, commandOf, arrivedBy, itemBy, arrivedOf}
-use Rattle.link_rules.proofs.Timed.{Timed, heard-timed, errored-timed}
+use Rattle.link_rules.proofs.Timed.{Timed, heard-timed, errorOf-timed}
 
 or-left : (a b : Bool) → a ≡ true → (a || b) ≡ true
 or-left a b e = rw e
@@ -37,31 +37,31 @@ or-right : (a b : Bool) → b ≡ true → (a || b) ≡ true
 or-right true b e = refl
 or-right false b e = e
 
-module _ (cfg : StreamConfig) (ok : checkOf cfg ≡ Done) (on : cfg .retransmit ≡ true) (delayed : 1 ≤ cfg .«request_delay_ms») (g now : ℕ) (in-time : now < lastTime) (ring : List ℕ) where
+module _ (cfg : StreamConfig) (ok : checkOf cfg ≡ Done) (on : cfg .retransmit ≡ true) (delayed : 1 ≤ cfg .«request_delay_ms») (g time : ℕ) (in-time : time < lastTime) (ring : List ℕ) where
   abbrev T : DataStream → Type 0
-  T s = Timed cfg g now (s .receiver)
+  T s = Timed cfg g time (s .receiver)
 
   abbrev Gaps : List Answer → Type 0
-  Gaps a = gapIn a ≡ true → now ≤ g
+  Gaps a = gapIn a ≡ true → time ≤ g
 
   module _ (s : DataStream) (i : T s) where
     valid : validOf (s .receiver) ≡ true
     valid = passes (s .receiver) (i .valid)
 
-    data-timed : (seq : ℕ) → (gapBy (heard (dataAnswer s cfg now seq .answer)) ≡ true → now ≤ g) → T (dataAnswer s cfg now seq .stream)
+    data-timed : (seq : ℕ) → (gapBy (heard (dataAnswer s cfg time seq .answer)) ≡ true → time ≤ g) → T (dataAnswer s cfg time seq .stream)
     unfolding dataAnswer receiver.dataAnswer heardOf
     data-timed seq gaps =
-        let e : receiver.dataAnswer (s .receiver) cfg now seq ≡ heardOf (s .receiver) cfg now seq = rw (ok, valid) in
-        subst (λ (h : Heard). Timed cfg g now (h .receiver)) (sym e)
-        (heard-timed cfg on delayed g now in-time (s .receiver) i seq (subst (λ (h : Heard). gapBy (heard (h .answer)) ≡ true → now ≤ g) e gaps))
+        let e : receiver.dataAnswer (s .receiver) cfg time seq ≡ heardOf (s .receiver) cfg time seq = rw (ok, valid) in
+        subst (λ (h : Heard). Timed cfg g time (h .receiver)) (sym e)
+        (heard-timed cfg on delayed g time in-time (s .receiver) i seq (subst (λ (h : Heard). gapBy (heard (h .answer)) ≡ true → time ≤ g) e gaps))
 
     error-timed : (e : ErrorCommand) → T (errorAnswer s e .stream)
     unfolding errorAnswer receiver.errorAnswer
     error-timed x =
-        let e : receiver.errorAnswer (s .receiver) x ≡ erroredOf (s .receiver) x = rw valid in
-        subst (λ (h : Told). Timed cfg g now (h .receiver)) (sym e) (errored-timed cfg on delayed g now in-time (s .receiver) i x)
+        let e : receiver.errorAnswer (s .receiver) x ≡ errorOf (s .receiver) x = rw valid in
+        subst (λ (h : Told). Timed cfg g time (h .receiver)) (sym e) (errorOf-timed cfg on delayed g time in-time (s .receiver) i x)
 
-    command-timed : (c : Command) → Gaps (arrivedBy s cfg now ring c .answers) → T (arrivedBy s cfg now ring c .stream)
+    command-timed : (c : Command) → Gaps (arrivedBy s cfg time ring c .answers) → T (arrivedBy s cfg time ring c .stream)
     unfolding gapIn requestAnswer
     command-timed (UmpData d) gaps = data-timed (d .seq) (λ f. gaps (or-left _ false f))
     command-timed (RetransmitRequest q) gaps = i
@@ -69,15 +69,15 @@ module _ (cfg : StreamConfig) (ok : checkOf cfg ≡ Done) (on : cfg .retransmit 
     command-timed (Raw h) gaps = i
     command-timed (Refused why) gaps = i
 
-    item-timed : (x : Item) → Gaps (itemBy s cfg now ring x .answers) → T (itemBy s cfg now ring x .stream)
+    item-timed : (x : Item) → Gaps (itemBy s cfg time ring x .answers) → T (itemBy s cfg time ring x .stream)
     item-timed (whole at c) gaps = command-timed (commandOf c) gaps
     item-timed (cut h) gaps = i
 
-  pub arrived-timed : (items : List Item) (s : DataStream) → T s → Gaps (arrivedOf s cfg now ring items .answers) → T (arrivedOf s cfg now ring items .stream)
+  pub arrived-timed : (items : List Item) (s : DataStream) → T s → Gaps (arrivedOf s cfg time ring items .answers) → T (arrivedOf s cfg time ring items .stream)
   unfolding arrivedOf
   arrived-timed [] s i gaps = i
   arrived-timed (x ∷ items) s i gaps =
-      let a = itemBy s cfg now ring x in
-      let rest = arrivedOf (a .stream) cfg now ring items in
+      let a = itemBy s cfg time ring x in
+      let rest = arrivedOf (a .stream) cfg time ring items in
       arrived-timed items (a .stream) (item-timed s i x (λ f. gaps (gaps-behind (a .answers) (rest .answers) ∙ or-left _ _ f)))
       (λ f. gaps (gaps-behind (a .answers) (rest .answers) ∙ or-right (gapIn (a .answers)) _ f))

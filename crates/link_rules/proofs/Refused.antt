@@ -37,7 +37,7 @@ use Rattle.link_rules.specs.NoneRefused.{refuses, NoneRefuses, Taken, No
 use Rattle.link_rules.specs.declared.run.Waiting.{Waiting}
 use Rattle.link_rules.specs.declared.run.Waiting.the-variants.{Nothing, Error}
 use Rattle.link_rules.proofs.Room.{Room, written-room, one-fits}
-use Rattle.link_rules.proofs.Sound.{Defined, heard-sound, errored-sound, polled-sound, sent-sound, requested-sound, Sound, written-sound}
+use Rattle.link_rules.proofs.Sound.{Defined, heard-sound, error-sound, polled-sound, sent-sound, requested-sound, Sound, written-sound}
 
 -- ---- what an end answers
 
@@ -70,7 +70,7 @@ errors-defined (a ∷ xs) w d f = errors-defined xs (errorBy w a) (error-defined
 
 -- ---- an end reads
 
-module _ (cfg : StreamConfig) (ok : checkOf cfg ≡ Done) (c q now : ℕ) (ring : List ℕ) where
+module _ (cfg : StreamConfig) (ok : checkOf cfg ≡ Done) (c q time : ℕ) (ring : List ℕ) where
   -- and as many words are unwritten as were
   record ArrivedSound (unwritten : ℕ) (a : Arrived) : Type 0 where
     stream : Sound c q (a .stream) ring
@@ -84,31 +84,31 @@ module _ (cfg : StreamConfig) (ok : checkOf cfg ≡ Done) (c q now : ℕ) (ring 
     nothing-heard : S (record { stream = s; answers = [] })
     nothing-heard = record { stream = i; fine = tt; same = refl }
 
-    command-sound : (k : Command) → S (arrivedBy s cfg now ring k)
+    command-sound : (k : Command) → S (arrivedBy s cfg time ring k)
     unfolding dataAnswer requestAnswer errorAnswer
     command-sound (UmpData d) =
-        let h = heard-sound cfg ok (s .receiver) (i .window) now (d .seq) in
+        let h = heard-sound cfg ok (s .receiver) (i .window) time (d .seq) in
         record { stream = record { book = i .book; follows = i .follows; window = h .0 }; fine = (h .1, tt, tt); same = refl }
     command-sound (RetransmitRequest r) =
         let h = requested-sound cfg ok c q (s .sender) ring (i .book) (i .follows) r in
         record { stream = record { book = _; follows = request-follows c q (s .sender) ring (i .book) (i .follows) cfg r .0; window = i .window }; fine = (h .0, h .1, tt); same = h .2 }
     command-sound (RetransmitError x) =
-        let h = errored-sound cfg ok (s .receiver) (i .window) x in
+        let h = error-sound cfg ok (s .receiver) (i .window) x in
         record { stream = record { book = i .book; follows = i .follows; window = h .0 }; fine = (h .1, tt, tt); same = refl }
     command-sound (Raw h) = nothing-heard
     command-sound (Malformed why) = nothing-heard
 
-    item-sound : (x : Item) → S (itemBy s cfg now ring x)
+    item-sound : (x : Item) → S (itemBy s cfg time ring x)
     item-sound (whole at k) = command-sound (commandOf k)
     item-sound (cut h) = nothing-heard
 
-  arrived-sound : (items : List Item) (s : DataStream) → Sound c q s ring → ArrivedSound (s .sender .«unsent_words») (arrivedOf s cfg now ring items)
+  arrived-sound : (items : List Item) (s : DataStream) → Sound c q s ring → ArrivedSound (s .sender .«unsent_words») (arrivedOf s cfg time ring items)
   unfolding arrivedOf
   arrived-sound [] s i = nothing-heard s i
   arrived-sound (x ∷ items) s i =
       let a = item-sound s i x in
-      let b = arrived-sound items (itemBy s cfg now ring x .stream) (a .stream) in
-      record { stream = b .stream; fine = fine-append (itemBy s cfg now ring x .answers) (arrivedOf (itemBy s cfg now ring x .stream) cfg now ring items .answers) (a .fine) (b .fine); same = b .same ∙ a .same }
+      let b = arrived-sound items (itemBy s cfg time ring x .stream) (a .stream) in
+      record { stream = b .stream; fine = fine-append (itemBy s cfg time ring x .answers) (arrivedOf (itemBy s cfg time ring x .stream) cfg time ring items .answers) (a .fine) (b .fine); same = b .same ∙ a .same }
 
 -- ---- the console's payload
 
@@ -151,16 +151,16 @@ module _ (cfg : StreamConfig) (ok : checkOf cfg ≡ Done) (typed : TypedConfig c
   step-sane : (e : Ends) → Sane e → Taken (callsOf cfg figure e) × Sane (stepOf cfg figure e)
   unfolding callsOf stepOf pollAnswer
   step-sane e i =
-      let now : ℕ = e .steps in
+      let time : ℕ = e .steps in
       let k = callsOf cfg figure e in
       let queued = queued-sound (e .console) (e .consoleRing) (i .console) (i .calm) (next (e .load)) in
       let opened = opened-sound (e .waiting) (i .waiting) in
-      let wrote = written-sound cfg ok typed c q now (k .queued .0 .stream) (k .queued .1) (queued .0) (k .opened .0 .payload) (k .opened .1) (opened .room) (opened .short) in
-      let heard = arrived-sound cfg ok c q now (e .chamberRing) (carried figure (next (e .line)) (payloadOf (k .wrote))) (e .chamber) (i .chamber) in
-      let polled = polled-sound cfg ok (k .heard .stream .receiver) (heard .stream .window) now in
+      let wrote = written-sound cfg ok typed c q time (k .queued .0 .stream) (k .queued .1) (queued .0) (k .opened .0 .payload) (k .opened .1) (opened .room) (opened .short) in
+      let heard = arrived-sound cfg ok c q time (e .chamberRing) (carried figure (next (e .line)) (payloadOf (k .wrote))) (e .chamber) (i .chamber) in
+      let polled = polled-sound cfg ok (k .heard .stream .receiver) (heard .stream .window) time in
       let after : Sound c q (k .polled .stream) (e .chamberRing) = record { book = heard .stream .book; follows = heard .stream .follows; window = polled .0 } in
-      let replied = written-sound cfg ok typed c q now (k .polled .stream) (e .chamberRing) after empty blank opened-empty (omega arith) in
-      let read = arrived-sound cfg ok c q now (k .wrote .2) (itemsOf (payloadOf (k .replied))) (k .wrote .0 .stream) (wrote .stream) in (
+      let replied = written-sound cfg ok typed c q time (k .polled .stream) (e .chamberRing) after empty blank opened-empty (omega arith) in
+      let read = arrived-sound cfg ok c q time (k .wrote .2) (itemsOf (payloadOf (k .replied))) (k .wrote .0 .stream) (wrote .stream) in (
         record {
           queued = queued .1;
           opened = opened .answer;

@@ -37,7 +37,7 @@ use Rattle.window.specs.declared.window.Span.{Span}
 use Rattle.window.specs.declared.window.Span.the-variants.{Nothing as NoSpan, Of}
 use Rattle.window.proofs.Preserved.{valid-accept, valid-mark, valid-all}
 use Rattle.rows.specs.Rows.{rowOf, fitAll, sizesOf}
-use Rattle.receiver.specs.Receiver.{validOf as receiverValid, enabledOf, nothingMissing, isGap, restarts, settledOf, heardOf, lossOf, gaveUp, polledAt, polledOf, errorEvent, erroredBy, erroredOf, notDue, withAsked, offeredOf, takenSpan, takenOf}
+use Rattle.receiver.specs.Receiver.{validOf as receiverValid, enabledOf, nothingMissing, isGap, restarts, settledOf, heardOf, lossOf, gaveUp, polledAt, polledOf, errorEvent, errorTo, errorOf, notDue, withAsked, offeredOf, takenSpan, takenOf}
 use Rattle.receiver.specs.Answers as receiver
 use Rattle.receiver.specs.declared.receiver.Asked.{Asked}
 use Rattle.receiver.specs.declared.receiver.Asked.the-variants.{Nothing as Unasked, Request as AskedFor}
@@ -45,7 +45,7 @@ use Rattle.receiver.specs.declared.receiver.Heard.{Heard}
 use Rattle.receiver.specs.declared.receiver.Receiver.{Receiver}
 use Rattle.receiver.specs.declared.receiver.Request.{Request}
 use Rattle.receiver.specs.declared.receiver.Request.the-variants.{Nothing as NotDue, Written as WasTaken, More as NoSpace, Refused as NotTaken}
-use Rattle.receiver.specs.declared.receiver.Requested.{Requested}
+use Rattle.receiver.specs.declared.receiver.RequestWritten.{RequestWritten}
 use Rattle.receiver.specs.declared.receiver.Timer.{Timer}
 use Rattle.receiver.specs.declared.receiver.Timer.the-variants.{Stopped, Running}
 use Rattle.receiver.specs.declared.receiver.Told.{Told}
@@ -56,7 +56,7 @@ use Rattle.sender.specs.Queueing.{roomOf, needOf, queuedOf, wordsCheck, placedO
 use Rattle.sender.specs.Requests.{notWritten, outcomeOf, requestedOf}
 use Rattle.sender.specs.State.{validOf as senderValid}
 use Rattle.sender.specs.Writing.{writtenBy}
-use Rattle.sender.specs.declared.sender.Requested.{Requested as SenderRequested}
+use Rattle.sender.specs.declared.sender.RequestHeard.{RequestHeard as SenderRequested}
 use Rattle.sender.specs.declared.sender.Sender.{Sender}
 use Rattle.sender.specs.declared.sender.Sent.{Sent}
 use Rattle.sender.specs.declared.sender.Writing.{Writing}
@@ -136,29 +136,29 @@ module _ (cfg : StreamConfig) (ok : checkOf cfg ≡ Done) (r : Receiver) (v : Va
   abbrev Kept : Receiver → Type 0
   Kept x = Valid (x .window)
 
-  pub heard-sound : (now seq : ℕ) → Kept (receiver.dataAnswer r cfg now seq .receiver) × (hearingRefuses (receiver.dataAnswer r cfg now seq .answer) ≡ false)
+  pub heard-sound : (time seq : ℕ) → Kept (receiver.dataAnswer r cfg time seq .receiver) × (hearingRefuses (receiver.dataAnswer r cfg time seq .answer) ≡ false)
   unfolding receiver.dataAnswer heardOf settledOf
-  heard-sound now seq =
+  heard-sound time seq =
       let t = acceptOf (r .window) seq in
       let w : Valid (t .window) = valid-accept (r .window) v seq in
-      let e : receiver.dataAnswer r cfg now seq ≡ heardOf r cfg now seq = rw (ok, able) in
+      let e : receiver.dataAnswer r cfg time seq ≡ heardOf r cfg time seq = rw (ok, able) in
       subst (λ (h : Heard). Kept (h .receiver) × (hearingRefuses (h .answer) ≡ false)) (sym e)
       (by-cond Kept (nothingMissing (t .window)) _ _ (λ _. w) (λ _. by-cond Kept (isGap (t .class) && (enabledOf r cfg && restarts (r .timer))) _ _ (λ _. w) (λ _. w)), refl)
 
   abbrev Told-sound : Told → Type 0
   Told-sound h = Kept (h .receiver) × (eventRefuses (h .event) ≡ false)
 
-  pub errored-sound : (x : RetransmitError) → Told-sound (receiver.errorAnswer r x)
-  unfolding receiver.errorAnswer erroredOf
-  errored-sound x =
-      let e : receiver.errorAnswer r x ≡ erroredOf r x = rw able in
+  pub error-sound : (x : RetransmitError) → Told-sound (receiver.errorAnswer r x)
+  unfolding receiver.errorAnswer errorOf
+  error-sound x =
+      let e : receiver.errorAnswer r x ≡ errorOf r x = rw able in
       subst Told-sound (sym e) (by (r .asked))
     where
       event : (s : Span) → eventRefuses (errorEvent x s) ≡ false
       event NoSpan = refl
       event (Of range) = refl
 
-      by : (a : Asked) → Told-sound (erroredBy r x a)
+      by : (a : Asked) → Told-sound (errorTo r x a)
       by Unasked = (v, refl)
       by (AskedFor q) =
           let m = markOf (r .window) record { first = q .seq; count = q .count } in
@@ -169,21 +169,21 @@ module _ (cfg : StreamConfig) (ok : checkOf cfg ≡ Done) (r : Receiver) (v : Va
   loss-taken NoSpan = refl
   loss-taken (Of range) = refl
 
-  pub polled-sound : (now : ℕ) → Told-sound (receiver.pollAnswer r cfg now)
+  pub polled-sound : (time : ℕ) → Told-sound (receiver.pollAnswer r cfg time)
   unfolding receiver.pollAnswer polledOf gaveUp
-  polled-sound now =
-      let e : receiver.pollAnswer r cfg now ≡ polledOf r cfg now = rw (ok, able) in
+  polled-sound time =
+      let e : receiver.pollAnswer r cfg time ≡ polledOf r cfg time = rw (ok, able) in
       subst Told-sound (sym e) (by (r .timer))
     where
-      by : (t : Timer) → Told-sound (polledAt r cfg now t)
+      by : (t : Timer) → Told-sound (polledAt r cfg time t)
       by Stopped = (v, refl)
       by (Running k) =
-          by-cond Told-sound (ltb now (k .due)) _ _ (λ _. (v, refl))
+          by-cond Told-sound (ltb time (k .due)) _ _ (λ _. (v, refl))
           (λ _. by-cond Told-sound (nothingMissing (r .window)) _ _ (λ _. (v, refl))
           (λ _. by-cond Told-sound (ltb (k .sent) (cfg .«max_requests») && enabledOf r cfg) _ _ (λ _. (v, refl)) (λ _. (valid-all (r .window) v, loss-taken (missingSpan (r .window))))))
 
   -- a due request fits a payload that holds nothing, or an error
-  pub record TakeSound (t : Requested × List ℕ) : Type 0 where
+  pub record TakeSound (t : RequestWritten × List ℕ) : Type 0 where
     pub window : Kept (t .0 .receiver)
     pub room : Room (t .0 .payload) (t .1)
     pub low : startOf (t .0 .payload) ≤ 20
@@ -262,7 +262,7 @@ module _ (cfg : StreamConfig) (ok : checkOf cfg ≡ Done) (c q : ℕ) (s : Sende
 
 -- ---- a write of the sender
 
-module _ (cfg : StreamConfig) (ok : checkOf cfg ≡ Done) (now : ℕ) where
+module _ (cfg : StreamConfig) (ok : checkOf cfg ≡ Done) (time : ℕ) where
   served-room : (rs : List RetransmitRequest) (k : Book) (p : PayloadWriter) (b : List ℕ) → Room p b → Room (servedIn k rs p b .payload) (servedIn k rs p b .bytes)
   unfolding servedIn
   served-room [] k p b m = m
@@ -272,14 +272,14 @@ module _ (cfg : StreamConfig) (ok : checkOf cfg ≡ Done) (now : ℕ) where
       by-cond (λ (x : ServedIn). Room (x .payload) (x .bytes)) (out .whole || eqb (out .payload .len) 0) _ _ (λ _. served-room rs k (out .payload) (out .bytes) n) (λ _. n)
 
   -- a command has at most 64 words, and so the first one fits an empty payload
-  new-taken : (n : ℕ) (k : Book) (p : PayloadWriter) (b : List ℕ) → Short (k .unwritten) → Room p b → writeRefuses (newWritten cfg now n k p b .answer) ≡ false
+  new-taken : (n : ℕ) (k : Book) (p : PayloadWriter) (b : List ℕ) → Short (k .unwritten) → Room p b → writeRefuses (newWritten cfg time n k p b .answer) ≡ false
   unfolding newWritten dataFrom Short sizesOf
   new-taken n k p b short m = by (k .unwritten) short
     where
       W : WriteIn → Type 0
       W x = writeRefuses (x .answer) ≡ false
 
-      by : (es : List (List ℕ)) → Short es → W (newBy cfg now n k p b (dataFrom (after (oldestIn k) (length (k .written))) es))
+      by : (es : List (List ℕ)) → Short es → W (newBy cfg time n k p b (dataFrom (after (oldestIn k) (length (k .written))) es))
       by [] h = refl
       by (e ∷ es) h =
           let new = dataPacket (after (oldestIn k) (length (k .written))) e in
@@ -292,14 +292,14 @@ module _ (cfg : StreamConfig) (ok : checkOf cfg ≡ Done) (now : ℕ) where
               let z : _≡_ {A = ℕ} 0 1 = cc in
               omega arith
 
-  pub write-taken : (c : ℕ) (k : Book) → Small k → (p : PayloadWriter) (b : List ℕ) → Room p b → writeRefuses (writeIn c cfg now k p b .answer) ≡ false
+  pub write-taken : (c : ℕ) (k : Book) → Small k → (p : PayloadWriter) (b : List ℕ) → Room p b → writeRefuses (writeIn c cfg time k p b .answer) ≡ false
   unfolding writeIn writtenIn
   write-taken c k small p b m =
       let served = servedIn k (k .waiting) p b in
       let left : Book = withWaiting k (served .waiting) in
       let n = served-room (k .waiting) k p b m in
       rw (ok, m .valid) (by-cond (λ (x : WriteIn). writeRefuses (x .answer) ≡ false) (served .more) _ _ (λ _. refl)
-      (λ _. new-taken (served .commands) (idledIn c cfg now left) (served .payload) (served .bytes) (idled-short c cfg now left (small .written) (small .unwritten) .1) n))
+      (λ _. new-taken (served .commands) (idledIn c cfg time left) (served .payload) (served .bytes) (idled-short c cfg time left (small .written) (small .unwritten) .1) n))
 
 -- ---- a stream
 
@@ -312,7 +312,7 @@ pub sound-valid : (c q : ℕ) (s : DataStream) (ring : List ℕ) → Sound c q s
 unfolding validOf
 sound-valid c q s ring i = rw (passes (s .receiver) (i .window), follows-valid c q (s .sender) ring (i .book) (i .follows))
 
-module _ (cfg : StreamConfig) (ok : checkOf cfg ≡ Done) (typed : TypedConfig cfg) (c q now : ℕ) (s : DataStream) (ring : List ℕ) (i : Sound c q s ring) where
+module _ (cfg : StreamConfig) (ok : checkOf cfg ≡ Done) (typed : TypedConfig cfg) (c q time : ℕ) (s : DataStream) (ring : List ℕ) (i : Sound c q s ring) where
   pub record WriteSound (w : Wrote × List ℕ × List ℕ) : Type 0 where
     pub stream : Sound c q (w .0 .stream) (w .2)
     pub answer : writeRefuses (w .0 .answer) ≡ false
@@ -323,7 +323,7 @@ module _ (cfg : StreamConfig) (ok : checkOf cfg ≡ Done) (typed : TypedConfig c
   counted n (Written w) e = e
   counted n (NotWritten why) e = e
 
-  write-is : (p : PayloadWriter) (b : List ℕ) → Room p b → sender.writeAnswer (s .sender) cfg now p b ring ≡ writtenBy (s .sender) cfg now p b ring
+  write-is : (p : PayloadWriter) (b : List ℕ) → Room p b → sender.writeAnswer (s .sender) cfg time p b ring ≡ writtenBy (s .sender) cfg time p b ring
   unfolding sender.writeAnswer
   write-is p b m = rw (ok, follows-valid c q (s .sender) ring (i .book) (i .follows), m .valid)
 
@@ -335,18 +335,18 @@ module _ (cfg : StreamConfig) (ok : checkOf cfg ≡ Done) (typed : TypedConfig c
   few : length (i .book .waiting) ≤ 16
   few = let f = i .follows in omega (arith, waiting-count c q (s .sender) ring (i .book) f, f .fit .held, f .fit .most)
 
-  sent-after : (n : ℕ) (r : Receiver) (p : PayloadWriter) (b : List ℕ) → Valid (r .window) → Room p b → startOf p ≤ 20 → WriteSound (sentAfter n (withReceiver s r) cfg now p b ring)
+  sent-after : (n : ℕ) (r : Receiver) (p : PayloadWriter) (b : List ℕ) → Valid (r .window) → Room p b → startOf p ≤ 20 → WriteSound (sentAfter n (withReceiver s r) cfg time p b ring)
   unfolding sentAfter
   sent-after n r p b v m low =
-      let e : sender.writeAnswer (s .sender) cfg now p b ring ≡ writtenBy (s .sender) cfg now p b ring = write-is p b m in
-      let k = write-follows c q (s .sender) ring (i .book) (i .follows) cfg typed now p b in
+      let e : sender.writeAnswer (s .sender) cfg time p b ring ≡ writtenBy (s .sender) cfg time p b ring = write-is p b m in
+      let k = write-follows c q (s .sender) ring (i .book) (i .follows) cfg typed time p b in
       let small = follows-small c q (s .sender) ring (i .book) (i .follows) in
-      let t = write-taken cfg ok now c (i .book) small p b m in
-      let d = write-calm c cfg ok now (i .book) small (i .follows .least) held few p b m low in
+      let t = write-taken cfg ok time c (i .book) small p b m in
+      let d = write-calm c cfg ok time (i .book) small (i .follows .least) held few p b m low in
       subst (λ (w : SenderWrote × List ℕ × List ℕ). WriteSound (record { stream = withSender (withReceiver s r) (w .0 .sender); payload = w .0 .payload; answer = countedAlso n (w .0 .answer) }, w .1, w .2)) e
-      (record { stream = record { book = _; follows = k .0; window = v }; answer = counted n (sender.writeAnswer (s .sender) cfg now p b ring .0 .answer) (ap writeRefuses (k .1) ∙ t); calm = omega (arith, k .0 .unsent-words, d) })
+      (record { stream = record { book = _; follows = k .0; window = v }; answer = counted n (sender.writeAnswer (s .sender) cfg time p b ring .0 .answer) (ap writeRefuses (k .1) ∙ t); calm = omega (arith, k .0 .unsent-words, d) })
 
-  pub written-sound : (p : PayloadWriter) (b : List ℕ) → Room p b → p .len ≤ 12 → WriteSound (writeAnswer s cfg now p b ring)
+  pub written-sound : (p : PayloadWriter) (b : List ℕ) → Room p b → p .len ≤ 12 → WriteSound (writeAnswer s cfg time p b ring)
   unfolding writeAnswer dataWritten
   written-sound p b m l =
       let t = takenOf (s .receiver) cfg p b in
@@ -354,7 +354,7 @@ module _ (cfg : StreamConfig) (ok : checkOf cfg ≡ Done) (typed : TypedConfig c
       rw (ok, sound-valid c q s ring i, m .valid) (by (t .0 .answer) (h .answer) (h .space) (t .0 .receiver) (t .0 .payload) (t .1) (h .window) (h .room) (h .low))
     where
       by : (a : Request) → ((why : Refusal) → a ≡ NotTaken why → ⊥) → (a ≡ NoSpace → ⊥) → (r : Receiver) (p : PayloadWriter) (b : List ℕ) → Valid (r .window) → Room p b → startOf p ≤ 20
-          → WriteSound (afterRequest a (withReceiver s r) cfg now p b ring)
+          → WriteSound (afterRequest a (withReceiver s r) cfg time p b ring)
       by (NotTaken why) never space r p b v m l = absurd (never why refl)
       by NoSpace never space r p b v m l = absurd (space refl)
       by NotDue never space r p b v m l = sent-after 0 r p b v m l

@@ -30,18 +30,18 @@ use Rattle.link_rules.proofs.Timed.{Timed, taken-timed, polled-timed}
 use Rattle.link_rules.proofs.Hearing.{arrived-timed}
 
 module _ (cfg : StreamConfig) (ok : checkOf cfg ≡ Done) (on : cfg .retransmit ≡ true) (delayed : 1 ≤ cfg .«request_delay_ms») (g : ℕ) where
-  module _ (t now : ℕ) (in-time : t < lastTime) (s : DataStream) (i : Timed cfg g t (s .receiver)) (p : PayloadWriter) (b ring : List ℕ) where
+  module _ (t time : ℕ) (in-time : t < lastTime) (s : DataStream) (i : Timed cfg g t (s .receiver)) (p : PayloadWriter) (b ring : List ℕ) where
     abbrev P : Wrote × List ℕ × List ℕ → Type 0
     P x = Timed cfg g t (x .0 .stream .receiver)
 
-    after-request : (a : Request) (x : DataStream) (q : PayloadWriter) (c : List ℕ) → Timed cfg g t (x .receiver) → P (afterRequest a x cfg now q c ring)
+    after-request : (a : Request) (x : DataStream) (q : PayloadWriter) (c : List ℕ) → Timed cfg g t (x .receiver) → P (afterRequest a x cfg time q c ring)
     unfolding sentAfter
     after-request (NotTaken why) x q c j = j
     after-request NoSpace x q c j = j
     after-request NotDue x q c j = j
     after-request Taken x q c j = j
 
-    written-timed : P (writeAnswer s cfg now p b ring)
+    written-timed : P (writeAnswer s cfg time p b ring)
     unfolding writeAnswer dataWritten
     written-timed =
         let k = takenOf (s .receiver) cfg p b in
@@ -49,12 +49,12 @@ module _ (cfg : StreamConfig) (ok : checkOf cfg ≡ Done) (on : cfg .retransmit 
         (λ _. after-request (k .0 .answer) (withReceiver s (k .0 .receiver)) (k .0 .payload) (k .1) (taken-timed cfg on delayed g t in-time (s .receiver) i p b))
         (λ _. i))
 
-  module _ (now : ℕ) (in-time : now + 1 < lastTime) where
-    poll-timed : (s : DataStream) → Timed cfg g now (s .receiver) → Timed cfg g (now + 1) (pollAnswer s cfg now .stream .receiver)
+  module _ (time : ℕ) (in-time : time + 1 < lastTime) where
+    poll-timed : (s : DataStream) → Timed cfg g time (s .receiver) → Timed cfg g (time + 1) (pollAnswer s cfg time .stream .receiver)
     unfolding pollAnswer receiver.pollAnswer
     poll-timed s i =
-        let e : receiver.pollAnswer (s .receiver) cfg now ≡ polledOf (s .receiver) cfg now = rw (ok, passes (s .receiver) (i .valid)) in
-        subst (λ (h : Told). Timed cfg g (now + 1) (h .receiver)) (sym e) (polled-timed cfg on delayed g now (omega arith) (s .receiver) i)
+        let e : receiver.pollAnswer (s .receiver) cfg time ≡ polledOf (s .receiver) cfg time = rw (ok, passes (s .receiver) (i .valid)) in
+        subst (λ (h : Told). Timed cfg g (time + 1) (h .receiver)) (sym e) (polled-timed cfg on delayed g time (omega arith) (s .receiver) i)
 
   module _ (figure : ℕ) (e : Ends) (in-time : e .steps + 1 < lastTime) (gaps : gapIn (callsOf cfg figure e .heard .answers) ≡ true → e .steps ≤ g) (i : Timed cfg g (e .steps) (e .chamber .receiver)) where
     -- once the step has polled

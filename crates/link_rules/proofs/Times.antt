@@ -11,23 +11,23 @@ use Rattle.receiver.specs.Receiver.{dueAfter}
 abbrev pub sum : ℕ → ℕ → ℕ
 sum delay n = delay * (2 ^ (n + 1) - 1)
 
-module _ (delay sent now : ℕ) where
-  pub due-later : 1 ≤ delay → now < lastTime → now < dueAfter delay sent now
+module _ (delay sent time : ℕ) where
+  pub due-later : 1 ≤ delay → time < lastTime → time < dueAfter delay sent time
   unfolding dueAfter
   due-later d l =
       let p : 0 < delay * 2 ^ min sent 32 = mul-pos d (pow-pos (min sent 32)) in
       over (delay * 2 ^ min sent 32) p
     where
-      over : (x : ℕ) → 0 < x → now < min (now + x) lastTime
+      over : (x : ℕ) → 0 < x → time < min (time + x) lastTime
       over x p = omega arith
 
-  pub due-most : dueAfter delay sent now ≤ now + delay * 2 ^ sent
+  pub due-most : dueAfter delay sent time ≤ time + delay * 2 ^ sent
   unfolding dueAfter
   due-most =
       let p : delay * 2 ^ min sent 32 ≤ delay * 2 ^ sent = mul-le-mul-left delay (pow-mono (min-le-left sent 32)) in
       under (delay * 2 ^ min sent 32) (delay * 2 ^ sent) p
     where
-      under : (x y : ℕ) → x ≤ y → min (now + x) lastTime ≤ now + y
+      under : (x y : ℕ) → x ≤ y → min (time + x) lastTime ≤ time + y
       under x y p = omega arith
 
 pub first-sum : (delay : ℕ) → delay * 2 ^ 0 ≡ sum delay 0

@@ -12,7 +12,7 @@ use Rattle.window.specs.Set.{has, val, setOf}
 use Rattle.window.specs.Window.{Valid, freshOf, processed, missingOf}
 use Rattle.window.specs.Arrival.{reach, newOf, inOrder, acceptOf, classOf}
 use Rattle.window.specs.declared.window.ReceiveWindow.{ReceiveWindow}
-use Rattle.window.specs.declared.window.Taken.{Taken}
+use Rattle.window.specs.declared.window.Arrival.{Arrival}
 use Rattle.window.specs.declared.window.Class.{Class}
 use Rattle.window.specs.declared.window.Class.the-variants.{New, Late, Duplicate}
 use Rattle.config.specs.inner.Ranges.{within-range}
@@ -44,7 +44,7 @@ module _ (w : ReceiveWindow) (v : Valid w) (none : nothingMissing w ≡ true) (s
       go : (c : Class) → classOf w seq ≡ c → nothingMissing (acceptOf w seq .window) ≡ true
       go (New gap) e =
           let a : acceptOf w seq ≡ newOf w seq (gap + 1) = accept-class w seq e in
-          let zero : ltb 0 (gap + 1 - 1) ≡ false = sym (ap (λ (t : Taken). isGap (t .class)) a) ∙ g in
+          let zero : ltb 0 (gap + 1 - 1) ≡ false = sym (ap (λ (t : Arrival). isGap (t .class)) a) ∙ g in
           let n = new-at w seq e in
           let r = within-range 1 reach (ahead (w .highest) seq) (n .0) in
           let one : ahead (w .highest) seq ≡ 1 = omega (arith, tests, zero, n .1, r .0) in

@@ -44,28 +44,28 @@ abbrev pub commandOf : Packet → Command
 commandOf c = parsedOf (header (c .code) (length (c .words)) (c .csd1) (c .csd2)) (c .words)
 
 abbrev pub arrivedBy : DataStream → StreamConfig → ℕ → List ℕ → Command → Arrived
-arrivedBy s cfg now ring (UmpData d) =
-    let h = dataAnswer s cfg now (d .seq) in record { stream = h .stream; answers = heard (h .answer) ∷ [] }
-arrivedBy s cfg now ring (RetransmitRequest q) =
+arrivedBy s cfg time ring (UmpData d) =
+    let h = dataAnswer s cfg time (d .seq) in record { stream = h .stream; answers = heard (h .answer) ∷ [] }
+arrivedBy s cfg time ring (RetransmitRequest q) =
     let h = requestAnswer s cfg ring q in record { stream = h .stream; answers = requested (h .outcome) ∷ [] }
-arrivedBy s cfg now ring (RetransmitError e) =
+arrivedBy s cfg time ring (RetransmitError e) =
     let h = errorAnswer s e in record { stream = h .stream; answers = told (h .event) ∷ [] }
-arrivedBy s cfg now ring (Raw h) = nothing s
-arrivedBy s cfg now ring (Malformed why) = nothing s
+arrivedBy s cfg time ring (Raw h) = nothing s
+arrivedBy s cfg time ring (Malformed why) = nothing s
 
 abbrev pub itemBy : DataStream → StreamConfig → ℕ → List ℕ → Item → Arrived
-itemBy s cfg now ring (whole at c) = arrivedBy s cfg now ring (commandOf c)
-itemBy s cfg now ring (cut h) = nothing s
+itemBy s cfg time ring (whole at c) = arrivedBy s cfg time ring (commandOf c)
+itemBy s cfg time ring (cut h) = nothing s
 
 abbrev pub behind : List Answer → Arrived → Arrived
 behind before a = record { stream = a .stream; answers = before ++ a .answers }
 
--- a payload's items, one after the other, at time `now`
+-- a payload's items, one after the other, at `time`
 unfoldable pub arrivedOf : DataStream → StreamConfig → ℕ → List ℕ → List Item → Arrived
-arrivedOf s cfg now ring [] = nothing s
-arrivedOf s cfg now ring (i ∷ items) =
-    let a = itemBy s cfg now ring i in
-    behind (a .answers) (arrivedOf (a .stream) cfg now ring items)
+arrivedOf s cfg time ring [] = nothing s
+arrivedOf s cfg time ring (i ∷ items) =
+    let a = itemBy s cfg time ring i in
+    behind (a .answers) (arrivedOf (a .stream) cfg time ring items)
 
 -- ---- what is counted of the answers
 

@@ -111,14 +111,14 @@ pub record Calls : Type 0 where
 -- a step is at the time of the steps done before it, and draws from each seed once
 unfoldable pub callsOf : StreamConfig → ℕ → Ends → Calls
 callsOf cfg figure e =
-    let now : ℕ = e .steps in
+    let time : ℕ = e .steps in
     let queued = sendAnswer (e .console) cfg (e .consoleRing) (wordsOf (next (e .load))) in
     let opened = openedBy (e .waiting) in
-    let wrote = writeAnswer (queued .0 .stream) cfg now (opened .0 .payload) (opened .1) (queued .1) in
-    let heard = arrivedOf (e .chamber) cfg now (e .chamberRing) (carried figure (next (e .line)) (payloadOf wrote)) in
-    let polled = pollAnswer (heard .stream) cfg now in
-    let replied = writeAnswer (polled .stream) cfg now empty blank (e .chamberRing) in
-    let read = arrivedOf (wrote .0 .stream) cfg now (wrote .2) (itemsOf (payloadOf replied)) in
+    let wrote = writeAnswer (queued .0 .stream) cfg time (opened .0 .payload) (opened .1) (queued .1) in
+    let heard = arrivedOf (e .chamber) cfg time (e .chamberRing) (carried figure (next (e .line)) (payloadOf wrote)) in
+    let polled = pollAnswer (heard .stream) cfg time in
+    let replied = writeAnswer (polled .stream) cfg time empty blank (e .chamberRing) in
+    let read = arrivedOf (wrote .0 .stream) cfg time (wrote .2) (itemsOf (payloadOf replied)) in
     record { queued = queued; opened = opened; wrote = wrote; heard = heard; polled = polled; replied = replied; read = read }
 
 -- an error the console answers waits for its next payload; commands handed on and losses are the chamber's

@@ -157,7 +157,7 @@ fn answered(to: &mut [u8], used: usize, line: &[u8]) -> usize {
     forms::say(to, used, b"bad\n|# # #\n|refused #\n|", answer(line))
 }
 
-// The same for the blank and the `n` bytes after it.
+// The answer to the line of `n` bytes behind the blank; none where fewer are there.
 fn whole(to: &mut [u8], used: usize, line: &[u8], n: usize) -> usize {
     if line.len() <= n {
         return used;

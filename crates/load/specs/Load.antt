@@ -12,7 +12,7 @@ use Rattle.load.specs.declared.load.Words.{Words}
 unfoldable pub next : ℕ → ℕ
 next x = (x * 1664525 + 1013904223) % 2 ^ 32
 
--- the same step so many times, one after the other
+-- a step so many times, one after the other
 unfoldable pub iterate : (ℕ → ℕ) → ℕ → ℕ → ℕ
 iterate f zero x = x
 iterate f (suc n) x = iterate f n (f x)

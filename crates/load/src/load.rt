@@ -52,7 +52,7 @@ fn mapped(a: u32, b: u32, x: u32) -> u32
     std::num::wrapping_add_u32(times(x, a), b)
 }
 
-// The same where `left` is odd, else x.
+// x times a plus b, modulo 2^32, where `left` is odd; else x.
 fn if_odd(a: u32, b: u32, x: u32, left: u16) -> u32
     ensures { λ r. ⌜ r ≡ cond (eqb (left % 2) 1) ((x * a + b) % 2 ^ 32) x ⌝ }
 {

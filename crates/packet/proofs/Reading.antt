@@ -14,11 +14,11 @@ use Rattle.config.specs.declared.refusal.Refusal.the-variants.{BadSignature}
 use Rattle.config.specs.inner.Tests.{split}
 use Rattle.packet.specs.Bytes.{wordOf, wordsOf}
 use Rattle.packet.specs.Read.{header, signed, openOf, itemOf, nextOf, bodyOf, wordAt}
-use Rattle.packet.specs.declared.reader.Cursor.{Cursor}
-use Rattle.packet.specs.declared.reader.Header.{Header}
-use Rattle.packet.specs.declared.reader.Packets.the-variants.{At, Refused}
-use Rattle.packet.specs.declared.reader.Lookup.the-variants.{Word, Absent}
-use Rattle.packet.specs.declared.reader.PacketItem.the-variants.{Command, Truncated, End}
+use Rattle.packet.specs.declared.cursor.Cursor.{Cursor}
+use Rattle.packet.specs.declared.cursor.Header.{Header}
+use Rattle.packet.specs.declared.cursor.Packets.the-variants.{At, Refused}
+use Rattle.packet.specs.declared.cursor.Lookup.the-variants.{Word, Absent}
+use Rattle.packet.specs.declared.cursor.PacketItem.the-variants.{Command, Truncated, End}
 
 -- four bytes that are there stand at the front
 pub drop-four : (b : List ℕ) (at : ℕ) → at + 4 ≤ length b

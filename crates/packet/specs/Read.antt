@@ -7,14 +7,14 @@ use lib.Dec.{leb, ltb, eqb}
 use Rattle.config.specs.declared.refusal.Refusal.the-variants.{BadSignature}
 use Rattle.packet.specs.Bytes.{wordsOf}
 use Rattle.packet.specs.Layout.{Packet, packet, sizeOf}
-use Rattle.packet.specs.declared.reader.Header.{Header}
-use Rattle.packet.specs.declared.reader.Cursor.{Cursor}
-use Rattle.packet.specs.declared.reader.Packets.{Packets}
-use Rattle.packet.specs.declared.reader.Packets.the-variants.{At, Refused}
-use Rattle.packet.specs.declared.reader.PacketItem.{PacketItem}
-use Rattle.packet.specs.declared.reader.PacketItem.the-variants.{Command, Truncated, End}
-use Rattle.packet.specs.declared.reader.Lookup.{Lookup}
-use Rattle.packet.specs.declared.reader.Lookup.the-variants.{Word, Absent}
+use Rattle.packet.specs.declared.cursor.Header.{Header}
+use Rattle.packet.specs.declared.cursor.Cursor.{Cursor}
+use Rattle.packet.specs.declared.cursor.Packets.{Packets}
+use Rattle.packet.specs.declared.cursor.Packets.the-variants.{At, Refused}
+use Rattle.packet.specs.declared.cursor.PacketItem.{PacketItem}
+use Rattle.packet.specs.declared.cursor.PacketItem.the-variants.{Command, Truncated, End}
+use Rattle.packet.specs.declared.cursor.Lookup.{Lookup}
+use Rattle.packet.specs.declared.cursor.Lookup.the-variants.{Word, Absent}
 
 abbrev pub header : ℕ → ℕ → ℕ → ℕ → Header
 header code n a b = record { code = code; len = n; csd1 = a; csd2 = b }

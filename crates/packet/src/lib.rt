@@ -10,14 +10,14 @@
 // lends with each call; reading is a value too (`Cursor`) over the received bytes.
 //
 //   writer   PayloadWriter::new (4), PayloadWriter::command (13, 3, 2, 4)
-//   reader   command_packets (1), Cursor::next, body, word
-//   valid    writing into a payload that has passed the state test
+//   cursor   command_packets (1), Cursor::next, body, word
+//   tested   writing into a payload that has passed the state test
 //   theorems what holds of all payloads
 //
 // A refused call writes nothing. No call writes at or past the new length, nor below the old one,
 // but for the signature, which comes with the first command.
 mod bytes;
-pub mod reader;
+pub mod cursor;
+pub mod tested;
 pub mod theorems;
-pub mod valid;
 pub mod writer;

@@ -7,7 +7,7 @@
 ghost use mathlib.Core.Path.{_≡_};
 ghost use Rattle.packet.specs.Write.{openedOf, writtenOf};
 ghost use Rattle.packet.specs.Layout.{packet};
-use super::valid;
+use super::tested;
 use config::answer::Outcome;
 use config::range::outside;
 use config::refusal::Refusal;
@@ -52,8 +52,8 @@ impl PayloadWriter {
     pub fn command(self, buf: &mut [u8], code: u8, csd1: u8, csd2: u8, words: &[u32]) -> Wrote
         ensures { λ r. ⌜ (r, now (buf .exit)) ≡ writtenOf self (now (buf .entry)) (packet code csd1 csd2 (now (words .entry))) ⌝ }
     {
-        if valid::is_valid(self, buf.len()) {
-            return valid::command(self, buf, code, csd1, csd2, words);
+        if tested::is_valid(self, buf.len()) {
+            return tested::command(self, buf, code, csd1, csd2, words);
         }
         Wrote {
             payload: self,

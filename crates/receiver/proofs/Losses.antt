@@ -1,4 +1,4 @@
--- The ways out of `erroredOf` and `nakedOf`.
+-- The ways out of `errorOf` and `nakOf`.
 use mathlib.Core.Path.{_≡_, ap, sym}
 use mathlib.Core.Bool.{true, false}
 use Rattle.command.specs.declared.retransmit.RetransmitError.{RetransmitError}
@@ -8,7 +8,7 @@ use Rattle.window.specs.declared.window.Marked.{Marked}
 use Rattle.window.specs.declared.window.ReceiveWindow.{ReceiveWindow}
 use Rattle.window.specs.declared.window.SeqRange.{SeqRange}
 use Rattle.window.specs.declared.window.Span.the-variants.{Nothing as NoSpan, Of}
-use Rattle.receiver.specs.Receiver.{restOf, nothingMissing, markedBy, errorEvent, erroredBy, erroredOf, nakedBy, nakedOf}
+use Rattle.receiver.specs.Receiver.{restOf, nothingMissing, markedBy, errorEvent, errorTo, errorOf, nakBy, nakOf}
 use Rattle.receiver.specs.declared.receiver.Asked.{Asked}
 use Rattle.receiver.specs.declared.receiver.Asked.the-variants.{Nothing as Unasked, Request as AskedFor}
 use Rattle.receiver.specs.declared.receiver.Receiver.{Receiver}
@@ -27,22 +27,22 @@ module _ (r : Receiver) (w : ReceiveWindow) where
   marked-some m = rw m
 
 -- ---- a Retransmit Error
-pub errored-asked : (r : Receiver) (e : RetransmitError) (asked : Asked) → r .asked ≡ asked → erroredBy r e asked ≡ erroredOf r e
-unfolding erroredOf
-errored-asked r e asked a = ap (erroredBy r e) (sym a)
+pub error-asked : (r : Receiver) (e : RetransmitError) (asked : Asked) → r .asked ≡ asked → errorTo r e asked ≡ errorOf r e
+unfolding errorOf
+error-asked r e asked a = ap (errorTo r e) (sym a)
 
 module _ (r : Receiver) (e : RetransmitError) (q : RetransmitRequest) (marked : Marked) (next : Receiver)
     (m : marked ≡ markOf (r .window) record { first = q .seq; count = q .count }) (n : next ≡ markedBy r (marked .window)) where
-  told : (event : StreamEvent) → event ≡ errorEvent e (marked .span) → _≡_ {A = Told} (record { receiver = next; event = event }) (erroredBy r e (AskedFor q))
+  told : (event : StreamEvent) → event ≡ errorEvent e (marked .span) → _≡_ {A = Told} (record { receiver = next; event = event }) (errorTo r e (AskedFor q))
   told event is = rw (is, n, m)
 
-  pub errored-nothing : marked .span ≡ NoSpan → _≡_ {A = Told} (record { receiver = next; event = ErrorOnly e }) (erroredBy r e (AskedFor q))
-  errored-nothing s = told (ErrorOnly e) (ap (errorEvent e) (sym s))
+  pub error-nothing : marked .span ≡ NoSpan → _≡_ {A = Told} (record { receiver = next; event = ErrorOnly e }) (errorTo r e (AskedFor q))
+  error-nothing s = told (ErrorOnly e) (ap (errorEvent e) (sym s))
 
-  pub errored-range : (range : SeqRange) → marked .span ≡ Of range → _≡_ {A = Told} (record { receiver = next; event = ErrorLoss range e }) (erroredBy r e (AskedFor q))
-  errored-range range s = told (ErrorLoss range e) (ap (errorEvent e) (sym s))
+  pub error-range : (range : SeqRange) → marked .span ≡ Of range → _≡_ {A = Told} (record { receiver = next; event = ErrorLoss range e }) (errorTo r e (AskedFor q))
+  error-range range s = told (ErrorLoss range e) (ap (errorEvent e) (sym s))
 
 -- ---- a NAK
-pub naked-asked : (r : Receiver) (asked : Asked) → r .asked ≡ asked → nakedBy r asked ≡ nakedOf r
-unfolding nakedOf
-naked-asked r asked a = ap (nakedBy r) (sym a)
+pub nak-asked : (r : Receiver) (asked : Asked) → r .asked ≡ asked → nakBy r asked ≡ nakOf r
+unfolding nakOf
+nak-asked r asked a = ap (nakBy r) (sym a)

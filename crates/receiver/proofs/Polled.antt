@@ -27,27 +27,27 @@ module _ (refused : Bool) (w : ReceiveWindow) (all : ReceiveWindow) (next : Rece
   gave-range range m = rw (n, a, m)
 
 -- ---- a poll
-module _ (r : Receiver) (s : StreamConfig) (now : ℕ) where
-  pub polled-timer : (timer : Timer) → r .timer ≡ timer → polledAt r s now timer ≡ polledOf r s now
+module _ (r : Receiver) (s : StreamConfig) (time : ℕ) where
+  pub polled-timer : (timer : Timer) → r .timer ≡ timer → polledAt r s time timer ≡ polledOf r s time
   unfolding polledOf
-  polled-timer timer e = ap (polledAt r s now) (sym e)
+  polled-timer timer e = ap (polledAt r s time) (sym e)
 
   module _ (t : RequestTimer) where
-    pub polled-early : now < t .due → quietOf r ≡ polledAt r s now (Running t)
+    pub polled-early : time < t .due → quietOf r ≡ polledAt r s time (Running t)
     polled-early d = rw (lt-ltb _ _ d)
 
-    module _ (d : t .due ≤ now) where
-      pub polled-none : nothingMissing (r .window) ≡ true → quietOf (restOf (r .refused) (r .window)) ≡ polledAt r s now (Running t)
+    module _ (d : t .due ≤ time) where
+      pub polled-none : nothingMissing (r .window) ≡ true → quietOf (restOf (r .refused) (r .window)) ≡ polledAt r s time (Running t)
       polled-none m = rw (le-ltb _ _ d, m)
 
       module _ (m : nothingMissing (r .window) ≡ false) where
         pub polled-asks :
-            (due : ℕ) → due ≡ dueAfter (s .«request_delay_ms») (t .sent + 1) now → t .sent < s .«max_requests» → enabledOf r s ≡ true
-            → quietOf (record { window = r .window; timer = Running record { due = due; sent = t .sent + 1 }; «request_due» = true; refused = r .refused; asked = r .asked }) ≡ polledAt r s now (Running t)
+            (due : ℕ) → due ≡ dueAfter (s .«request_delay_ms») (t .sent + 1) time → t .sent < s .«max_requests» → enabledOf r s ≡ true
+            → quietOf (record { window = r .window; timer = Running record { due = due; sent = t .sent + 1 }; «request_due» = true; refused = r .refused; asked = r .asked }) ≡ polledAt r s time (Running t)
         polled-asks due e l en = rw (le-ltb _ _ d, m, lt-ltb _ _ l, en, e)
 
-        pub polled-spent : s .«max_requests» ≤ t .sent → gaveUp (r .refused) (r .window) ≡ polledAt r s now (Running t)
+        pub polled-spent : s .«max_requests» ≤ t .sent → gaveUp (r .refused) (r .window) ≡ polledAt r s time (Running t)
         polled-spent l = rw (le-ltb _ _ d, m, le-ltb _ _ l)
 
-        pub polled-disabled : t .sent < s .«max_requests» → enabledOf r s ≡ false → gaveUp (r .refused) (r .window) ≡ polledAt r s now (Running t)
+        pub polled-disabled : t .sent < s .«max_requests» → enabledOf r s ≡ false → gaveUp (r .refused) (r .window) ≡ polledAt r s time (Running t)
         polled-disabled l en = rw (le-ltb _ _ d, m, lt-ltb _ _ l, en)

@@ -21,11 +21,11 @@ use Rattle.receiver.specs.declared.receiver.Timer.{Timer}
 use Rattle.receiver.specs.declared.receiver.Receiver.{Receiver}
 use Rattle.receiver.specs.declared.receiver.Request.{Request}
 use Rattle.receiver.specs.declared.receiver.Request.the-variants.{Written}
-use Rattle.receiver.specs.declared.receiver.Requested.{Requested}
+use Rattle.receiver.specs.declared.receiver.RequestWritten.{RequestWritten}
 
 -- ---- offering a request to a payload
 module _ (r : Receiver) (q : RetransmitRequest) (p : PayloadWriter) (b : List ℕ) (wrote : Wrote) (after : List ℕ) (w : (wrote, after) ≡ writtenOf p b (requestPacket q)) where
-  offered : (n : Requested) → n ≡ takenBy r q (wrote .payload) (wrote .answer) → (n, after) ≡ offeredOf r q p b
+  offered : (n : RequestWritten) → n ≡ takenBy r q (wrote .payload) (wrote .answer) → (n, after) ≡ offeredOf r q p b
   unfolding offeredOf
   offered n e = rw (← w, e)
 
@@ -47,12 +47,12 @@ second : {A : Type 0} (t : Bool) (x y : A) → t ≡ false → y ≡ cond t x y
 second t x y e = rw e
 
 module _ (r : Receiver) (s : StreamConfig) (p : PayloadWriter) (b : List ℕ) where
-  pub taken-not-due : (n : Requested) → n ≡ notDue r p → r .«request_due» ≡ false → (n, b) ≡ takenOf r s p b
+  pub taken-not-due : (n : RequestWritten) → n ≡ notDue r p → r .«request_due» ≡ false → (n, b) ≡ takenOf r s p b
   unfolding takenOf
   taken-not-due n e d = rw e (first (not (r .«request_due»)) _ _ (ap not d))
 
   module _ (d : r .«request_due» ≡ true) where
-    pub taken-disabled : (next : Receiver) (n : Requested) → next ≡ withAsked r (r .asked) → n ≡ notDue next p → enabledOf r s ≡ false → (n, b) ≡ takenOf r s p b
+    pub taken-disabled : (next : Receiver) (n : RequestWritten) → next ≡ withAsked r (r .asked) → n ≡ notDue next p → enabledOf r s ≡ false → (n, b) ≡ takenOf r s p b
     unfolding takenOf
     taken-disabled next n a e f = rw (e, a) (first (not (enabledOf r s)) _ _ (ap not f) ∙ second (not (r .«request_due»)) _ _ (ap not d))
 
@@ -62,7 +62,7 @@ module _ (r : Receiver) (s : StreamConfig) (p : PayloadWriter) (b : List ℕ) wh
       taken-span span e =
           ap (takenSpan r p b) (sym e) ∙ second (not (enabledOf r s)) _ _ (ap not en) ∙ second (not (r .«request_due»)) _ _ (ap not d)
 
-      pub taken-nothing : (next : Receiver) (n : Requested) → next ≡ withAsked r (r .asked) → n ≡ notDue next p → requestOf (r .window) ≡ NoSpan → (n, b) ≡ takenOf r s p b
+      pub taken-nothing : (next : Receiver) (n : RequestWritten) → next ≡ withAsked r (r .asked) → n ≡ notDue next p → requestOf (r .window) ≡ NoSpan → (n, b) ≡ takenOf r s p b
       taken-nothing next n a e m = rw (e, a) (taken-span NoSpan m)
 
       pub taken-offered : (range : SeqRange) → requestOf (r .window) ≡ Of range → offeredOf r record { seq = range .first; count = range .count } p b ≡ takenOf r s p b

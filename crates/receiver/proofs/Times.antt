@@ -24,6 +24,6 @@ delay-fits {delay} {power} d p =
     let m : delay * power ≤ 4294967295 * 4294967296 = mul-le-mul most p in
     lt-of-le-of-lt m (omega arith)
 
-pub due-later : (delay sent now power due : ℕ) → power ≡ 2 ^ min sent 32 → due ≡ later now (delay * power) → due ≡ dueAfter delay sent now
+pub due-later : (delay sent time power due : ℕ) → power ≡ 2 ^ min sent 32 → due ≡ later time (delay * power) → due ≡ dueAfter delay sent time
 unfolding dueAfter
-due-later delay sent now power due e f = f ∙ ap (λ (n : ℕ). later now (delay * n)) e
+due-later delay sent time power due e f = f ∙ ap (λ (n : ℕ). later time (delay * n)) e

@@ -8,7 +8,7 @@ use Rattle.window.specs.Window.{Valid}
 use Rattle.window.specs.declared.window.Marked.{Marked}
 use Rattle.window.specs.declared.window.ReceiveWindow.{ReceiveWindow}
 use Rattle.window.specs.declared.window.SeqRange.{SeqRange}
-use Rattle.window.specs.declared.window.Taken.{Taken}
+use Rattle.window.specs.declared.window.Arrival.{Arrival}
 use Rattle.window.proofs.Preserved.{valid-accept, valid-mark}
 use Rattle.window.proofs.Validity.{valid-of}
 use Rattle.receiver.specs.Receiver.{validOf}
@@ -19,7 +19,7 @@ unfolding validOf
 valid-window r e = valid-of (r .window) e
 
 module _ (w : ReceiveWindow) (v : Valid w) where
-  pub valid-taken : (seq : ℕ) (taken : Taken) → taken ≡ acceptOf w seq → Valid (taken .window)
+  pub valid-taken : (seq : ℕ) (taken : Arrival) → taken ≡ acceptOf w seq → Valid (taken .window)
   valid-taken seq taken e = rw e (valid-accept w v seq)
 
   pub valid-marked : (range : SeqRange) (marked : Marked) → marked ≡ markOf w range → Valid (marked .window)

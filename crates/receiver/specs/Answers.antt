@@ -13,14 +13,14 @@ use Rattle.packet.specs.Write.{validOf as payloadValid}
 use Rattle.packet.specs.declared.writer.PayloadWriter.{PayloadWriter}
 use Rattle.command.specs.declared.retransmit.RetransmitError.{RetransmitError}
 use Rattle.window.specs.Set.{maxWindow}
-use Rattle.receiver.specs.Receiver.{validOf, freshOf, heardOf, polledOf, erroredOf, nakedOf, takenOf, deadlineOf}
+use Rattle.receiver.specs.Receiver.{validOf, freshOf, heardOf, polledOf, errorOf, nakOf, takenOf, deadlineOf}
 use Rattle.receiver.specs.declared.receiver.Receiver.{Receiver}
 use Rattle.receiver.specs.declared.receiver.Hearing.the-variants.{Refused as HearingRefused}
 use Rattle.receiver.specs.declared.receiver.Heard.{Heard}
 use Rattle.receiver.specs.declared.receiver.StreamEvent.the-variants.{Refused as EventRefused}
 use Rattle.receiver.specs.declared.receiver.Told.{Told}
 use Rattle.receiver.specs.declared.receiver.Request.the-variants.{Refused as RequestRefused}
-use Rattle.receiver.specs.declared.receiver.Requested.{Requested}
+use Rattle.receiver.specs.declared.receiver.RequestWritten.{RequestWritten}
 use Rattle.receiver.specs.declared.receiver.Start.{Start}
 use Rattle.receiver.specs.declared.receiver.Start.the-variants.{Receiver as Started, Refused as StartRefused}
 use Rattle.config.specs.declared.answer.Outcome.the-variants.{Done, Refused}
@@ -44,24 +44,24 @@ abbrev pub hearingRefused : Receiver → Refusal → Heard
 hearingRefused r why = record { receiver = r; answer = HearingRefused why }
 
 unfoldable pub dataAnswer : Receiver → StreamConfig → ℕ → ℕ → Heard
-dataAnswer r s now seq = entry (checkOf s) (validOf r) (hearingRefused r) (heardOf r s now seq)
+dataAnswer r s time seq = entry (checkOf s) (validOf r) (hearingRefused r) (heardOf r s time seq)
 
 abbrev pub eventRefused : Receiver → Refusal → Told
 eventRefused r why = record { receiver = r; event = EventRefused why }
 
 unfoldable pub pollAnswer : Receiver → StreamConfig → ℕ → Told
-pollAnswer r s now = entry (checkOf s) (validOf r) (eventRefused r) (polledOf r s now)
+pollAnswer r s time = entry (checkOf s) (validOf r) (eventRefused r) (polledOf r s time)
 
 unfoldable pub errorAnswer : Receiver → RetransmitError → Told
-errorAnswer r e = onState (validOf r) (eventRefused r) (erroredOf r e)
+errorAnswer r e = onState (validOf r) (eventRefused r) (errorOf r e)
 
 unfoldable pub nakAnswer : Receiver → Told
-nakAnswer r = onState (validOf r) (eventRefused r) (nakedOf r)
+nakAnswer r = onState (validOf r) (eventRefused r) (nakOf r)
 
-abbrev pub requestRefused : Receiver → PayloadWriter → List ℕ → Refusal → Requested × List ℕ
+abbrev pub requestRefused : Receiver → PayloadWriter → List ℕ → Refusal → RequestWritten × List ℕ
 requestRefused r p b why = (record { receiver = r; payload = p; answer = RequestRefused why }, b)
 
-unfoldable pub takeAnswer : Receiver → StreamConfig → PayloadWriter → List ℕ → Requested × List ℕ
+unfoldable pub takeAnswer : Receiver → StreamConfig → PayloadWriter → List ℕ → RequestWritten × List ℕ
 takeAnswer r s p b = entry (checkOf s) (validOf r && payloadValid p (length b)) (requestRefused r p b) (takenOf r s p b)
 
 unfoldable pub deadlineAnswer : Receiver → Deadline

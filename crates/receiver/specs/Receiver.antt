@@ -36,7 +36,7 @@ use Rattle.receiver.specs.declared.receiver.StreamEvent.the-variants.{No
 use Rattle.receiver.specs.declared.receiver.Told.{Told}
 use Rattle.receiver.specs.declared.receiver.Request.{Request}
 use Rattle.receiver.specs.declared.receiver.Request.the-variants.{Nothing as NotDue, Written, More, Refused}
-use Rattle.receiver.specs.declared.receiver.Requested.{Requested}
+use Rattle.receiver.specs.declared.receiver.RequestWritten.{RequestWritten}
 
 -- ---- the state
 unfoldable pub validOf : Receiver → Bool
@@ -59,7 +59,7 @@ nothingMissing w = eqb (missingOf w) 0
 -- ---- times
 -- the due time: D, 2D, 4D and on after so many requests, the power capped at 2^32
 unfoldable pub dueAfter : ℕ → ℕ → ℕ → ℕ
-dueAfter delay sent now = later now (delay * 2 ^ min sent 32)
+dueAfter delay sent time = later time (delay * 2 ^ min sent 32)
 
 -- ---- a data command
 -- the skipped numbers, from the one after the old highest on
@@ -80,17 +80,17 @@ restarts (Running t) = ltb 0 (t .sent)
 
 -- The timer stops when nothing is missing, and what it asked for is done with. If requests are enabled, a new gap starts it.
 unfoldable pub settledOf : Receiver → StreamConfig → ℕ → ReceiveWindow → Class → Receiver
-settledOf r s now w class =
+settledOf r s time w class =
     cond (nothingMissing w) (restOf (r .refused) w)
     (cond (isGap class && (enabledOf r s && restarts (r .timer)))
-    (record { window = w; timer = Running record { due = dueAfter (s .«request_delay_ms») 0 now; sent = 0 }; «request_due» = r .«request_due»; refused = r .refused; asked = r .asked })
+    (record { window = w; timer = Running record { due = dueAfter (s .«request_delay_ms») 0 time; sent = 0 }; «request_due» = r .«request_due»; refused = r .refused; asked = r .asked })
     (record { window = w; timer = r .timer; «request_due» = r .«request_due»; refused = r .refused; asked = r .asked }))
 
 unfoldable pub heardOf : Receiver → StreamConfig → ℕ → ℕ → Heard
-heardOf r s now seq =
+heardOf r s time seq =
     let taken = acceptOf (r .window) seq in
     record {
-      receiver = settledOf r s now (taken .window) (taken .class);
+      receiver = settledOf r s time (taken .window) (taken .class);
       answer = Delivered record { seq = seq; class = taken .class; gap = gapOf (r .window .highest) (taken .class); lost = taken .lost };
     }
 
@@ -109,16 +109,16 @@ gaveUp refused w = record { receiver = restOf refused (allProcessed (w .size) (w
 -- Each poll at or after the due time makes a request due and sets the next delay; after M requests, or if requests are disabled,
 -- it reports the missing span.
 abbrev pub polledAt : Receiver → StreamConfig → ℕ → Timer → Told
-polledAt r s now Stopped = quietOf r
-polledAt r s now (Running t) =
-    cond (ltb now (t .due)) (quietOf r)
+polledAt r s time Stopped = quietOf r
+polledAt r s time (Running t) =
+    cond (ltb time (t .due)) (quietOf r)
     (cond (nothingMissing (r .window)) (quietOf (restOf (r .refused) (r .window)))
     (cond (ltb (t .sent) (s .«max_requests») && enabledOf r s)
-    (quietOf record { window = r .window; timer = Running record { due = dueAfter (s .«request_delay_ms») (t .sent + 1) now; sent = t .sent + 1 }; «request_due» = true; refused = r .refused; asked = r .asked })
+    (quietOf record { window = r .window; timer = Running record { due = dueAfter (s .«request_delay_ms») (t .sent + 1) time; sent = t .sent + 1 }; «request_due» = true; refused = r .refused; asked = r .asked })
     (gaveUp (r .refused) (r .window))))
 
 unfoldable pub polledOf : Receiver → StreamConfig → ℕ → Told
-polledOf r s now = polledAt r s now (r .timer)
+polledOf r s time = polledAt r s time (r .timer)
 
 -- A Retransmit Error to an unanswered request marks the missing positions of its span and reports from the oldest to the newest of them.
 abbrev pub errorEvent : RetransmitError → Span → StreamEvent
@@ -130,29 +130,29 @@ markedBy r w =
     cond (nothingMissing w) (restOf (r .refused) w)
     (record { window = w; timer = r .timer; «request_due» = r .«request_due»; refused = r .refused; asked = Unasked })
 
-abbrev pub erroredBy : Receiver → RetransmitError → Asked → Told
-erroredBy r e Unasked = record { receiver = r; event = ErrorOnly e }
-erroredBy r e (AskedFor q) =
+abbrev pub errorTo : Receiver → RetransmitError → Asked → Told
+errorTo r e Unasked = record { receiver = r; event = ErrorOnly e }
+errorTo r e (AskedFor q) =
     let marked = markOf (r .window) record { first = q .seq; count = q .count } in
     record { receiver = markedBy r (marked .window); event = errorEvent e (marked .span) }
 
-unfoldable pub erroredOf : Receiver → RetransmitError → Told
-erroredOf r e = erroredBy r e (r .asked)
+unfoldable pub errorOf : Receiver → RetransmitError → Told
+errorOf r e = errorTo r e (r .asked)
 
 -- A NAK disables requests until a reset, stops the timer and, with a request unanswered, reports and marks all missing.
-abbrev pub nakedBy : Receiver → Asked → Told
-nakedBy r Unasked = quietOf (restOf true (r .window))
-nakedBy r (AskedFor q) = gaveUp true (r .window)
+abbrev pub nakBy : Receiver → Asked → Told
+nakBy r Unasked = quietOf (restOf true (r .window))
+nakBy r (AskedFor q) = gaveUp true (r .window)
 
-unfoldable pub nakedOf : Receiver → Told
-nakedOf r = nakedBy r (r .asked)
+unfoldable pub nakOf : Receiver → Told
+nakOf r = nakBy r (r .asked)
 
 -- ---- taking a due request
 -- no request due, and this one unanswered
 abbrev pub withAsked : Receiver → Asked → Receiver
 withAsked r asked = record { window = r .window; timer = r .timer; «request_due» = false; refused = r .refused; asked = asked }
 
-abbrev pub notDue : Receiver → PayloadWriter → Requested
+abbrev pub notDue : Receiver → PayloadWriter → RequestWritten
 notDue r p = record { receiver = r; payload = p; answer = NotDue }
 
 -- 3 when the payload is empty; not fitting a nonempty payload is no refusal but "more"
@@ -160,21 +160,21 @@ abbrev pub noFit : PayloadWriter → Request
 noFit p = cond (eqb (p .len) 0) (Refused TooLarge) More
 
 -- written, and then unanswered; or as before where it doesn't fit
-abbrev pub takenBy : Receiver → RetransmitRequest → PayloadWriter → Outcome → Requested
+abbrev pub takenBy : Receiver → RetransmitRequest → PayloadWriter → Outcome → RequestWritten
 takenBy r q p Done = record { receiver = withAsked r (AskedFor q); payload = p; answer = Written }
 takenBy r q p (OutcomeRefused why) = record { receiver = r; payload = p; answer = noFit p }
 
-unfoldable pub offeredOf : Receiver → RetransmitRequest → PayloadWriter → List ℕ → Requested × List ℕ
+unfoldable pub offeredOf : Receiver → RetransmitRequest → PayloadWriter → List ℕ → RequestWritten × List ℕ
 offeredOf r q p b =
     let w = writtenOf p b (requestPacket q) in
     (takenBy r q (w .0 .payload) (w .0 .answer), w .1)
 
-abbrev pub takenSpan : Receiver → PayloadWriter → List ℕ → Span → Requested × List ℕ
+abbrev pub takenSpan : Receiver → PayloadWriter → List ℕ → Span → RequestWritten × List ℕ
 takenSpan r p b NoSpan = (notDue (withAsked r (r .asked)) p, b)
 takenSpan r p b (Of range) = offeredOf r record { seq = range .first; count = range .count } p b
 
 -- dropped if requests are disabled or nothing is missing
-unfoldable pub takenOf : Receiver → StreamConfig → PayloadWriter → List ℕ → Requested × List ℕ
+unfoldable pub takenOf : Receiver → StreamConfig → PayloadWriter → List ℕ → RequestWritten × List ℕ
 takenOf r s p b =
     cond (not (r .«request_due»)) (notDue r p, b)
     (cond (not (enabledOf r s)) (notDue (withAsked r (r .asked)) p, b)

@@ -10,8 +10,8 @@
 // Times are given by the caller, in ms; a clock may go back. Settings are given with each call.
 //
 //   receiver   the entry points: 9, 7, 8 for settings, then 13 for a state that no call has left
-//   valid      the same over settings and a state that were tested
+//   tested     the same over settings and a state that were tested
 //   messages   what of a heard command is handed on
 pub mod messages;
 pub mod receiver;
-pub mod valid;
+pub mod tested;

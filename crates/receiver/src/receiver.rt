@@ -1,7 +1,7 @@
 // The receiver and its calls. Each takes the receiver by value and hands it back with its answer.
 ghost use mathlib.Core.Path.{_≡_};
 ghost use Rattle.receiver.specs.Answers.{newAnswer, resetAnswer, dataAnswer, pollAnswer, errorAnswer, nakAnswer, takeAnswer, deadlineAnswer, dueAnswer};
-use super::valid;
+use super::tested;
 use command::data::UmpData;
 use command::retransmit::RetransmitError;
 use command::retransmit::RetransmitRequest;
@@ -70,7 +70,7 @@ pub enum StreamEvent {
     Nothing,
     // The numbers of the range that were not processed before are lost.
     DataLoss(SeqRange),
-    // The same, told by a Retransmit Error.
+    // These numbers are lost, as a Retransmit Error told.
     ErrorLoss(SeqRange, RetransmitError),
     // A Retransmit Error by which nothing was lost.
     RetransmitError(RetransmitError),
@@ -91,7 +91,7 @@ pub enum Request {
     Refused(Refusal),
 }
 
-pub struct Requested {
+pub struct RequestWritten {
     pub receiver: Receiver,
     pub payload: PayloadWriter,
     pub answer: Request,
@@ -128,9 +128,9 @@ impl Receiver {
     pub fn reset(self) -> WasReset
         ensures { λ r. ⌜ r ≡ resetAnswer self ⌝ }
     {
-        if valid::is_valid(self) {
+        if tested::is_valid(self) {
             return WasReset {
-                receiver: valid::reset(self),
+                receiver: tested::reset(self),
                 answer: Outcome::Done,
             };
         }
@@ -141,8 +141,8 @@ impl Receiver {
     }
 
     // A data command arrives.
-    pub fn on_ump_data(self, cfg: StreamConfig, now: u64, data: UmpData) -> Heard
-        ensures { λ r. ⌜ r ≡ dataAnswer self cfg now («data» .seq) ⌝ }
+    pub fn on_ump_data(self, cfg: StreamConfig, time: u64, data: UmpData) -> Heard
+        ensures { λ r. ⌜ r ≡ dataAnswer self cfg time («data» .seq) ⌝ }
     {
         match cfg.check() {
             Outcome::Refused(why) => Heard {
@@ -150,8 +150,8 @@ impl Receiver {
                 answer: Hearing::Refused(why),
             },
             Outcome::Done => {
-                if valid::is_valid(self) {
-                    return valid::on_ump_data(self, cfg, now, data.seq);
+                if tested::is_valid(self) {
+                    return tested::on_ump_data(self, cfg, time, data.seq);
                 }
                 Heard {
                     receiver: self,
@@ -162,8 +162,8 @@ impl Receiver {
     }
 
     // Runs the timer: makes a request due, or gives up and reports what is missing.
-    pub fn poll(self, cfg: StreamConfig, now: u64) -> Told
-        ensures { λ r. ⌜ r ≡ pollAnswer self cfg now ⌝ }
+    pub fn poll(self, cfg: StreamConfig, time: u64) -> Told
+        ensures { λ r. ⌜ r ≡ pollAnswer self cfg time ⌝ }
     {
         match cfg.check() {
             Outcome::Refused(why) => Told {
@@ -171,8 +171,8 @@ impl Receiver {
                 event: StreamEvent::Refused(why),
             },
             Outcome::Done => {
-                if valid::is_valid(self) {
-                    return valid::poll(self, cfg, now);
+                if tested::is_valid(self) {
+                    return tested::poll(self, cfg, time);
                 }
                 Told {
                     receiver: self,
@@ -186,8 +186,8 @@ impl Receiver {
     pub fn on_retransmit_error(self, err: RetransmitError) -> Told
         ensures { λ r. ⌜ r ≡ errorAnswer self err ⌝ }
     {
-        if valid::is_valid(self) {
-            return valid::on_retransmit_error(self, err);
+        if tested::is_valid(self) {
+            return tested::on_retransmit_error(self, err);
         }
         Told {
             receiver: self,
@@ -199,8 +199,8 @@ impl Receiver {
     pub fn on_retransmit_nak(self) -> Told
         ensures { λ r. ⌜ r ≡ nakAnswer self ⌝ }
     {
-        if valid::is_valid(self) {
-            return valid::on_retransmit_nak(self);
+        if tested::is_valid(self) {
+            return tested::on_retransmit_nak(self);
         }
         Told {
             receiver: self,
@@ -209,22 +209,27 @@ impl Receiver {
     }
 
     // Takes a due request into a payload; 3 when it does not fit and the payload is empty.
-    pub fn write_request(self, cfg: StreamConfig, p: PayloadWriter, buf: &mut [u8]) -> Requested
+    pub fn write_request(
+        self,
+        cfg: StreamConfig,
+        p: PayloadWriter,
+        buf: &mut [u8],
+    ) -> RequestWritten
         ensures { λ r. ⌜ (r, now (buf .exit)) ≡ takeAnswer self cfg p (now (buf .entry)) ⌝ }
     {
         match cfg.check() {
-            Outcome::Refused(why) => Requested {
+            Outcome::Refused(why) => RequestWritten {
                 receiver: self,
                 payload: p,
                 answer: Request::Refused(why),
             },
             Outcome::Done => {
-                if valid::is_valid(self) {
-                    if packet::valid::is_valid(p, buf.len()) {
-                        return valid::write_request(self, cfg, p, buf);
+                if tested::is_valid(self) {
+                    if packet::tested::is_valid(p, buf.len()) {
+                        return tested::write_request(self, cfg, p, buf);
                     }
                 }
-                Requested {
+                RequestWritten {
                     receiver: self,
                     payload: p,
                     answer: Request::Refused(Refusal::InvalidState),
@@ -237,8 +242,8 @@ impl Receiver {
     pub fn next_deadline(self) -> Deadline
         ensures { λ r. ⌜ r ≡ deadlineAnswer self ⌝ }
     {
-        if valid::is_valid(self) {
-            return valid::next_deadline(self);
+        if tested::is_valid(self) {
+            return tested::next_deadline(self);
         }
         Deadline::Refused(Refusal::InvalidState)
     }
@@ -247,7 +252,7 @@ impl Receiver {
     pub fn request_due(self) -> Answered
         ensures { λ r. ⌜ r ≡ dueAnswer self ⌝ }
     {
-        if valid::is_valid(self) {
+        if tested::is_valid(self) {
             return Answered::Is(self.request_due);
         }
         Answered::Refused(Refusal::InvalidState)

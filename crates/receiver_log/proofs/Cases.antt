@@ -26,7 +26,7 @@ use Rattle.receiver_log.specs.Answers.{answerOf, saidOf}
 use Rattle.receiver_log.specs.RequestTimes.{Poll, polled, pollsOf, delayed, requestsFrom}
 
 abbrev hear : ℕ → ℕ → Call
-hear now seq = data-command defaults now seq []
+hear time seq = data-command defaults time seq []
 
 abbrev range : ℕ → ℕ → Span
 range first count = Of record { first = first; count = count }

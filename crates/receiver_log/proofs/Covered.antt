@@ -23,9 +23,9 @@ use Rattle.receiver_log.specs.Timing.{nakIn, timerIn}
 use Rattle.receiver_log.specs.RequestTimes.{pollsOf, requestsFrom, RequestTimes}
 use Rattle.receiver_log.specs.Promise.{Promise, FromTo, Kept, StateTaken, AnsweredIn, ReceiverPromise, MissingSpan, Reached, NeverInvalid, Answered, logOf}
 
-pub every-call : (s : StreamConfig) (now seq : ℕ) (ws : List ℕ) (e : RetransmitError) (p : PayloadWriter) (b : List ℕ)
-    → seq < 65536 → AllTyped (data-command s now seq ws ∷ poll s now ∷ retransmit-error e ∷ nak ∷ take-request s p b ∷ [])
-every-call s now seq ws e p b l = (l, (tt, (tt, (tt, (tt, tt)))))
+pub every-call : (s : StreamConfig) (time seq : ℕ) (ws : List ℕ) (e : RetransmitError) (p : PayloadWriter) (b : List ℕ)
+    → seq < 65536 → AllTyped (data-command s time seq ws ∷ poll s time ∷ retransmit-error e ∷ nak ∷ take-request s p b ∷ [])
+every-call s time seq ws e p b l = (l, (tt, (tt, (tt, (tt, tt)))))
 
 -- each theorem holds of each list of calls and each window of 1 to 128, and asks nothing else
 pub every-window : (W : ℕ) → 1 ≤ W → W ≤ 128 → (calls : List Call) → AllTyped calls
@@ -52,10 +52,10 @@ asking D M =
     record { «idle_interval_ms» = 100; «idle_growth» = 2; «idle_further» = 5; «fec_repeats» = 2; retransmit = true; «request_delay_ms» = D; «max_requests» = M; «max_command_words» = 64 }
 
 -- every arriving gap, of any size, with any settings that pass, whatever D and M, after every list of calls
-pub every-gap : RequestTimes → (W : ℕ) → 1 ≤ W → W ≤ 128 → (calls : List Call) → AllTyped calls → (D M now seq : ℕ) → seq < 65536 → (d : Delivery) (gap : ℕ)
+pub every-gap : RequestTimes → (W : ℕ) → 1 ≤ W → W ≤ 128 → (calls : List Call) → AllTyped calls → (D M time seq : ℕ) → seq < 65536 → (d : Delivery) (gap : ℕ)
     → (let cfg = asking D M in
-    let a = dataAnswer (run W calls .receiver) cfg now seq in
+    let a = dataAnswer (run W calls .receiver) cfg time seq in
     a .answer ≡ Delivered d → d .class ≡ New (gap + 1) → nakIn (logOf W calls) ≡ false → timerIn W (logOf W calls) ≡ Stopped
-    → pollsOf (M + 1) cfg (a .receiver) ≡ requestsFrom D 0 M now (lossOf (missingIn W (reports (data-entry cfg now seq [] (Delivered d) ∷ logOf W calls)))))
-every-gap p W l m calls typed D M now seq few d gap answered class none stopped =
-    p W l m calls typed (asking D M) now seq [] few d (gap + 1) (M + 1) answered class (omega arith) (ap not none) (ap restarts stopped) (omega arith)
+    → pollsOf (M + 1) cfg (a .receiver) ≡ requestsFrom D 0 M time (lossOf (missingIn W (reports (data-entry cfg time seq [] (Delivered d) ∷ logOf W calls)))))
+every-gap p W l m calls typed D M time seq few d gap answered class none stopped =
+    p W l m calls typed (asking D M) time seq [] few d (gap + 1) (M + 1) answered class (omega arith) (ap not none) (ap restarts stopped) (omega arith)

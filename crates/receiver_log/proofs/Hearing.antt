@@ -12,7 +12,7 @@ use Rattle.config.specs.declared.answer.Outcome.{Outcome}
 use Rattle.config.specs.declared.answer.Outcome.the-variants.{Done, Refused}
 use Rattle.window.specs.Window.{missingOf}
 use Rattle.window.specs.Arrival.{acceptOf}
-use Rattle.window.specs.declared.window.Taken.{Taken}
+use Rattle.window.specs.declared.window.Arrival.{Arrival}
 use Rattle.window.specs.declared.window.Class.{Class}
 use Rattle.window.specs.declared.window.Span.{Span}
 use Rattle.receiver.specs.Receiver.{enabledOf, gapOf, isGap, restarts, dueAfter, settledOf, heardOf}
@@ -31,19 +31,19 @@ use Rattle.config.specs.inner.Choices.{cond-true, cond-false, by-cond}
 use Rattle.receiver_log.proofs.Taken.{TakenOk, accept-ok}
 use Rattle.receiver_log.proofs.Follows.{Follows, StepOk, passes, none-missing, follows-rest, follows-on, follows-same}
 
-module _ (r : Receiver) (t : List Entry) (s : StreamConfig) (now seq : ℕ) (ws : List ℕ) (i : Follows (r .window .size) r t) where
+module _ (r : Receiver) (t : List Entry) (s : StreamConfig) (time seq : ℕ) (ws : List ℕ) (i : Follows (r .window .size) r t) where
   abbrev W : ℕ
   W = r .window .size
 
   abbrev stepFrom : Heard → Step
-  stepFrom h = record { receiver = h .receiver; entry = data-entry s now seq ws (h .answer) }
+  stepFrom h = record { receiver = h .receiver; entry = data-entry s time seq ws (h .answer) }
 
   abbrev Ok : Step → Type 0
-  Ok = StepOk W t (data-command s now seq ws)
+  Ok = StepOk W t (data-command s time seq ws)
 
   -- ---- refused
 
-  refused-answer : (why : Refusal) → checkOf s ≡ Refused why → dataAnswer r s now seq ≡ hearingRefused r why
+  refused-answer : (why : Refusal) → checkOf s ≡ Refused why → dataAnswer r s time seq ≡ hearingRefused r why
   unfolding dataAnswer
   refused-answer why e = rw e
 
@@ -53,18 +53,18 @@ module _ (r : Receiver) (t : List Entry) (s : StreamConfig) (now seq : ℕ) (ws 
 
   -- ---- heard
 
-  heard-answer : checkOf s ≡ Done → dataAnswer r s now seq ≡ heardOf r s now seq
+  heard-answer : checkOf s ≡ Done → dataAnswer r s time seq ≡ heardOf r s time seq
   unfolding dataAnswer
   heard-answer e = rw (e, passes r (i .held .valid))
 
   abbrev entryFor : ℕ → Class → Span → Entry
-  entryFor highest c lost = data-entry s now seq ws (Delivered record { seq = seq; class = c; gap = gapOf highest c; lost = lost })
+  entryFor highest c lost = data-entry s time seq ws (Delivered record { seq = seq; class = c; gap = gapOf highest c; lost = lost })
 
   -- the timer starts by the same test
   starts : (c : Class) → (isGap c && (enabledOf r s && restarts (r .timer))) ≡ (isGap c && (enabledIn t s && restarts (timerIn W t)))
   starts c = λ j. isGap c && ((s .retransmit && not (i .refused j)) && restarts (i .timer j))
 
-  module _ (k : Taken) (a : TakenOk (r .window) (reports t) seq ws k) where
+  module _ (k : Arrival) (a : TakenOk (r .window) (reports t) seq ws k) where
     abbrev entry : Entry
     entry = entryFor (r .window .highest) (k .class) (k .lost)
 
@@ -72,7 +72,7 @@ module _ (r : Receiver) (t : List Entry) (s : StreamConfig) (now seq : ℕ) (ws 
     missing = none-missing W (a .held) (a .size)
 
     abbrev started : Timer
-    started = Running record { due = dueAfter (s .«request_delay_ms») 0 now; sent = 0 }
+    started = Running record { due = dueAfter (s .«request_delay_ms») 0 time; sent = 0 }
 
     -- something is missing
     going : (timer : Timer) → nothingMissing W (reports (entry ∷ t)) ≡ false → timer ≡ timerAfter t (timerIn W t) entry
@@ -80,7 +80,7 @@ module _ (r : Receiver) (t : List Entry) (s : StreamConfig) (now seq : ℕ) (ws 
     going timer n f =
         follows-on W (k .window) entry t (a .held) (a .size) timer (r .«request_due») (r .refused) (r .asked) n f (i .due) (i .refused) (i .asked) (i .few)
 
-    settles : Follows W (settledOf r s now (k .window) (k .class)) (entry ∷ t)
+    settles : Follows W (settledOf r s time (k .window) (k .class)) (entry ∷ t)
     unfolding settledOf
     settles =
         by-cond (λ q. Follows W q (entry ∷ t)) (eqb (missingOf (k .window)) 0) _ _
@@ -90,7 +90,7 @@ module _ (r : Receiver) (t : List Entry) (s : StreamConfig) (now seq : ℕ) (ws 
         (λ g. going started (sym missing ∙ n) (cond-true started (timerIn W t) (sym (starts (k .class)) ∙ g)))
         (λ g. going (r .timer) (sym missing ∙ n) (i .timer ∙ cond-false started (timerIn W t) (sym (starts (k .class)) ∙ g))))
 
-  heard-ok : seq < turn → checkOf s ≡ Done → Ok (stepFrom (heardOf r s now seq))
+  heard-ok : seq < turn → checkOf s ≡ Done → Ok (stepFrom (heardOf r s time seq))
   unfolding heardOf answerOf
   heard-ok l e =
       let a = accept-ok (r .window) (reports t) seq ws (i .held) l in
@@ -99,10 +99,10 @@ module _ (r : Receiver) (t : List Entry) (s : StreamConfig) (now seq : ℕ) (ws 
         says = (λ j. entryFor (i .held .highest j) (a .class j) (a .lost j)) ∙ rw e;
       }
 
-  pub data-ok : seq < turn → Ok (stepOf r (data-command s now seq ws))
+  pub data-ok : seq < turn → Ok (stepOf r (data-command s time seq ws))
   unfolding stepOf
   data-ok l = go (checkOf s) refl
     where
-      go : (k : Outcome) → checkOf s ≡ k → Ok (stepFrom (dataAnswer r s now seq))
+      go : (k : Outcome) → checkOf s ≡ k → Ok (stepFrom (dataAnswer r s time seq))
       go (Refused why) e = subst (λ (h : Heard). Ok (stepFrom h)) (sym (refused-answer why e)) (refused-ok why e)
       go Done e = subst (λ (h : Heard). Ok (stepFrom h)) (sym (heard-answer e)) (heard-ok l e)

@@ -31,22 +31,22 @@ use Rattle.receiver_log.proofs.SpanIs.{missing-span}
 use Rattle.receiver_log.proofs.Follows.{Follows, StepOk, passes, none-missing, quiet-ends, idle, follows-on, follows-same}
 use Rattle.receiver_log.proofs.GivingUp.{gave-up}
 
-module _ (r : Receiver) (t : List Entry) (s : StreamConfig) (now : ℕ) (i : Follows (r .window .size) r t) where
+module _ (r : Receiver) (t : List Entry) (s : StreamConfig) (time : ℕ) (i : Follows (r .window .size) r t) where
   abbrev W : ℕ
   W = r .window .size
 
   abbrev stepFrom : Told → Step
-  stepFrom h = record { receiver = h .receiver; entry = poll-entry s now (h .event) }
+  stepFrom h = record { receiver = h .receiver; entry = poll-entry s time (h .event) }
 
   abbrev Ok : Step → Type 0
-  Ok = StepOk W t (poll s now)
+  Ok = StepOk W t (poll s time)
 
   abbrev tick : Tick
-  tick = tickAt (enabledIn t s) s now (timerIn W t)
+  tick = tickAt (enabledIn t s) s time (timerIn W t)
 
   -- ---- refused
 
-  refused-answer : (why : Refusal) → checkOf s ≡ Refused why → pollAnswer r s now ≡ eventRefused r why
+  refused-answer : (why : Refusal) → checkOf s ≡ Refused why → pollAnswer r s time ≡ eventRefused r why
   unfolding pollAnswer
   refused-answer why e = rw e
 
@@ -56,18 +56,18 @@ module _ (r : Receiver) (t : List Entry) (s : StreamConfig) (now : ℕ) (i : Fol
 
   -- ---- polled
 
-  polled-answer : checkOf s ≡ Done → pollAnswer r s now ≡ polledAt r s now (r .timer)
+  polled-answer : checkOf s ≡ Done → pollAnswer r s time ≡ polledAt r s time (r .timer)
   unfolding pollAnswer polledOf
   polled-answer e = rw (e, passes r (i .held .valid))
 
   module _ (e : checkOf s ≡ Done) where
-    answers : (x : Tick) (event : StreamEvent) → tick ≡ x → event ≡ pollEvent (missingIn W (reports t)) x → poll-entry s now event ≡ answerOf W t (poll s now)
+    answers : (x : Tick) (event : StreamEvent) → tick ≡ x → event ≡ pollEvent (missingIn W (reports t)) x → poll-entry s time event ≡ answerOf W t (poll s time)
     unfolding answerOf
-    answers x event k f = ap (poll-entry s now) (f ∙ ap (pollEvent (missingIn W (reports t))) (sym k)) ∙ rw e
+    answers x event k f = ap (poll-entry s time) (f ∙ ap (pollEvent (missingIn W (reports t))) (sym k)) ∙ rw e
 
     waits-ok : tick ≡ waits → Ok (stepFrom (quietOf r))
     waits-ok k = record {
-      follows = follows-same W r (poll-entry s now NoEvent) t i refl (ap (ticked s now (timerIn W t)) k) (ap (duePolled (dueIn W t)) k) refl refl;
+      follows = follows-same W r (poll-entry s time NoEvent) t i refl (ap (ticked s time (timerIn W t)) k) (ap (duePolled (dueIn W t)) k) refl refl;
       says = answers waits NoEvent k refl;
     }
 
@@ -75,10 +75,10 @@ module _ (r : Receiver) (t : List Entry) (s : StreamConfig) (now : ℕ) (i : Fol
       running : timerIn W t ≡ Running k
       running = sym (i .timer) ∙ at
 
-      tick-is : tick ≡ cond (ltb now (k .due)) waits (cond (ltb (k .sent) (s .«max_requests») && enabledOf r s) asks gives-up)
+      tick-is : tick ≡ cond (ltb time (k .due)) waits (cond (ltb (k .sent) (s .«max_requests») && enabledOf r s) asks gives-up)
       tick-is =
-          ap (tickAt (enabledIn t s) s now) running
-          ∙ ap (λ (off : Bool). cond (ltb now (k .due)) waits (cond (ltb (k .sent) (s .«max_requests») && (s .retransmit && not off)) asks gives-up)) (sym (i .refused))
+          ap (tickAt (enabledIn t s) s time) running
+          ∙ ap (λ (off : Bool). cond (ltb time (k .due)) waits (cond (ltb (k .sent) (s .«max_requests») && (s .retransmit && not off)) asks gives-up)) (sym (i .refused))
 
       -- a timer runs only while something is missing
       missing-some : nothingMissing W (reports t) ≡ false
@@ -89,7 +89,7 @@ module _ (r : Receiver) (t : List Entry) (s : StreamConfig) (now : ℕ) (i : Fol
       abbrev asking : Receiver
       asking = record {
         window = r .window;
-        timer = Running record { due = dueAfter (s .«request_delay_ms») (k .sent + 1) now; sent = k .sent + 1 };
+        timer = Running record { due = dueAfter (s .«request_delay_ms») (k .sent + 1) time; sent = k .sent + 1 };
         «request_due» = true;
         refused = r .refused;
         asked = r .asked;
@@ -98,22 +98,22 @@ module _ (r : Receiver) (t : List Entry) (s : StreamConfig) (now : ℕ) (i : Fol
       asks-ok : tick ≡ asks → Ok (stepFrom (quietOf asking))
       asks-ok a = record {
         follows =
-            follows-on W (r .window) (poll-entry s now NoEvent) t (held-quiet (i .held)) refl _ true (r .refused) (r .asked)
+            follows-on W (r .window) (poll-entry s time NoEvent) t (held-quiet (i .held)) refl _ true (r .refused) (r .asked)
             (ap isNone (quiet-ends W (reports t)) ∙ missing-some)
-            (sym (ap (ticked s now (timerIn W t)) a ∙ ap (later s now) running)) (sym (ap (duePolled (dueIn W t)) a)) (i .refused) (i .asked) (i .few);
+            (sym (ap (ticked s time (timerIn W t)) a ∙ ap (later s time) running)) (sym (ap (duePolled (dueIn W t)) a)) (i .refused) (i .asked) (i .few);
         says = answers asks NoEvent a refl;
       }
 
       gives-up-ok : tick ≡ gives-up → Ok (stepFrom (gaveUp (r .refused) (r .window)))
       unfolding gaveUp
       gives-up-ok a = record {
-        follows = gave-up r t i (poll-entry s now (lossOf (missingSpan (r .window)))) (r .refused) refl (i .refused);
+        follows = gave-up r t i (poll-entry s time (lossOf (missingSpan (r .window)))) (r .refused) refl (i .refused);
         says = answers gives-up (lossOf (missingSpan (r .window))) a (ap lossOf (missing-span (i .held)));
       }
 
-      running-ok : Ok (stepFrom (polledAt r s now (Running k)))
+      running-ok : Ok (stepFrom (polledAt r s time (Running k)))
       running-ok =
-          by-cond (λ h. Ok (stepFrom h)) (ltb now (k .due)) _ _ (λ n. waits-ok (tick-is ∙ rw n))
+          by-cond (λ h. Ok (stepFrom h)) (ltb time (k .due)) _ _ (λ n. waits-ok (tick-is ∙ rw n))
           (λ n.
           by-cond (λ h. Ok (stepFrom h)) (eqb (missingOf (r .window)) 0) _ _
           (λ m. absurd (never (sym (none-missing W (i .held) refl) ∙ m) missing-some))
@@ -121,14 +121,14 @@ module _ (r : Receiver) (t : List Entry) (s : StreamConfig) (now : ℕ) (i : Fol
           by-cond (λ h. Ok (stepFrom h)) (ltb (k .sent) (s .«max_requests») && enabledOf r s) _ _ (λ a. asks-ok (tick-is ∙ rw (n, a)))
           (λ a. gives-up-ok (tick-is ∙ rw (n, a)))))
 
-    polled-ok : (k : Timer) → r .timer ≡ k → Ok (stepFrom (polledAt r s now k))
-    polled-ok Stopped at = waits-ok (ap (tickAt (enabledIn t s) s now) (sym (i .timer) ∙ at))
+    polled-ok : (k : Timer) → r .timer ≡ k → Ok (stepFrom (polledAt r s time k))
+    polled-ok Stopped at = waits-ok (ap (tickAt (enabledIn t s) s time) (sym (i .timer) ∙ at))
     polled-ok (Running k) at = running-ok k at
 
-  pub poll-ok : Ok (stepOf r (poll s now))
+  pub poll-ok : Ok (stepOf r (poll s time))
   unfolding stepOf
   poll-ok = go (checkOf s) refl
     where
-      go : (k : Outcome) → checkOf s ≡ k → Ok (stepFrom (pollAnswer r s now))
+      go : (k : Outcome) → checkOf s ≡ k → Ok (stepFrom (pollAnswer r s time))
       go (Refused why) e = subst (λ (h : Told). Ok (stepFrom h)) (sym (refused-answer why e)) (refused-ok why e)
       go Done e = subst (λ (h : Told). Ok (stepFrom h)) (sym (polled-answer e)) (polled-ok e (r .timer) refl)

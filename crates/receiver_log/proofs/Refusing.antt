@@ -12,7 +12,7 @@ use Rattle.window.specs.Window.{missingOf, missingSpan}
 use Rattle.window.specs.Marking.{markOf}
 use Rattle.window.specs.declared.window.Marked.{Marked}
 use Rattle.window.specs.declared.window.Span.{Span}
-use Rattle.receiver.specs.Receiver.{lossOf, gaveUp, errorEvent, erroredBy, erroredOf, nakedBy, nakedOf}
+use Rattle.receiver.specs.Receiver.{lossOf, gaveUp, errorEvent, errorTo, errorOf, nakBy, nakOf}
 use Rattle.receiver.specs.Answers.{errorAnswer, nakAnswer}
 use Rattle.receiver.specs.declared.receiver.Receiver.{Receiver}
 use Rattle.receiver.specs.declared.receiver.Timer.the-variants.{Stopped}
@@ -45,15 +45,15 @@ module _ (r : Receiver) (t : List Entry) (i : Follows (r .window .size) r t) whe
     abbrev ErrorOk : Step → Type 0
     ErrorOk = StepOk W t (retransmit-error e)
 
-    error-answer : errorAnswer r e ≡ erroredBy r e (r .asked)
-    unfolding errorAnswer erroredOf
+    error-answer : errorAnswer r e ≡ errorTo r e (r .asked)
+    unfolding errorAnswer errorOf
     error-answer = rw (passes r (i .held .valid))
 
     error-says : (a : Asked) → r .asked ≡ a → error-entry e (errorIn W (reports t) e a) ≡ answerOf W t (retransmit-error e)
     unfolding answerOf
     error-says a at = ap (λ (x : Asked). error-entry e (errorIn W (reports t) e x)) (sym at ∙ i .asked)
 
-    unasked-ok : r .asked ≡ Unasked → ErrorOk (errorStep (erroredBy r e Unasked))
+    unasked-ok : r .asked ≡ Unasked → ErrorOk (errorStep (errorTo r e Unasked))
     unasked-ok at = record {
       follows =
           follows-same W r (error-entry e (ErrorOnly e)) t i refl refl refl refl
@@ -80,7 +80,7 @@ module _ (r : Receiver) (t : List Entry) (i : Follows (r .window .size) r t) whe
       unfolding markOf
       marked-size = refl
 
-      asked-ok : ErrorOk (errorStep (erroredBy r e (AskedFor q)))
+      asked-ok : ErrorOk (errorStep (errorTo r e (AskedFor q)))
       asked-ok =
           let nm = none-missing W marked-held marked-size in
           record {
@@ -93,13 +93,13 @@ module _ (r : Receiver) (t : List Entry) (i : Follows (r .window .size) r t) whe
             says = ap (λ (x : Span). error-entry e (errorEvent e x)) (marked-span (i .held) q) ∙ error-says (AskedFor q) at;
           }
 
-    errored-ok : (a : Asked) → r .asked ≡ a → ErrorOk (errorStep (erroredBy r e a))
-    errored-ok Unasked at = unasked-ok at
-    errored-ok (AskedFor q) at = asked-ok q at
+    error-to-ok : (a : Asked) → r .asked ≡ a → ErrorOk (errorStep (errorTo r e a))
+    error-to-ok Unasked at = unasked-ok at
+    error-to-ok (AskedFor q) at = asked-ok q at
 
     pub error-ok : ErrorOk (stepOf r (retransmit-error e))
     unfolding stepOf
-    error-ok = subst (λ (h : Told). ErrorOk (errorStep h)) (sym error-answer) (errored-ok (r .asked) refl)
+    error-ok = subst (λ (h : Told). ErrorOk (errorStep h)) (sym error-answer) (error-to-ok (r .asked) refl)
 
   -- ---- a NAK
 
@@ -109,24 +109,24 @@ module _ (r : Receiver) (t : List Entry) (i : Follows (r .window .size) r t) whe
   abbrev NakOk : Step → Type 0
   NakOk = StepOk W t nak
 
-  nak-answer : nakAnswer r ≡ nakedBy r (r .asked)
-  unfolding nakAnswer nakedOf
+  nak-answer : nakAnswer r ≡ nakBy r (r .asked)
+  unfolding nakAnswer nakOf
   nak-answer = rw (passes r (i .held .valid))
 
   nak-says : (a : Asked) → r .asked ≡ a → nak-entry (nakEvent (missingIn W (reports t)) a) ≡ answerOf W t nak
   unfolding answerOf
   nak-says a at = ap (λ (x : Asked). nak-entry (nakEvent (missingIn W (reports t)) x)) (sym at ∙ i .asked)
 
-  naked-ok : (a : Asked) → r .asked ≡ a → NakOk (nakStep (nakedBy r a))
+  nak-by-ok : (a : Asked) → r .asked ≡ a → NakOk (nakStep (nakBy r a))
   unfolding gaveUp
-  naked-ok Unasked at = record {
+  nak-by-ok Unasked at = record {
     follows = elim (split (nothingMissing W (reports (nak-entry NoEvent ∷ t)))) [
       | inl n ↦ follows-rest W (r .window) (nak-entry NoEvent) t (held-quiet (i .held)) refl true n refl
       | inr n ↦ follows-on W (r .window) (nak-entry NoEvent) t (held-quiet (i .held)) refl Stopped false true Unasked n refl refl refl refl tt
     ];
     says = nak-says Unasked at;
   }
-  naked-ok (AskedFor q) at = record {
+  nak-by-ok (AskedFor q) at = record {
     follows =
         gave-up r t i (nak-entry (lossOf (missingSpan (r .window)))) true refl (sym (loss-taken (missingSpan (r .window)) (nakIn t) true));
     says = ap (λ (x : Span). nak-entry (lossOf x)) (missing-span (i .held)) ∙ nak-says (AskedFor q) at;
@@ -134,4 +134,4 @@ module _ (r : Receiver) (t : List Entry) (i : Follows (r .window .size) r t) whe
 
   pub nak-ok : NakOk (stepOf r nak)
   unfolding stepOf
-  nak-ok = subst (λ (h : Told). NakOk (nakStep h)) (sym nak-answer) (naked-ok (r .asked) refl)
+  nak-ok = subst (λ (h : Told). NakOk (nakStep h)) (sym nak-answer) (nak-by-ok (r .asked) refl)

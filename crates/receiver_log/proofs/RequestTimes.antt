@@ -56,17 +56,17 @@ module _ (cfg : StreamConfig) (w : ReceiveWindow) (refused : Bool) (passed : che
   gives-up : (f due sent : ℕ) (flag : Bool) (asked : Asked) → cfg .«max_requests» ≤ sent → pollsOf (suc f) cfg (waits due sent flag asked) ≡ polled due (lossOf (missingSpan w)) false ∷ []
   unfolding pollsOf pollAnswer polledOf validOf gaveUp
   gives-up f due sent flag asked l =
-      let now : ltb due due ≡ false = omega (arith, lifts) in
+      let due-now : ltb due due ≡ false = omega (arith, lifts) in
       let last : ltb sent (cfg .«max_requests») ≡ false = omega (arith, lifts) in
-      rw (passed, valid, now, some, last) (ap (λ (ps : List Poll). polled due (lossOf (missingSpan w)) false ∷ ps) (nothing-more f _ refl))
+      rw (passed, valid, due-now, some, last) (ap (λ (ps : List Poll). polled due (lossOf (missingSpan w)) false ∷ ps) (nothing-more f _ refl))
 
   asks-once : (f due sent : ℕ) (flag : Bool) (asked : Asked) → sent < cfg .«max_requests»
       → pollsOf (suc f) cfg (waits due sent flag asked) ≡ polled due Nothing true ∷ pollsOf f cfg (waits (delayed D (sent + 1) due) (sent + 1) true asked)
   unfolding pollsOf pollAnswer polledOf validOf dueAfter
   asks-once f due sent flag asked l =
-      let now : ltb due due ≡ false = omega (arith, lifts) in
+      let due-now : ltb due due ≡ false = omega (arith, lifts) in
       let more : ltb sent (cfg .«max_requests») ≡ true = omega (arith, lifts) in
-      rw (passed, valid, now, some, more, on)
+      rw (passed, valid, due-now, some, more, on)
 
   requests-made : (k f i time : ℕ) (flag : Bool) (asked : Asked) → i + k ≡ cfg .«max_requests» → k + 1 ≤ f
       → pollsOf f cfg (waits (delayed D i time) i flag asked) ≡ requestsFrom D i k time (lossOf (missingSpan w))
@@ -101,51 +101,51 @@ newest-missing W t l e = go (endsOf (λ b. unprocessed t (high t - b)) 1 W) (end
     go none h = absurd (never e (h 1 (omega arith) (omega arith)))
     go (ends x y) h = refl
 
-settled-window : (r : Receiver) (cfg : StreamConfig) (now : ℕ) (w : ReceiveWindow) (c : Class) → settledOf r cfg now w c .window ≡ w
+settled-window : (r : Receiver) (cfg : StreamConfig) (time : ℕ) (w : ReceiveWindow) (c : Class) → settledOf r cfg time w c .window ≡ w
 unfolding settledOf
-settled-window r cfg now w c =
+settled-window r cfg time w c =
     by-cond (λ (q : Receiver). q .window ≡ w) (eqb (missingOf w) 0) _ _ (λ n. refl)
     (λ n. by-cond (λ (q : Receiver). q .window ≡ w) (isGap c && (enabledOf r cfg && restarts (r .timer))) _ _ (λ s. refl) (λ s. refl))
 
 -- a data command that is answered is heard
-module _ (r : Receiver) (cfg : StreamConfig) (now seq : ℕ) (v : validOf r ≡ true) (d : Delivery) where
-  heard-passed : dataAnswer r cfg now seq .answer ≡ Delivered d → checkOf cfg ≡ Done
+module _ (r : Receiver) (cfg : StreamConfig) (time seq : ℕ) (v : validOf r ≡ true) (d : Delivery) where
+  heard-passed : dataAnswer r cfg time seq .answer ≡ Delivered d → checkOf cfg ≡ Done
   unfolding dataAnswer
   heard-passed e = go (checkOf cfg) refl e
     where
-      go : (k : Outcome) → checkOf cfg ≡ k → entry k (validOf r) (hearingRefused r) (heardOf r cfg now seq) .answer ≡ Delivered d → checkOf cfg ≡ Done
+      go : (k : Outcome) → checkOf cfg ≡ k → entry k (validOf r) (hearingRefused r) (heardOf r cfg time seq) .answer ≡ Delivered d → checkOf cfg ≡ Done
       go Done f g = f
       go (Refused why) f g = absurd (let z : _≡_ {A = ℕ} 0 1 = cc in omega arith)
 
-  heard-window : dataAnswer r cfg now seq .answer ≡ Delivered d
-      → (acceptOf (r .window) seq .class ≡ d .class) × (dataAnswer r cfg now seq .receiver .window ≡ acceptOf (r .window) seq .window)
+  heard-window : dataAnswer r cfg time seq .answer ≡ Delivered d
+      → (acceptOf (r .window) seq .class ≡ d .class) × (dataAnswer r cfg time seq .receiver .window ≡ acceptOf (r .window) seq .window)
   unfolding dataAnswer heardOf
   heard-window e =
-      let h : dataAnswer r cfg now seq ≡ heardOf r cfg now seq = rw (heard-passed e, v) in
-      let f : heardOf r cfg now seq .answer ≡ Delivered d = ap (λ (x : Heard). x .answer) (sym h) ∙ e in
+      let h : dataAnswer r cfg time seq ≡ heardOf r cfg time seq = rw (heard-passed e, v) in
+      let f : heardOf r cfg time seq .answer ≡ Delivered d = ap (λ (x : Heard). x .answer) (sym h) ∙ e in
       let c : acceptOf (r .window) seq .class ≡ d .class = cc in
-      (c, ap (λ (x : Heard). x .receiver .window) h ∙ settled-window r cfg now (acceptOf (r .window) seq .window) (acceptOf (r .window) seq .class))
+      (c, ap (λ (x : Heard). x .receiver .window) h ∙ settled-window r cfg time (acceptOf (r .window) seq .window) (acceptOf (r .window) seq .class))
 
 pub request-times : RequestTimes
 unfolding stepOf validOf dueAfter
-request-times W l m calls typed cfg now seq ws few d gap f answered class skipped on starts enough =
+request-times W l m calls typed cfg time seq ws few d gap f answered class skipped on starts enough =
     let r : Receiver = run W calls .receiver in
     let t = run W calls .log in
     let i = run-ok W l m calls typed in
-    let q : Receiver = dataAnswer r cfg now seq .receiver in
-    let e : Entry = data-entry cfg now seq ws (Delivered d) in
+    let q : Receiver = dataAnswer r cfg time seq .receiver in
+    let e : Entry = data-entry cfg time seq ws (Delivered d) in
     let v : validOf r ≡ true = passes r (i .held .valid) in
-    let n : Follows W q (e ∷ t) = rw answered at (step-ok W r t (data-command cfg now seq ws) i few .follows) in
-    let h = heard-window r cfg now seq v d answered in
+    let n : Follows W q (e ∷ t) = rw answered at (step-ok W r t (data-command cfg time seq ws) i few .follows) in
+    let h = heard-window r cfg time seq v d answered in
     let o : processed (q .window) 1 ≡ false = ap (λ (w : ReceiveWindow). processed w 1) (h .1) ∙ gap-open (r .window) seq gap (omega (arith, i .size)) (h .0 ∙ class) skipped in
     let u : unprocessed (reports (e ∷ t)) (high (reports (e ∷ t)) - 1) ≡ true = open-at (n .held) 1 (omega (arith, n .held .low)) ∙ ap not o in
     let missing : nothingMissing W (reports (e ∷ t)) ≡ false = newest-missing W (reports (e ∷ t)) l u in
     let some : eqb (missingOf (q .window)) 0 ≡ false = none-missing W (n .held) (n .size) ∙ missing in
     let enabled : (cfg .retransmit && not (q .refused)) ≡ true = ap (λ (x : Bool). cfg .retransmit && not x) (n .refused) ∙ on in
     let gapped : isGap (d .class) ≡ true = ap isGap class ∙ omega (arith, lifts) in
-    let timer : timerIn W (e ∷ t) ≡ Running record { due = delayed (cfg .«request_delay_ms») 0 now; sent = 0 } = rw (missing, gapped, on, starts) in
+    let timer : timerIn W (e ∷ t) ≡ Running record { due = delayed (cfg .«request_delay_ms») 0 time; sent = 0 } = rw (missing, gapped, on, starts) in
     let goal : Timer → Type 0 = λ x.
     pollsOf f cfg record { window = q .window; timer = x; «request_due» = q .«request_due»; refused = q .refused; asked = q .asked }
-    ≡ requestsFrom (cfg .«request_delay_ms») 0 (cfg .«max_requests») now (lossOf (missingSpan (q .window))) in
-    subst goal (sym (n .timer ∙ timer)) (requests-made cfg (q .window) (q .refused) (heard-passed r cfg now seq v d answered) (passes q (n .held .valid)) some enabled (cfg .«max_requests») f 0 now (q .«request_due») (q .asked) (omega arith) enough)
-    ∙ ap (λ s. requestsFrom (cfg .«request_delay_ms») 0 (cfg .«max_requests») now (lossOf s)) (missing-span (n .held) ∙ ap (λ (x : ℕ). missingIn x (reports (e ∷ t))) (n .size))
+    ≡ requestsFrom (cfg .«request_delay_ms») 0 (cfg .«max_requests») time (lossOf (missingSpan (q .window))) in
+    subst goal (sym (n .timer ∙ timer)) (requests-made cfg (q .window) (q .refused) (heard-passed r cfg time seq v d answered) (passes q (n .held .valid)) some enabled (cfg .«max_requests») f 0 time (q .«request_due») (q .asked) (omega arith) enough)
+    ∙ ap (λ s. requestsFrom (cfg .«request_delay_ms») 0 (cfg .«max_requests») time (lossOf s)) (missing-span (n .held) ∙ ap (λ (x : ℕ). missingIn x (reports (e ∷ t))) (n .size))

@@ -26,8 +26,8 @@ use Rattle.receiver_log.proofs.Taking.{take-ok}
 -- ---- one call
 
 step-at : (r : Receiver) (t : List Entry) (c : Call) → Follows (r .window .size) r t → Typed c → StepOk (r .window .size) t c (stepOf r c)
-step-at r t (data-command s now seq ws) i l = data-ok r t s now seq ws i l
-step-at r t (poll s now) i l = poll-ok r t s now i
+step-at r t (data-command s time seq ws) i l = data-ok r t s time seq ws i l
+step-at r t (poll s time) i l = poll-ok r t s time i
 step-at r t (retransmit-error e) i l = error-ok r t i e
 step-at r t nak i l = nak-ok r t i
 step-at r t (take-request s p b) i l = take-ok r t s p b i
@@ -86,8 +86,8 @@ kept W r t i = record {
 state-taken : (r : Receiver) → validOf r ≡ true → StateTaken r
 unfolding dataAnswer pollAnswer errorAnswer nakAnswer takeAnswer
 state-taken r v = record {
-  data-command = λ s now seq. rw v;
-  poll = λ s now. rw v;
+  data-command = λ s time seq. rw v;
+  poll = λ s time. rw v;
   retransmit-error = λ e. rw v;
   nak = rw v;
   take-request = λ s p b. rw v;

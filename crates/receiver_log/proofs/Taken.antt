@@ -11,7 +11,7 @@ use Rattle.config.specs.inner.Tests.{split}
 use Rattle.window.specs.Window.{processed}
 use Rattle.window.specs.Arrival.{reach, newOf, lateAt, unchanged, acceptOf}
 use Rattle.window.specs.declared.window.ReceiveWindow.{ReceiveWindow}
-use Rattle.window.specs.declared.window.Taken.{Taken}
+use Rattle.window.specs.declared.window.Arrival.{Arrival}
 use Rattle.window.specs.declared.window.Class.the-variants.{New, Late, Duplicate}
 use Rattle.window.specs.declared.window.Span.{Span}
 use Rattle.config.specs.inner.Ranges.{within-yes}
@@ -25,7 +25,7 @@ use Rattle.receiver_log.proofs.Held.{Held, open-at}
 use Rattle.receiver_log.proofs.Arrivals.{held-late, held-duplicate, held-new}
 use Rattle.receiver_log.proofs.SpanIs.{lost-span}
 
-pub record TakenOk (w : ReceiveWindow) (t : List Report) (seq : ℕ) (ws : List ℕ) (k : Taken) : Type 0 where
+pub record TakenOk (w : ReceiveWindow) (t : List Report) (seq : ℕ) (ws : List ℕ) (k : Arrival) : Type 0 where
   pub held : Held (k .window) (heard seq ws (k .class) (k .lost) ∷ t)
   pub size : k .window .size ≡ w .size
   pub class : k .class ≡ classIn (w .size) t seq

@@ -27,7 +27,7 @@ use Rattle.receiver.specs.Answers.{takeAnswer, requestRefused}
 use Rattle.receiver.specs.declared.receiver.Receiver.{Receiver}
 use Rattle.receiver.specs.declared.receiver.Asked.the-variants.{Request as AskedFor}
 use Rattle.receiver.specs.declared.receiver.Request.the-variants.{Nothing as NotDue, More, Refused as RequestRefused}
-use Rattle.receiver.specs.declared.receiver.Requested.{Requested}
+use Rattle.receiver.specs.declared.receiver.RequestWritten.{RequestWritten}
 use Rattle.receiver_log.specs.Calls.{take-request, Entry, take-entry, Step, stepOf}
 use Rattle.receiver_log.specs.Log.{Report, reports, high, unprocessed}
 use Rattle.receiver_log.specs.Spans.{Ends, none, ends, isNone, requestFrom, missingEnds, nothingMissing, requestIn}
@@ -50,10 +50,10 @@ module _ (r : Receiver) (t : List Entry) (s : StreamConfig) (p : PayloadWriter) 
   abbrev W : ℕ
   W = r .window .size
 
-  abbrev stepFrom : Requested × List ℕ → Step
+  abbrev stepFrom : RequestWritten × List ℕ → Step
   stepFrom h = record { receiver = h .0 .receiver; entry = take-entry s p b (h .0 .answer) (h .0 .payload) (h .1) }
 
-  abbrev Ok : Requested × List ℕ → Type 0
+  abbrev Ok : RequestWritten × List ℕ → Type 0
   Ok h = StepOk W t (take-request s p b) (stepFrom h)
 
   -- ---- refused

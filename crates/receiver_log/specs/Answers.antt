@@ -66,9 +66,9 @@ takeIn s p b offers request =
     entry (checkOf s) (payloadValid p (length b)) (λ why. take-entry s p b (RequestRefused why) p b) (cond offers (offered s p b request) (take-entry s p b NotDue p b))
 
 unfoldable pub answerOf : ℕ → List Entry → Call → Entry
-answerOf W t (data-command s now seq ws) = data-entry s now seq ws (tested (checkOf s) HearingRefused (Delivered (deliveryIn W (reports t) seq)))
-answerOf W t (poll s now) =
-    poll-entry s now (tested (checkOf s) EventRefused (pollEvent (missingIn W (reports t)) (tickAt (enabledIn t s) s now (timerIn W t))))
+answerOf W t (data-command s time seq ws) = data-entry s time seq ws (tested (checkOf s) HearingRefused (Delivered (deliveryIn W (reports t) seq)))
+answerOf W t (poll s time) =
+    poll-entry s time (tested (checkOf s) EventRefused (pollEvent (missingIn W (reports t)) (tickAt (enabledIn t s) s time (timerIn W t))))
 answerOf W t (retransmit-error e) = error-entry e (errorIn W (reports t) e (askedIn W t))
 answerOf W t nak = nak-entry (nakEvent (missingIn W (reports t)) (askedIn W t))
 answerOf W t (take-request s p b) = takeIn s p b (dueIn W t && enabledIn t s) (requestIn W (reports t))

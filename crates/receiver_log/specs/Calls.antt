@@ -37,12 +37,12 @@ pub record Step : Type 0 where
   pub entry : Entry
 
 unfoldable pub stepOf : Receiver → Call → Step
-stepOf r (data-command s now seq ws) =
-    let h = dataAnswer r s now seq in
-    record { receiver = h .receiver; entry = data-entry s now seq ws (h .answer) }
-stepOf r (poll s now) =
-    let h = pollAnswer r s now in
-    record { receiver = h .receiver; entry = poll-entry s now (h .event) }
+stepOf r (data-command s time seq ws) =
+    let h = dataAnswer r s time seq in
+    record { receiver = h .receiver; entry = data-entry s time seq ws (h .answer) }
+stepOf r (poll s time) =
+    let h = pollAnswer r s time in
+    record { receiver = h .receiver; entry = poll-entry s time (h .event) }
 stepOf r (retransmit-error e) =
     let h = errorAnswer r e in
     record { receiver = h .receiver; entry = error-entry e (h .event) }
@@ -68,8 +68,8 @@ run W calls = runFrom (freshOf W) [] calls
 
 -- a number has 16 bits
 abbrev pub Typed : Call → Type 0
-Typed (data-command s now seq ws) = seq < turn
-Typed (poll s now) = Unit {0}
+Typed (data-command s time seq ws) = seq < turn
+Typed (poll s time) = Unit {0}
 Typed (retransmit-error e) = Unit {0}
 Typed nak = Unit {0}
 Typed (take-request s p b) = Unit {0}

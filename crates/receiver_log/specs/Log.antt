@@ -38,9 +38,9 @@ lossIn (ErrorOnly e) = Nothing
 lossIn (EventRefused why) = Nothing
 
 abbrev pub reportOf : Entry → Report
-reportOf (data-entry s now seq ws (Delivered d)) = heard seq ws (d .class) (d .lost)
-reportOf (data-entry s now seq ws (HearingRefused why)) = told Nothing
-reportOf (poll-entry s now e) = told (lossIn e)
+reportOf (data-entry s time seq ws (Delivered d)) = heard seq ws (d .class) (d .lost)
+reportOf (data-entry s time seq ws (HearingRefused why)) = told Nothing
+reportOf (poll-entry s time e) = told (lossIn e)
 reportOf (error-entry q e) = told (lossIn e)
 reportOf (nak-entry e) = told (lossIn e)
 reportOf (take-entry s p b a q c) = told Nothing
@@ -112,7 +112,7 @@ lost (e ∷ t) x = inLoss (high (e ∷ t)) (lossOf e) x || lost t x
 unfoldable pub unprocessed : List Report → ℕ → Bool
 unprocessed t x = leb origin x && (eqb (times t x) 0 && not (lost t x))
 
--- the same, 1 to W behind the highest
+-- unprocessed, and 1 to W behind the highest
 pub record Missing (W : ℕ) (t : List Report) (x : ℕ) : Type 0 where
   pub from-0 : origin ≤ x
   pub below : x < high t

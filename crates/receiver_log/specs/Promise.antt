@@ -16,7 +16,7 @@ use Rattle.window.specs.Set.{maxWindow}
 use Rattle.window.specs.Window.{processed, missingSpan, requestOf}
 use Rattle.window.specs.declared.window.Span.{Span}
 use Rattle.window.specs.declared.window.Span.the-variants.{Nothing, Of}
-use Rattle.receiver.specs.Receiver.{validOf, heardOf, polledOf, erroredOf, nakedOf, takenOf}
+use Rattle.receiver.specs.Receiver.{validOf, heardOf, polledOf, errorOf, nakOf, takenOf}
 use Rattle.receiver.specs.Answers.{dataAnswer, hearingRefused, pollAnswer, eventRefused, errorAnswer, nakAnswer, takeAnswer, requestRefused}
 use Rattle.receiver.specs.declared.receiver.Receiver.{Receiver}
 use Rattle.receiver_log.specs.Calls.{Call, Entry, stepOf, run, AllTyped, Typed}
@@ -60,10 +60,10 @@ pub record Kept (W : ℕ) (r : Receiver) (t : List Entry) : Type 0 where
 
 -- no call is refused for the receiver's state: what is left are its settings (9, 7, 8) and, for taking a request, the payload
 pub record StateTaken (r : Receiver) : Type 0 where
-  pub data-command : (s : StreamConfig) (now seq : ℕ) → dataAnswer r s now seq ≡ tested (checkOf s) (hearingRefused r) (heardOf r s now seq)
-  pub poll : (s : StreamConfig) (now : ℕ) → pollAnswer r s now ≡ tested (checkOf s) (eventRefused r) (polledOf r s now)
-  pub retransmit-error : (e : RetransmitError) → errorAnswer r e ≡ erroredOf r e
-  pub nak : nakAnswer r ≡ nakedOf r
+  pub data-command : (s : StreamConfig) (time seq : ℕ) → dataAnswer r s time seq ≡ tested (checkOf s) (hearingRefused r) (heardOf r s time seq)
+  pub poll : (s : StreamConfig) (time : ℕ) → pollAnswer r s time ≡ tested (checkOf s) (eventRefused r) (polledOf r s time)
+  pub retransmit-error : (e : RetransmitError) → errorAnswer r e ≡ errorOf r e
+  pub nak : nakAnswer r ≡ nakOf r
   pub take-request : (s : StreamConfig) (p : PayloadWriter) (b : List ℕ)
       → takeAnswer r s p b
       ≡ entry (checkOf s) (payloadValid p (length b)) (requestRefused r p b) (takenOf r s p b)

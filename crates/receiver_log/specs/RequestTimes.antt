@@ -57,14 +57,14 @@ unfoldable pub requestsFrom : ℕ → ℕ → ℕ → ℕ → StreamEvent → Li
 requestsFrom D i zero time loss = polled (delayed D i time) loss false ∷ []
 requestsFrom D i (suc k) time loss = polled (delayed D i time) Nothing true ∷ requestsFrom D (i + 1) k (delayed D i time) loss
 
--- A data command that is answered New with a gap at `now`, requests enabled, when no timer runs or when the running one has made a request due; then silence:
+-- A data command that is answered New with a gap at `time`, requests enabled, when no timer runs or when the running one has made a request due; then silence:
 -- M requests, then the missing span as a loss, then no further due time.
 abbrev pub RequestTimes : Type 0
 RequestTimes =
-    (W : ℕ) → 1 ≤ W → W ≤ maxWindow → (calls : List Call) → AllTyped calls → (cfg : StreamConfig) (now seq : ℕ) (ws : List ℕ) → seq < turn
+    (W : ℕ) → 1 ≤ W → W ≤ maxWindow → (calls : List Call) → AllTyped calls → (cfg : StreamConfig) (time seq : ℕ) (ws : List ℕ) → seq < turn
     → (let t = logOf W calls in
-    let a = dataAnswer (run W calls .receiver) cfg now seq in
+    let a = dataAnswer (run W calls .receiver) cfg time seq in
     (d : Delivery) (gap f : ℕ) → a .answer ≡ Delivered d → d .class ≡ New gap → 0 < gap
     → enabledIn t cfg ≡ true → restarts (timerIn W t) ≡ true → cfg .«max_requests» + 1 ≤ f
     → pollsOf f cfg (a .receiver)
-    ≡ requestsFrom (cfg .«request_delay_ms») 0 (cfg .«max_requests») now (lossOf (missingIn W (reports (data-entry cfg now seq ws (Delivered d) ∷ t)))))
+    ≡ requestsFrom (cfg .«request_delay_ms») 0 (cfg .«max_requests») time (lossOf (missingIn W (reports (data-entry cfg time seq ws (Delivered d) ∷ t)))))

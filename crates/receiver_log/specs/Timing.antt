@@ -31,8 +31,8 @@ unlessRefused (ErrorOnly e) before next = next
 unlessRefused (EventRefused why) before next = before
 
 abbrev pub nakAfter : Bool → Entry → Bool
-nakAfter k (data-entry s now seq ws a) = k
-nakAfter k (poll-entry s now e) = k
+nakAfter k (data-entry s time seq ws a) = k
+nakAfter k (poll-entry s time e) = k
 nakAfter k (error-entry q e) = k
 nakAfter k (nak-entry e) = unlessRefused e k true
 nakAfter k (take-entry s p b a q c) = k
@@ -54,25 +54,25 @@ pub data Tick : Type 0 where
   gives-up : Tick
 
 abbrev pub tickAt : Bool → StreamConfig → ℕ → Timer → Tick
-tickAt enabled s now Stopped = waits
-tickAt enabled s now (Running k) = cond (ltb now (k .due)) waits (cond (ltb (k .sent) (s .«max_requests») && enabled) asks gives-up)
+tickAt enabled s time Stopped = waits
+tickAt enabled s time (Running k) = cond (ltb time (k .due)) waits (cond (ltb (k .sent) (s .«max_requests») && enabled) asks gives-up)
 
 -- the next delay
 abbrev pub later : StreamConfig → ℕ → Timer → Timer
-later s now Stopped = Stopped
-later s now (Running k) = Running record { due = dueAfter (s .«request_delay_ms») (k .sent + 1) now; sent = k .sent + 1 }
+later s time Stopped = Stopped
+later s time (Running k) = Running record { due = dueAfter (s .«request_delay_ms») (k .sent + 1) time; sent = k .sent + 1 }
 
 abbrev pub ticked : StreamConfig → ℕ → Timer → Tick → Timer
-ticked s now k waits = k
-ticked s now k asks = later s now k
-ticked s now k gives-up = Stopped
+ticked s time k waits = k
+ticked s time k asks = later s time k
+ticked s time k gives-up = Stopped
 
 -- If requests are enabled, a new gap starts the timer at D when none runs or when the running one has made a request due.
 abbrev pub timerAfter : List Entry → Timer → Entry → Timer
-timerAfter t k (data-entry s now seq ws (Delivered d)) =
-    cond (isGap (d .class) && (enabledIn t s && restarts k)) (Running record { due = dueAfter (s .«request_delay_ms») 0 now; sent = 0 }) k
-timerAfter t k (data-entry s now seq ws (HearingRefused why)) = k
-timerAfter t k (poll-entry s now e) = unlessRefused e k (ticked s now k (tickAt (enabledIn t s) s now k))
+timerAfter t k (data-entry s time seq ws (Delivered d)) =
+    cond (isGap (d .class) && (enabledIn t s && restarts k)) (Running record { due = dueAfter (s .«request_delay_ms») 0 time; sent = 0 }) k
+timerAfter t k (data-entry s time seq ws (HearingRefused why)) = k
+timerAfter t k (poll-entry s time e) = unlessRefused e k (ticked s time k (tickAt (enabledIn t s) s time k))
 timerAfter t k (error-entry q e) = k
 timerAfter t k (nak-entry e) = unlessRefused e k Stopped
 timerAfter t k (take-entry s p b a q c) = k
@@ -97,8 +97,8 @@ dueTaken due More = due
 dueTaken due (RequestRefused why) = due
 
 abbrev pub dueThen : List Entry → Timer → Bool → Entry → Bool
-dueThen t k due (data-entry s now seq ws a) = due
-dueThen t k due (poll-entry s now e) = unlessRefused e due (duePolled due (tickAt (enabledIn t s) s now k))
+dueThen t k due (data-entry s time seq ws a) = due
+dueThen t k due (poll-entry s time e) = unlessRefused e due (duePolled due (tickAt (enabledIn t s) s time k))
 dueThen t k due (error-entry q e) = due
 dueThen t k due (nak-entry e) = unlessRefused e due false
 dueThen t k due (take-entry s p b a q c) = dueTaken due a
@@ -122,8 +122,8 @@ askedTaken before request (RequestRefused why) = before
 
 -- the last request that was written; a Retransmit Error or a NAK uses it up
 abbrev pub askedAfter : ℕ → List Entry → Asked → Entry → Asked
-askedAfter W t k (data-entry s now seq ws a) = k
-askedAfter W t k (poll-entry s now e) = k
+askedAfter W t k (data-entry s time seq ws a) = k
+askedAfter W t k (poll-entry s time e) = k
 askedAfter W t k (error-entry q e) = unlessRefused e k Unasked
 askedAfter W t k (nak-entry e) = unlessRefused e k Unasked
 askedAfter W t k (take-entry s p b a q c) = askedTaken k (requestIn W (reports t)) a

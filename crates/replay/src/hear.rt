@@ -2,7 +2,7 @@
 use super::items;
 use super::streams;
 use c_codec::exports as c;
-use reading::next::Read;
+use read_command::next::Read;
 use script::answers;
 use script::calls;
 use script::calls::Call;
@@ -12,10 +12,10 @@ use text::lines;
 use text::out;
 
 // The call that takes a command; 0 where none does.
-fn call_of(r: Read, now: u64) -> Call {
+fn call_of(r: Read, time: u64) -> Call {
     let kind = r.kind;
     match kind {
-        items::DATA => made(calls::DATA, now, r.seq as u64),
+        items::DATA => made(calls::DATA, time, r.seq as u64),
         items::REQUEST => made(calls::REQUEST, r.seq as u64, r.count as u64),
         items::ERROR => made(calls::ERROR, r.code as u64, r.seq as u64),
         _ => made(0, 0, 0),
@@ -77,7 +77,7 @@ fn heard(
     mut s: Session,
     r: Read,
     at: usize,
-    now: u64,
+    time: u64,
     words: &[u32],
     stream: &mut [u64],
     settings: &[u32],
@@ -91,7 +91,7 @@ fn heard(
     }
     let between = apart(out, s.waits, at);
     s.waits = between;
-    let mut done = given(s, call_of(r, now), stream, settings, memory);
+    let mut done = given(s, call_of(r, time), stream, settings, memory);
     let waits = answer(out, done, r, words);
     done.waits = waits;
     done
@@ -100,7 +100,7 @@ fn heard(
 // Each command; words and lengths of messages are lent to the reading.
 fn commands(
     s: Session,
-    now: u64,
+    time: u64,
     bytes: &[u8],
     words: &mut [u32],
     lens: &mut [u8],
@@ -118,7 +118,7 @@ fn commands(
             session,
             read,
             at,
-            now,
+            time,
             &words[..],
             stream,
             settings,
@@ -134,7 +134,7 @@ fn commands(
 // A payload, if it begins with its signature.
 fn payload(
     mut s: Session,
-    now: u64,
+    time: u64,
     bytes: &[u8],
     stream: &mut [u64],
     settings: &[u32],
@@ -147,7 +147,7 @@ fn payload(
     if number == 0 {
         return commands(
             s,
-            now,
+            time,
             bytes,
             &mut words,
             &mut lens,

@@ -1,6 +1,6 @@
 // What reading a payload finds, as text, the parts of an item joined by colons.
 use c_codec::exports as c;
-use reading::next::Read;
+use read_command::next::Read;
 use script::answers;
 use script::answers::of;
 use text::fields;
@@ -145,7 +145,7 @@ fn cut(r: Read) -> u64 {
     0
 }
 
-// The same of the words of a data command, which are laid out as they come over the line.
+// What a data command of this class hands on: its words are laid out as they come over the line.
 pub fn heard(to: &mut [u8], used: usize, words: &[u32]) -> usize {
     let mut payload = [0u64, 1400];
     let mut bytes = [0u8; 1400];

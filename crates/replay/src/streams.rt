@@ -10,7 +10,7 @@ use script::session;
 use script::session::Session;
 use text::forms::Answer;
 
-// The stream of a run's start: a window of 64, a history of 256 words, a request ring of 4 places.
+// The stream of a run's start: a window of 64, a history of 256 words, a request queue of 4 places.
 pub fn first(stream: &mut [u64], settings: &[u32], memory: &mut [u32]) -> Session {
     let n = session::lent(&memory[..], 256);
     c::sirmjold_stream_new(stream, settings, 64, 4, &mut memory[..n]);

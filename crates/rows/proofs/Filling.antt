@@ -184,7 +184,7 @@ start-most p room v = elim (split (eqb (p .len) 0)) [
       rw z m
 ]
 
--- the same of a row that is known
+-- what holds of every row, of one whose outcome is known
 module _ (cs : List Packet) (p : PayloadWriter) (b : List ℕ) (q : PayloadWriter) (bytes : List ℕ) (n : ℕ) (whole : Bool) (out : rowOf p b cs ≡ rowWith q bytes n whole) where
   pub out-valid : payloadValid p (length b) ≡ true → payloadValid q (length bytes) ≡ true
   out-valid v = rw out at (row-valid cs p b v)

@@ -8,7 +8,7 @@
 // The history's words lie in a slice that the caller lends, here `ring`. Nothing here has a state.
 //
 //   rows    `Row`, what a row has come to; how far a request reaches
-//   valid   rows of entries, the row of an error, and the entries that are repeated, over a payload and
+//   tested  rows of entries, the row of an error, and the entries that are repeated, over a payload and
 //           entries that were tested, for the sender
 pub mod rows;
-pub mod valid;
+pub mod tested;

@@ -68,7 +68,7 @@ module _ (s : Sender) (ring : List ℕ) where
         rw (v, one, two)
 
 -- ---- a write
-pub write-settings : (s : Sender) (cfg : StreamConfig) (now : ℕ) (p : PayloadWriter) (b ring : List ℕ) (why : Refusal) → checkOf cfg ≡ Refused why
-    → writeRefused s p b ring why ≡ writeAnswer s cfg now p b ring
+pub write-settings : (s : Sender) (cfg : StreamConfig) (time : ℕ) (p : PayloadWriter) (b ring : List ℕ) (why : Refusal) → checkOf cfg ≡ Refused why
+    → writeRefused s p b ring why ≡ writeAnswer s cfg time p b ring
 unfolding writeAnswer
-write-settings s cfg now p b ring why e = rw e
+write-settings s cfg time p b ring why e = rw e

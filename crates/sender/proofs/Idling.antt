@@ -31,29 +31,29 @@ use Rattle.sender.proofs.Queued.{pushed-good}
 use Rattle.sender.proofs.Validity.{passes, valid-history, valid-queue, valid-good}
 
 -- ---- the command that is queued
-module _ (s : Sender) (cfg : StreamConfig) (now : ℕ) (ring : List ℕ) where
-  pub idled-off : s .idle ≡ Off → (s, ring) ≡ idledOf s cfg now ring
+module _ (s : Sender) (cfg : StreamConfig) (time : ℕ) (ring : List ℕ) where
+  pub idled-off : s .idle ≡ Off → (s, ring) ≡ idledOf s cfg time ring
   unfolding idledOf
-  idled-off e = sym (ap (idledBy s cfg now ring) e)
+  idled-off e = sym (ap (idledBy s cfg time ring) e)
 
-  pub idled-unsent : 0 < s .unsent → (s, ring) ≡ idledOf s cfg now ring
+  pub idled-unsent : 0 < s .unsent → (s, ring) ≡ idledOf s cfg time ring
   unfolding idledOf
   idled-unsent h = by (s .idle)
     where
-      by : (t : IdleTimer) → (s, ring) ≡ idledBy s cfg now ring t
+      by : (t : IdleTimer) → (s, ring) ≡ idledBy s cfg time ring t
       by Off = refl
       by (Waiting i) = rw (lt-ltb 0 (s .unsent) h)
 
   module _ (i : Idle) (e : s .idle ≡ Waiting i) where
     module _ (none : s .unsent ≤ 0) where
-      pub idled-early : now < i .due → (s, ring) ≡ idledOf s cfg now ring
+      pub idled-early : time < i .due → (s, ring) ≡ idledOf s cfg time ring
       unfolding idledOf
-      idled-early h = sym (ap (idledBy s cfg now ring) e ∙ rw (le-ltb _ _ none, lt-ltb _ _ h))
+      idled-early h = sym (ap (idledBy s cfg time ring) e ∙ rw (le-ltb _ _ none, lt-ltb _ _ h))
 
-      pub idled-queued : (h : SendHistory) (next : List ℕ) (t : IdleTimer) → i .due ≤ now → (h, next) ≡ pushed (s .history) ring [] → t ≡ idleNext cfg now i
-          → (withIdle (holding s h 1 1) t, next) ≡ idledOf s cfg now ring
+      pub idled-queued : (h : SendHistory) (next : List ℕ) (t : IdleTimer) → i .due ≤ time → (h, next) ≡ pushed (s .history) ring [] → t ≡ idleNext cfg time i
+          → (withIdle (holding s h 1 1) t, next) ≡ idledOf s cfg time ring
       unfolding idledOf
-      idled-queued h next t l p f = sym (ap (idledBy s cfg now ring) e ∙ rw (le-ltb _ _ none, le-ltb _ _ l, ← p, f))
+      idled-queued h next t l p f = sym (ap (idledBy s cfg time ring) e ∙ rw (le-ltb _ _ none, le-ltb _ _ l, ← p, f))
 
 -- ---- the state stays one that passes the test
 -- no command is unwritten, and no word
@@ -65,42 +65,42 @@ valid-none s ring v e =
     let z : length es - s .unsent ≡ length es = omega arith in
     sym u ∙ rw (z, drop-length es)
 
-module _ (s : Sender) (cfg : StreamConfig) (now : ℕ) (ring : List ℕ) (v : validOf s ring ≡ true) (o : s .history .oldest < turn) (few : cfg .«fec_repeats» ≤ 255) (less : cfg .«idle_further» ≤ 255) where
-  queued-kept : (i : Idle) → s .unsent ≡ 0 → validOf (withIdle (holding s (pushed (s .history) ring [] .0) 1 1) (idleNext cfg now i)) (pushed (s .history) ring [] .1) ≡ true
+module _ (s : Sender) (cfg : StreamConfig) (time : ℕ) (ring : List ℕ) (v : validOf s ring ≡ true) (o : s .history .oldest < turn) (few : cfg .«fec_repeats» ≤ 255) (less : cfg .«idle_further» ≤ 255) where
+  queued-kept : (i : Idle) → s .unsent ≡ 0 → validOf (withIdle (holding s (pushed (s .history) ring [] .0) 1 1) (idleNext cfg time i)) (pushed (s .history) ring [] .1) ≡ true
   queued-kept i e =
       let w = valid-none s ring v e in
       let p = pushed-state (s .history) ring (s .unsent) (s .«unsent_words») (valid-history s ring v) o [] (omega arith) (omega (arith, valid-good s ring v .least)) in
-      passes (withIdle (holding s (pushed (s .history) ring [] .0) 1 1) (idleNext cfg now i)) (pushed (s .history) ring [] .1) p (valid-queue s ring v) (next-ok cfg now i few less)
+      passes (withIdle (holding s (pushed (s .history) ring [] .0) 1 1) (idleNext cfg time i)) (pushed (s .history) ring [] .1) p (valid-queue s ring v) (next-ok cfg time i few less)
 
-  pub idled-kept : validOf (idledOf s cfg now ring .0) (idledOf s cfg now ring .1) ≡ true
+  pub idled-kept : validOf (idledOf s cfg time ring .0) (idledOf s cfg time ring .1) ≡ true
   unfolding idledOf
   idled-kept = by (s .idle)
     where
-      by : (t : IdleTimer) → validOf (idledBy s cfg now ring t .0) (idledBy s cfg now ring t .1) ≡ true
+      by : (t : IdleTimer) → validOf (idledBy s cfg time ring t .0) (idledBy s cfg time ring t .1) ≡ true
       by Off = v
-      by (Waiting i) = elim (split (ltb 0 (s .unsent) || ltb now (i .due))) [
+      by (Waiting i) = elim (split (ltb 0 (s .unsent) || ltb time (i .due))) [
         | inl a ↦ rw a v
         | inr a ↦ rw a (queued-kept i (omega (arith, ltb-false 0 (s .unsent) (or-left _ _ a))))
       ]
 
-  pub idled-next : (next : Sender) (words : List ℕ) → (next, words) ≡ idledOf s cfg now ring → validOf next words ≡ true
+  pub idled-next : (next : Sender) (words : List ℕ) → (next, words) ≡ idledOf s cfg time ring → validOf next words ≡ true
   idled-next next words e = rw (← e) at idled-kept
 
-  pub idled-number : idledOf s cfg now ring .0 .history .oldest < turn
+  pub idled-number : idledOf s cfg time ring .0 .history .oldest < turn
   unfolding idledOf
   idled-number = by (s .idle)
     where
-      by : (t : IdleTimer) → idledBy s cfg now ring t .0 .history .oldest < turn
+      by : (t : IdleTimer) → idledBy s cfg time ring t .0 .history .oldest < turn
       by Off = o
-      by (Waiting i) = elim (split (ltb 0 (s .unsent) || ltb now (i .due))) [
+      by (Waiting i) = elim (split (ltb 0 (s .unsent) || ltb time (i .due))) [
         | inl a ↦ rw a o
         | inr a ↦ rw a (pushed-good (s .history) ring [] (valid-good s ring v) o (omega arith) .1)
       ]
 
 -- where a command was unwritten, the first one to repeat stands where it stood
-pub again-kept : (s : Sender) (cfg : StreamConfig) (now : ℕ) (ring : List ℕ) (r place : ℕ) → AgainAt s ring r place
-    → (next : Sender) (words : List ℕ) → (next, words) ≡ idledOf s cfg now ring → ltb 0 (s .unsent) ≡ true → AgainAt next words r place
-again-kept s cfg now ring r place a next words e k =
+pub again-kept : (s : Sender) (cfg : StreamConfig) (time : ℕ) (ring : List ℕ) (r place : ℕ) → AgainAt s ring r place
+    → (next : Sender) (words : List ℕ) → (next, words) ≡ idledOf s cfg time ring → ltb 0 (s .unsent) ≡ true → AgainAt next words r place
+again-kept s cfg time ring r place a next words e k =
     let some : 0 < s .unsent = omega (arith, tests) in
-    let f : _≡_ {A = Sender × List ℕ} (next, words) (s, ring) = e ∙ sym (idled-unsent s cfg now ring some) in
+    let f : _≡_ {A = Sender × List ℕ} (next, words) (s, ring) = e ∙ sym (idled-unsent s cfg time ring some) in
     subst (λ (z : Sender × List ℕ). AgainAt (z .0) (z .1) r place) (sym f) a

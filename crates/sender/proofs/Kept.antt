@@ -199,24 +199,24 @@ off-state (suc n) h ring unsent words o l m ok =
 abbrev pub Leaves : List ℕ → Wrote × List ℕ × List ℕ → Type 0
 Leaves b w = (validOf (w .0 .sender) (w .2) ≡ true) × (payloadValid (w .0 .payload) (length (w .1)) ≡ true) × (length (w .1) ≡ length b)
 
-off-kept : (s : Sender) (cfg : StreamConfig) (now : ℕ) (ring : List ℕ) (n : ℕ) → validOf s ring ≡ true → s .history .oldest < turn → n ≤ s .unsent → validOf (writtenOff s cfg now ring n) ring ≡ true
+off-kept : (s : Sender) (cfg : StreamConfig) (time : ℕ) (ring : List ℕ) (n : ℕ) → validOf s ring ≡ true → s .history .oldest < turn → n ≤ s .unsent → validOf (writtenOff s cfg time ring n) ring ≡ true
 unfolding writtenOff
-off-kept s cfg now ring n v o l =
+off-kept s cfg time ring n v o l =
     passes _ ring (off-state n (s .history) ring (s .unsent) (s .«unsent_words») o l (valid-unsent s ring v) (valid-history s ring v)) (valid-queue s ring v)
     (by (anyWords (packetsFrom n ring (headerAt (writtenCount s) ring (s .history .head)))))
   where
-    by : (t : Bool) → idleOk (cond t (idleStart cfg now) (s .idle)) ≡ true
+    by : (t : Bool) → idleOk (cond t (idleStart cfg time) (s .idle)) ≡ true
     by true = refl
     by false = valid-idle s ring v
 
-module _ (s : Sender) (cfg : StreamConfig) (now n : ℕ) (p : PayloadWriter) (b ring : List ℕ) (v : validOf s ring ≡ true) (o : s .history .oldest < turn) (k : payloadValid p (length b) ≡ true) where
-  row-kept : (again cs : List Packet) → length cs ≤ s .unsent → Leaves b (newRow s cfg now n ring (length again) (rowOf p b (again ++ cs)) .0, newRow s cfg now n ring (length again) (rowOf p b (again ++ cs)) .1, ring)
+module _ (s : Sender) (cfg : StreamConfig) (time n : ℕ) (p : PayloadWriter) (b ring : List ℕ) (v : validOf s ring ≡ true) (o : s .history .oldest < turn) (k : payloadValid p (length b) ≡ true) where
+  row-kept : (again cs : List Packet) → length cs ≤ s .unsent → Leaves b (newRow s cfg time n ring (length again) (rowOf p b (again ++ cs)) .0, newRow s cfg time n ring (length again) (rowOf p b (again ++ cs)) .1, ring)
   row-kept again cs l =
       let out = rowOf p b (again ++ cs) in
       let m : out .written ≤ length again + length cs = simp length-append at (row-few (again ++ cs) p b) in
-      (off-kept s cfg now ring (out .written - length again) v o (omega arith), row-valid (again ++ cs) p b k, row-length (again ++ cs) p b)
+      (off-kept s cfg time ring (out .written - length again) v o (omega arith), row-valid (again ++ cs) p b k, row-length (again ++ cs) p b)
 
-  new-kept : Leaves b (newOf s cfg now n p b ring .0, newOf s cfg now n p b ring .1, ring)
+  new-kept : Leaves b (newOf s cfg time n p b ring .0, newOf s cfg time n p b ring .1, ring)
   unfolding newOf
   new-kept = by (commandsAt s ring (writtenCount s) (s .unsent)) (omega (arith, length-packets (s .unsent) ring (headerAt (writtenCount s) ring (s .history .head))))
     where
@@ -225,23 +225,23 @@ module _ (s : Sender) (cfg : StreamConfig) (now n : ℕ) (p : PayloadWriter) (b 
       pick true true w h = (v, k, refl)
       pick true false w h = (v, k, refl)
 
-      by : (cs : List Packet) → length cs ≤ s .unsent → Leaves b (newBy s cfg now n p b ring cs .0, newBy s cfg now n p b ring cs .1, ring)
+      by : (cs : List Packet) → length cs ≤ s .unsent → Leaves b (newBy s cfg time n p b ring cs .0, newBy s cfg time n p b ring cs .1, ring)
       by [] l = (v, k, refl)
       by (c ∷ cs) l =
           let r : ℕ = min (cfg .«fec_repeats») (writtenCount s) in
           pick (not (fitAll p b (c ∷ []))) (eqb (p .len) 0) _ (row-kept (repeatsOf p b c (commandsAt s ring (writtenCount s - r) r)) (c ∷ cs) l)
 
-pub write-kept : (s : Sender) (cfg : StreamConfig) (now : ℕ) (p : PayloadWriter) (b ring : List ℕ) → validOf s ring ≡ true → s .history .oldest < turn → payloadValid p (length b) ≡ true
+pub write-kept : (s : Sender) (cfg : StreamConfig) (time : ℕ) (p : PayloadWriter) (b ring : List ℕ) → validOf s ring ≡ true → s .history .oldest < turn → payloadValid p (length b) ≡ true
     → cfg .«fec_repeats» ≤ 255 → cfg .«idle_further» ≤ 255
-    → Leaves b (writtenBy s cfg now p b ring)
+    → Leaves b (writtenBy s cfg time p b ring)
 unfolding writtenBy
-write-kept s cfg now p b ring v o k few less =
+write-kept s cfg time p b ring v o k few less =
     let served = servedOf s ring p b in
     let z = served-sound s ring p b v k in
     let n : served .sender .history .oldest < turn = rw (z .history) o in
-    let idled = idledOf (served .sender) cfg now ring in
+    let idled = idledOf (served .sender) cfg time ring in
     let w =
-    new-kept (idled .0) cfg now (served .written) (served .payload) (served .bytes) (idled .1) (idled-kept (served .sender) cfg now ring (z .state) n few less) (idled-number (served .sender) cfg now ring (z .state) n few less) (z .payload) in
+    new-kept (idled .0) cfg time (served .written) (served .payload) (served .bytes) (idled .1) (idled-kept (served .sender) cfg time ring (z .state) n few less) (idled-number (served .sender) cfg time ring (z .state) n few less) (z .payload) in
     pick (served .more) _ _ (z .state, z .payload, z .same) (w .0, w .1, w .2 ∙ z .same)
   where
     pick : (t : Bool) (x y : Wrote × List ℕ × List ℕ) → Leaves b x → Leaves b y → Leaves b (cond t x y)

@@ -32,16 +32,16 @@ use Rattle.sender.proofs.Validity.{valid-history, valid-good, valid-uns
 
 -- ---- what a row takes off the unwritten commands
 abbrev pub startsIdle : Sender → StreamConfig → ℕ → ℕ → ℕ → IdleTimer
-startsIdle s cfg now n words = cond (ltb n words) (idleStart cfg now) (s .idle)
+startsIdle s cfg time n words = cond (ltb n words) (idleStart cfg time) (s .idle)
 
-module _ (s : Sender) (cfg : StreamConfig) (now n words : ℕ) where
-  pub off-starts : (t : IdleTimer) → n < words → t ≡ idleStart cfg now → takenOff s n words t ≡ takenOff s n words (startsIdle s cfg now n words)
+module _ (s : Sender) (cfg : StreamConfig) (time n words : ℕ) where
+  pub off-starts : (t : IdleTimer) → n < words → t ≡ idleStart cfg time → takenOff s n words t ≡ takenOff s n words (startsIdle s cfg time n words)
   off-starts t h e = rw (lt-ltb _ _ h, e)
 
-  pub off-stays : words ≤ n → takenOff s n words (s .idle) ≡ takenOff s n words (startsIdle s cfg now n words)
+  pub off-stays : words ≤ n → takenOff s n words (s .idle) ≡ takenOff s n words (startsIdle s cfg time n words)
   off-stays h = rw (le-ltb _ _ h)
 
-  pub off-is : (ring : List ℕ) → words ≡ wordsFrom n ring (headerAt (writtenCount s) ring (s .history .head)) → takenOff s n words (startsIdle s cfg now n words) ≡ writtenOff s cfg now ring n
+  pub off-is : (ring : List ℕ) → words ≡ wordsFrom n ring (headerAt (writtenCount s) ring (s .history .head)) → takenOff s n words (startsIdle s cfg time n words) ≡ writtenOff s cfg time ring n
   unfolding writtenOff
   off-is ring e = rw (any-words n ring (headerAt (writtenCount s) ring (s .history .head)), e)
 
@@ -117,37 +117,37 @@ module _ (s : Sender) (ring : List ℕ) (v : validOf s ring ≡ true) (p : Paylo
       pub row-words : (words ≤ free - left) × (free - left - words ≤ s .«unsent_words»)
       row-words = let t = took in let n = new-most in (omega arith, omega arith)
 
-      pub row-wrote : (cfg : StreamConfig) (now before : ℕ) (next : Sender) → next ≡ takenOff s (m - count) (free - left - words) (startsIdle s cfg now (m - count) (free - left - words))
-          → (wrote next q (before + m) (not whole), bytes) ≡ newRow s cfg now before ring count (rowOf p b (packetsFrom (count + s .unsent) ring at))
-      row-wrote cfg now before next e =
+      pub row-wrote : (cfg : StreamConfig) (time before : ℕ) (next : Sender) → next ≡ takenOff s (m - count) (free - left - words) (startsIdle s cfg time (m - count) (free - left - words))
+          → (wrote next q (before + m) (not whole), bytes) ≡ newRow s cfg time before ring count (rowOf p b (packetsFrom (count + s .unsent) ring at))
+      row-wrote cfg time before next e =
           let o : free - left - words ≡ new = let t = took in omega arith in
-          rw (out, e, off-is s cfg now (m - count) (free - left - words) ring o)
+          rw (out, e, off-is s cfg time (m - count) (free - left - words) ring o)
 
 -- ---- the ways out of `write_new`
-module _ (s : Sender) (cfg : StreamConfig) (now n : ℕ) (p : PayloadWriter) (b ring : List ℕ) where
-  pub new-none : s .unsent ≡ 0 → (wrote s p n false, b) ≡ newOf s cfg now n p b ring
+module _ (s : Sender) (cfg : StreamConfig) (time n : ℕ) (p : PayloadWriter) (b ring : List ℕ) where
+  pub new-none : s .unsent ≡ 0 → (wrote s p n false, b) ≡ newOf s cfg time n p b ring
   unfolding newOf packetsFrom
-  new-none e = sym (ap (λ (m : ℕ). newBy s cfg now n p b ring (packetsFrom m ring (headerAt (writtenCount s) ring (s .history .head)))) e)
+  new-none e = sym (ap (λ (m : ℕ). newBy s cfg time n p b ring (packetsFrom m ring (headerAt (writtenCount s) ring (s .history .head)))) e)
 
   module _ (some : s .unsent ≡ 0 → ⊥) (first : ℕ) (e : first ≡ headerAt (writtenCount s) ring (s .history .head)) where
     news : packetsFrom (s .unsent) ring first ≡ entryPacket ring first ∷ packetsFrom (s .unsent - 1) ring (nextAt ring first)
     news = packets-first (s .unsent) ring first (omega arith)
 
-    new-by : newOf s cfg now n p b ring ≡ newBy s cfg now n p b ring (entryPacket ring first ∷ packetsFrom (s .unsent - 1) ring (nextAt ring first))
+    new-by : newOf s cfg time n p b ring ≡ newBy s cfg time n p b ring (entryPacket ring first ∷ packetsFrom (s .unsent - 1) ring (nextAt ring first))
     unfolding newOf
-    new-by = rw (← e) (ap (newBy s cfg now n p b ring) news)
+    new-by = rw (← e) (ap (newBy s cfg time n p b ring) news)
 
-    pub new-large : freeOf p (length b) ≤ lengthAt ring first → p .len ≡ 0 → (refused s p, b) ≡ newOf s cfg now n p b ring
+    pub new-large : freeOf p (length b) ≤ lengthAt ring first → p .len ≡ 0 → (refused s p, b) ≡ newOf s cfg time n p b ring
     new-large h z = sym (new-by ∙ rw (first-none p b ring first h, eq-eqb _ _ z))
 
-    pub new-more : freeOf p (length b) ≤ lengthAt ring first → (p .len ≡ 0 → ⊥) → (wrote s p n true, b) ≡ newOf s cfg now n p b ring
+    pub new-more : freeOf p (length b) ≤ lengthAt ring first → (p .len ≡ 0 → ⊥) → (wrote s p n true, b) ≡ newOf s cfg time n p b ring
     new-more h z = sym (new-by ∙ rw (first-none p b ring first h, ne-eqb _ _ z))
 
     pub new-row : (w : Wrote × List ℕ) → lengthAt ring first < freeOf p (length b) → (k at count place : ℕ) → k ≡ min (cfg .«fec_repeats») (writtenCount s) → at ≡ headerAt (writtenCount s - k) ring (s .history .head)
         → packetsFrom count ring place ≡ repeatsOf p b (entryPacket ring first) (packetsFrom k ring at)
         → headerAt count ring place ≡ first
-        → w ≡ newRow s cfg now n ring count (rowOf p b (packetsFrom (count + s .unsent) ring place))
-        → w ≡ newOf s cfg now n p b ring
+        → w ≡ newRow s cfg time n ring count (rowOf p b (packetsFrom (count + s .unsent) ring place))
+        → w ≡ newOf s cfg time n p b ring
     new-row w h k at count place f g a l u =
         let r = rw (g, f) at a in
         let c : packetsFrom (count + s .unsent) ring place ≡ packetsFrom count ring place ++ (entryPacket ring first ∷ packetsFrom (s .unsent - 1) ring (nextAt ring first)) = rw (l, news) at (packets-add count (s .unsent) ring place) in

@@ -174,16 +174,16 @@ unfolding servedOf
 served-sound s ring p b = sound-in (s .queue .len) s s ring p b refl
 
 -- ---- the ways out of `write`
-module _ (s : Sender) (cfg : StreamConfig) (now : ℕ) (p : PayloadWriter) (b ring : List ℕ) (t : Sender) (q : PayloadWriter) (bytes : List ℕ) (n : ℕ) (more : Bool)
+module _ (s : Sender) (cfg : StreamConfig) (time : ℕ) (p : PayloadWriter) (b ring : List ℕ) (t : Sender) (q : PayloadWriter) (bytes : List ℕ) (n : ℕ) (more : Bool)
     (out : servedOf s ring p b ≡ servedWith t q bytes n more) where
   pub out-sound : validOf s ring ≡ true → payloadValid p (length b) ≡ true → Sound s ring p b (servedWith t q bytes n more)
   out-sound v k = rw out at (served-sound s ring p b v k)
 
-  pub written-more : more ≡ true → (wrote t q n true, bytes, ring) ≡ writtenBy s cfg now p b ring
+  pub written-more : more ≡ true → (wrote t q n true, bytes, ring) ≡ writtenBy s cfg time p b ring
   unfolding writtenBy
   written-more e = rw (out, e)
 
-  pub written-new : more ≡ false → (next : Sender) (words : List ℕ) (r : Wrote) (last : List ℕ) → (next, words) ≡ idledOf t cfg now ring → (r, last) ≡ newOf next cfg now n q bytes words
-      → (r, last, words) ≡ writtenBy s cfg now p b ring
+  pub written-new : more ≡ false → (next : Sender) (words : List ℕ) (r : Wrote) (last : List ℕ) → (next, words) ≡ idledOf t cfg time ring → (r, last) ≡ newOf next cfg time n q bytes words
+      → (r, last, words) ≡ writtenBy s cfg time p b ring
   unfolding writtenBy
   written-new e next words r last i w = rw (out, e, ← i, ← w)

@@ -27,18 +27,18 @@ use Rattle.sender.specs.declared.sender.Started.{Started}
 use Rattle.sender.specs.declared.sender.WasReset.{WasReset}
 use Rattle.sender.specs.declared.sender.Sent.{Sent}
 use Rattle.sender.specs.declared.sender.RequestOutcome.the-variants.{Refused as RequestRefused}
-use Rattle.sender.specs.declared.sender.Requested.{Requested}
+use Rattle.sender.specs.declared.sender.RequestHeard.{RequestHeard}
 use Rattle.sender.specs.declared.sender.Next.{Next}
 use Rattle.sender.specs.declared.sender.Next.the-variants.{Number, Refused as NextRefused}
 use Rattle.sender.specs.declared.sender.Writing.the-variants.{Refused as WritingRefused}
 use Rattle.sender.specs.declared.sender.Wrote.{Wrote}
 
 -- what stands in for a sender where the start is refused: one that every call refuses
-abbrev pub nobody : Sender
-nobody = fresh 0 0
+abbrev pub unstarted : Sender
+unstarted = fresh 0 0
 
 abbrev pub notStarted : Started
-notStarted = record { sender = nobody; answer = Refused SizeNotAllowed }
+notStarted = record { sender = unstarted; answer = Refused SizeNotAllowed }
 
 -- 12 when the history isn't 65 to 32,768 words or not what is lent, or the ring isn't 1 to 16
 unfoldable pub newAnswer : ℕ → ℕ → List ℕ → Started × List ℕ
@@ -55,17 +55,17 @@ resetAnswer s ring = onState (validOf s ring) (resetRefused s ring) (record { se
 unfoldable pub sendAnswer : Sender → StreamConfig → List ℕ → List ℕ → Sent × List ℕ
 sendAnswer s cfg ring ws = entry (checkOf cfg) (validOf s ring) (unsent s ring) (sentOf s ring (cfg .«max_command_words») ws)
 
-abbrev pub requestRefused : Sender → Refusal → Requested
+abbrev pub requestRefused : Sender → Refusal → RequestHeard
 requestRefused s why = told s (RequestRefused why)
 
-unfoldable pub requestAnswer : Sender → StreamConfig → List ℕ → RetransmitRequest → Requested
+unfoldable pub requestAnswer : Sender → StreamConfig → List ℕ → RetransmitRequest → RequestHeard
 requestAnswer s cfg ring r = entry (checkOf cfg) (validOf s ring) (requestRefused s) (requestedOf s cfg r)
 
 unfoldable pub deadlineAnswer : Sender → List ℕ → Deadline
 deadlineAnswer s ring = onState (validOf s ring) DeadlineRefused (deadlineOf s)
 
 unfoldable pub wantsAnswer : Sender → List ℕ → ℕ → Answered
-wantsAnswer s ring now = onState (validOf s ring) AnsweredRefused (Is (wantsOf s now))
+wantsAnswer s ring time = onState (validOf s ring) AnsweredRefused (Is (wantsOf s time))
 
 unfoldable pub nextAnswer : Sender → List ℕ → Next
 nextAnswer s ring = onState (validOf s ring) NextRefused (Number (nextOf s))
@@ -75,5 +75,5 @@ abbrev pub writeRefused : Sender → PayloadWriter → List ℕ → List ℕ →
 writeRefused s p b ring why = (record { sender = s; payload = p; answer = WritingRefused why }, b, ring)
 
 unfoldable pub writeAnswer : Sender → StreamConfig → ℕ → PayloadWriter → List ℕ → List ℕ → Wrote × List ℕ × List ℕ
-writeAnswer s cfg now p b ring =
-    entry (checkOf cfg) (validOf s ring && payloadValid p (length b)) (writeRefused s p b ring) (writtenBy s cfg now p b ring)
+writeAnswer s cfg time p b ring =
+    entry (checkOf cfg) (validOf s ring && payloadValid p (length b)) (writeRefused s p b ring) (writtenBy s cfg time p b ring)

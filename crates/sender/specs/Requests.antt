@@ -17,7 +17,7 @@ use Rattle.idle.specs.declared.idle.IdleTimer.the-variants.{Off, Waiting}
 use Rattle.sender.specs.declared.sender.Sender.{Sender}
 use Rattle.sender.specs.declared.sender.RequestOutcome.{RequestOutcome}
 use Rattle.sender.specs.declared.sender.RequestOutcome.the-variants.{Queued, Ignored, Error, NotSupported}
-use Rattle.sender.specs.declared.sender.Requested.{Requested}
+use Rattle.sender.specs.declared.sender.RequestHeard.{RequestHeard}
 use Rattle.config.specs.declared.answer.Deadline.{Deadline}
 use Rattle.config.specs.declared.answer.Deadline.the-variants.{Nothing, At}
 
@@ -40,18 +40,18 @@ notInBuffer s = record { reason = 1; seq = s .history .oldest }
 abbrev pub withQueue : Sender → RetransmitQueue → Sender
 withQueue s q = record { history = s .history; queue = q; unsent = s .unsent; «unsent_words» = s .«unsent_words»; idle = s .idle }
 
-abbrev pub told : Sender → RequestOutcome → Requested
+abbrev pub told : Sender → RequestOutcome → RequestHeard
 told s o = record { sender = s; outcome = o }
 
 abbrev pub outcomeOf : Push → RequestOutcome
 outcomeOf PushQueued = Queued
 outcomeOf (PushIgnored why) = Ignored why
 
-abbrev pub queuedBy : Sender → Pushed → Requested
+abbrev pub queuedBy : Sender → Pushed → RequestHeard
 queuedBy s p = told (withQueue s (p .queue)) (outcomeOf (p .answer))
 
 -- First NotSupported if retransmits are off; the error for a number outside the written history; then Pending before Full, or queued.
-unfoldable pub requestedOf : Sender → StreamConfig → RetransmitRequest → Requested
+unfoldable pub requestedOf : Sender → StreamConfig → RetransmitRequest → RequestHeard
 requestedOf s cfg r =
     cond (not (cfg .retransmit)) (told s NotSupported)
     (cond (notWritten s (r .seq)) (told s (Error (notInBuffer s)))
@@ -68,7 +68,7 @@ deadlineOf s = cond (eqb (s .unsent) 0) (dueAt (s .idle)) Nothing
 
 -- an unwritten command, a request that waits, or an idle command that is due
 unfoldable pub wantsOf : Sender → ℕ → Bool
-wantsOf s now = ltb 0 (s .unsent) || (ltb 0 (s .queue .len) || isDue (s .idle) now)
+wantsOf s time = ltb 0 (s .unsent) || (ltb 0 (s .queue .len) || isDue (s .idle) time)
 
 -- the number of the oldest unwritten command, or of the next one
 unfoldable pub nextOf : Sender → ℕ

@@ -9,7 +9,7 @@ use Rattle.idle.specs.Schedule.{idleOk}
 use Rattle.idle.specs.declared.idle.IdleTimer.the-variants.{Off}
 use Rattle.sender.specs.declared.sender.Sender.{Sender}
 
--- the state test: the history's, the request ring's and the idle schedule's part
+-- the state test: the history's, the request queue's and the idle schedule's part
 unfoldable pub validOf : Sender → List ℕ → Bool
 validOf s ring = stateOk (s .history) ring (s .unsent) (s .«unsent_words») && (queueOk (s .queue) && idleOk (s .idle))
 

@@ -59,7 +59,7 @@ pub record Served : Type 0 where
   pub written : ℕ
   pub more : Bool
 
--- what the code hands back, which changes the request ring alone, and the bytes that it leaves
+-- what the code hands back, which changes the request queue alone, and the bytes that it leaves
 abbrev pub servedBy : Sender → Handed → List ℕ → Served
 servedBy s r b = record { sender = withQueue s (r .queue); payload = r .payload; bytes = b; written = r .written; more = r .more }
 
@@ -85,14 +85,14 @@ withIdle s i = record { history = s .history; queue = s .queue; unsent = s .unse
 
 -- none is queued while a command is unwritten
 abbrev pub idledBy : Sender → StreamConfig → ℕ → List ℕ → IdleTimer → Sender × List ℕ
-idledBy s cfg now ring Off = (s, ring)
-idledBy s cfg now ring (Waiting i) =
+idledBy s cfg time ring Off = (s, ring)
+idledBy s cfg time ring (Waiting i) =
     let p = pushed (s .history) ring [] in
-    cond (ltb 0 (s .unsent) || ltb now (i .due)) (s, ring)
-    (withIdle (holding s (p .0) 1 1) (idleNext cfg now i), p .1)
+    cond (ltb 0 (s .unsent) || ltb time (i .due)) (s, ring)
+    (withIdle (holding s (p .0) 1 1) (idleNext cfg time i), p .1)
 
 unfoldable pub idledOf : Sender → StreamConfig → ℕ → List ℕ → Sender × List ℕ
-idledOf s cfg now ring = idledBy s cfg now ring (s .idle)
+idledOf s cfg time ring = idledBy s cfg time ring (s .idle)
 
 -- ---- repeats and new commands
 -- the first of up to r written commands to repeat stands at the place
@@ -108,8 +108,8 @@ pub record Again (s : Sender) (ring : List ℕ) (p : PayloadWriter) (b : List �
 
 -- writing a new command with words starts the idle schedule
 abbrev pub idleAfter : StreamConfig → ℕ → List Packet → IdleTimer → IdleTimer
-idleAfter cfg now cs old =
-    cond (anyWords cs) (idleStart cfg now) old
+idleAfter cfg time cs old =
+    cond (anyWords cs) (idleStart cfg time) old
 
 -- n commands and their words are off the unwritten ones
 abbrev pub takenOff : Sender → ℕ → ℕ → IdleTimer → Sender
@@ -117,9 +117,9 @@ takenOff s n words idle = record { history = s .history; queue = s .queue; unsen
 
 -- the sender after n of its unwritten commands were written
 unfoldable pub writtenOff : Sender → StreamConfig → ℕ → List ℕ → ℕ → Sender
-writtenOff s cfg now ring n =
+writtenOff s cfg time ring n =
     let i : ℕ = headerAt (writtenCount s) ring (s .history .head) in
-    takenOff s n (wordsFrom n ring i) (idleAfter cfg now (packetsFrom n ring i) (s .idle))
+    takenOff s n (wordsFrom n ring i) (idleAfter cfg time (packetsFrom n ring i) (s .idle))
 
 abbrev pub wrote : Sender → PayloadWriter → ℕ → Bool → Wrote
 wrote s p n more = record { sender = s; payload = p; answer = Written record { commands = n; more = more } }
@@ -129,27 +129,27 @@ refused s p = record { sender = s; payload = p; answer = Refused TooLarge }
 
 -- what a row leaves of which the first commands repeat `again` written ones
 abbrev pub newRow : Sender → StreamConfig → ℕ → ℕ → List ℕ → ℕ → Row → Wrote × List ℕ
-newRow s cfg now n ring again out =
-    (wrote (writtenOff s cfg now ring (out .written - again)) (out .payload) (n + out .written) (not (out .whole)), out .bytes)
+newRow s cfg time n ring again out =
+    (wrote (writtenOff s cfg time ring (out .written - again)) (out .payload) (n + out .written) (not (out .whole)), out .bytes)
 
 -- n commands were written before; up to R of the last written commands, and the new ones
 abbrev pub newBy : Sender → StreamConfig → ℕ → ℕ → PayloadWriter → List ℕ → List ℕ → List Packet → Wrote × List ℕ
-newBy s cfg now n p b ring [] = (wrote s p n false, b)
-newBy s cfg now n p b ring (first ∷ others) =
+newBy s cfg time n p b ring [] = (wrote s p n false, b)
+newBy s cfg time n p b ring (first ∷ others) =
     let r : ℕ = min (cfg .«fec_repeats») (writtenCount s) in
     let again = repeatsOf p b first (commandsAt s ring (writtenCount s - r) r) in
     let out = rowOf p b (again ++ (first ∷ others)) in
     cond (not (fitAll p b (first ∷ []))) (cond (eqb (p .len) 0) (refused s p) (wrote s p n true), b)
-    (newRow s cfg now n ring (length again) out)
+    (newRow s cfg time n ring (length again) out)
 
 unfoldable pub newOf : Sender → StreamConfig → ℕ → ℕ → PayloadWriter → List ℕ → List ℕ → Wrote × List ℕ
-newOf s cfg now n p b ring = newBy s cfg now n p b ring (commandsAt s ring (writtenCount s) (s .unsent))
+newOf s cfg time n p b ring = newBy s cfg time n p b ring (commandsAt s ring (writtenCount s) (s .unsent))
 
 -- ---- the whole write: the answer with sender and payload, the payload's bytes, and the lent history
 unfoldable pub writtenBy : Sender → StreamConfig → ℕ → PayloadWriter → List ℕ → List ℕ → Wrote × List ℕ × List ℕ
-writtenBy s cfg now p b ring =
+writtenBy s cfg time p b ring =
     let served = servedOf s ring p b in
-    let idled = idledOf (served .sender) cfg now ring in
-    let new = newOf (idled .0) cfg now (served .written) (served .payload) (served .bytes) (idled .1) in
+    let idled = idledOf (served .sender) cfg time ring in
+    let new = newOf (idled .0) cfg time (served .written) (served .payload) (served .bytes) (idled .1) in
     cond (served .more) (wrote (served .sender) (served .payload) (served .written) true, served .bytes, ring)
     (new .0, new .1, idled .1)

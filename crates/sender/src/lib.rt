@@ -14,11 +14,11 @@
 //
 //   sender    the entry points: 9, 7, 8 for settings, then 13 for a state that no call has left; 5, 3
 //             and 6 for words that are not queued; 12 for sizes that a start does not take
-//   valid     the same over settings and a state that were tested; `test` is the state test, and hands
+//   tested    the same over settings and a state that were tested; `test` is the state test, and hands
 //             on the place that a write repeats from
 //   writing   the write over settings, a state and a payload that were tested, for the stream
 //   messages  how words divide into messages and commands
 mod messages;
 pub mod sender;
-pub mod valid;
+pub mod tested;
 pub mod writing;

@@ -2,7 +2,7 @@
 // history's words lie in the lent slice `ring`.
 ghost use mathlib.Core.Path.{_≡_};
 ghost use Rattle.sender.specs.Answers.{newAnswer, resetAnswer, sendAnswer, requestAnswer, deadlineAnswer, wantsAnswer, nextAnswer, writeAnswer};
-use super::valid;
+use super::tested;
 use super::writing;
 use command::retransmit::RetransmitError;
 use command::retransmit::RetransmitRequest;
@@ -59,7 +59,7 @@ pub enum RequestOutcome {
     Refused(Refusal),
 }
 
-pub struct Requested {
+pub struct RequestHeard {
     pub sender: Sender,
     pub outcome: RequestOutcome,
 }
@@ -88,22 +88,22 @@ pub struct Wrote {
 }
 
 impl Sender {
-    // A fresh sender over a lent history of `words` words, which is zeroed, with a request ring of
+    // A fresh sender over a lent history of `words` words, which is zeroed, with a request queue of
     // `places` places; 12 for sizes that are not taken.
     pub fn new(words: usize, places: usize, ring: &mut [u32]) -> Started
         ensures { λ r. ⌜ (r, now (ring .exit)) ≡ newAnswer words places (now (ring .entry)) ⌝ }
     {
         if outside(MIN_WORDS, MAX_WORDS, words) {
-            return valid::not_started();
+            return tested::not_started();
         }
         if ring.len() != words {
-            return valid::not_started();
+            return tested::not_started();
         }
         if outside(1, PLACES, places) {
-            return valid::not_started();
+            return tested::not_started();
         }
         Started {
-            sender: valid::start(words, places, ring),
+            sender: tested::start(words, places, ring),
             answer: Outcome::Done,
         }
     }
@@ -112,9 +112,9 @@ impl Sender {
     pub fn reset(self, ring: &mut [u32]) -> WasReset
         ensures { λ r. ⌜ (r, now (ring .exit)) ≡ resetAnswer self (now (ring .entry)) ⌝ }
     {
-        if valid::is_valid(self, &ring[..]) {
+        if tested::is_valid(self, &ring[..]) {
             return WasReset {
-                sender: valid::reset(self, ring),
+                sender: tested::reset(self, ring),
                 answer: Outcome::Done,
             };
         }
@@ -134,8 +134,8 @@ impl Sender {
                 answer: Outcome::Refused(why),
             },
             Outcome::Done => {
-                if valid::is_valid(self, &ring[..]) {
-                    return valid::send_ump(self, cfg, ring, words);
+                if tested::is_valid(self, &ring[..]) {
+                    return tested::send_ump(self, cfg, ring, words);
                 }
                 Sent {
                     sender: self,
@@ -151,19 +151,19 @@ impl Sender {
         cfg: StreamConfig,
         ring: &[u32],
         req: RetransmitRequest,
-    ) -> Requested
+    ) -> RequestHeard
         ensures { λ r. ⌜ r ≡ requestAnswer self cfg (now (ring .entry)) req ⌝ }
     {
         match cfg.check() {
-            Outcome::Refused(why) => Requested {
+            Outcome::Refused(why) => RequestHeard {
                 sender: self,
                 outcome: RequestOutcome::Refused(why),
             },
             Outcome::Done => {
-                if valid::is_valid(self, ring) {
-                    return valid::on_retransmit_request(self, cfg, req);
+                if tested::is_valid(self, ring) {
+                    return tested::on_retransmit_request(self, cfg, req);
                 }
-                Requested {
+                RequestHeard {
                     sender: self,
                     outcome: RequestOutcome::Refused(Refusal::InvalidState),
                 }
@@ -190,10 +190,10 @@ impl Sender {
                 answer: Writing::Refused(why),
             },
             Outcome::Done => {
-                let tested = valid::test(self, &ring[..], cfg.fec_repeats as usize);
-                if tested.ok {
-                    if packet::valid::is_valid(p, buf.len()) {
-                        return writing::write(self, cfg, time, p, buf, ring, tested.at);
+                let found = tested::test(self, &ring[..], cfg.fec_repeats as usize);
+                if found.ok {
+                    if packet::tested::is_valid(p, buf.len()) {
+                        return writing::write(self, cfg, time, p, buf, ring, found.at);
                     }
                     return Wrote {
                         sender: self,
@@ -214,8 +214,8 @@ impl Sender {
     pub fn next_deadline(self, ring: &[u32]) -> Deadline
         ensures { λ r. ⌜ r ≡ deadlineAnswer self (now (ring .entry)) ⌝ }
     {
-        if valid::is_valid(self, ring) {
-            return valid::next_deadline(self);
+        if tested::is_valid(self, ring) {
+            return tested::next_deadline(self);
         }
         Deadline::Refused(Refusal::InvalidState)
     }
@@ -224,8 +224,8 @@ impl Sender {
     pub fn wants_write(self, ring: &[u32], time: u64) -> Answered
         ensures { λ r. ⌜ r ≡ wantsAnswer self (now (ring .entry)) time ⌝ }
     {
-        if valid::is_valid(self, ring) {
-            return Answered::Is(valid::wants_write(self, time));
+        if tested::is_valid(self, ring) {
+            return Answered::Is(tested::wants_write(self, time));
         }
         Answered::Refused(Refusal::InvalidState)
     }
@@ -234,8 +234,8 @@ impl Sender {
     pub fn next_seq(self, ring: &[u32]) -> Next
         ensures { λ r. ⌜ r ≡ nextAnswer self (now (ring .entry)) ⌝ }
     {
-        if valid::is_valid(self, ring) {
-            return Next::Number(valid::next_seq(self));
+        if tested::is_valid(self, ring) {
+            return Next::Number(tested::next_seq(self));
         }
         Next::Refused(Refusal::InvalidState)
     }

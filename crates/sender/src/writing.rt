@@ -48,7 +48,7 @@ fn answer(s: Sender, req: RetransmitRequest, p: PayloadWriter, buf: &mut [u8], r
     let written = history.count - s.unsent;
     let k = sequence::distance(history.oldest, req.seq) as usize;
     if written <= k {
-        return rows::valid::write_error(
+        return rows::tested::write_error(
             RetransmitError {
                 reason: NOT_IN_BUFFER,
                 seq: history.oldest,
@@ -57,24 +57,24 @@ fn answer(s: Sender, req: RetransmitRequest, p: PayloadWriter, buf: &mut [u8], r
             buf,
         );
     }
-    let at = history::valid::index_of(history, ring, k);
-    rows::valid::write_entries(p, buf, ring, at, reach(req.count as usize, written - k))
+    let at = history::tested::index_of(history, ring, k);
+    rows::tested::write_entries(p, buf, ring, at, reach(req.count as usize, written - k))
 }
 
 // What of a request is left in front after `n` of its commands.
-fn rest(s: Sender, waiting: RetransmitQueue, req: RetransmitRequest, n: usize) -> RetransmitQueue
-    requires { ⌜ Fit waiting × (0 < waiting .len) × (s .unsent ≤ s .history .count) × (s .history .count ≤ 32768) × (notWritten s (req .seq) ≡ false → n ≤ reachOf s req) ⌝ }
-    ensures { λ r. ⌜ withQueue s r ≡ restOf (withQueue s waiting) req n ⌝ }
+fn rest(s: Sender, queue: RetransmitQueue, req: RetransmitRequest, n: usize) -> RetransmitQueue
+    requires { ⌜ Fit queue × (0 < queue .len) × (s .unsent ≤ s .history .count) × (s .history .count ≤ 32768) × (notWritten s (req .seq) ≡ false → n ≤ reachOf s req) ⌝ }
+    ensures { λ r. ⌜ withQueue s r ≡ restOf (withQueue s queue) req n ⌝ }
 {
     let history = s.history;
     let written = history.count - s.unsent;
     let k = sequence::distance(history.oldest, req.seq) as usize;
     if written <= k {
-        return waiting;
+        return queue;
     }
     let left = reach(req.count as usize, written - k);
-    history::valid::set_front(
-        waiting,
+    history::tested::set_front(
+        queue,
         RetransmitRequest {
             seq: sequence::add(req.seq, n as u16),
             count: (left - n) as u16,
@@ -82,7 +82,7 @@ fn rest(s: Sender, waiting: RetransmitQueue, req: RetransmitRequest, n: usize) -
     )
 }
 
-// Whether a request leaves the ring: all is written, or its first command or error is too large for
+// Whether a request leaves the queue: all is written, or its first command or error is too large for
 // an empty payload.
 fn leaves(out: Row) -> bool
     ensures { λ r. ⌜ r ≡ (out .whole || eqb (out .payload .len) 0) ⌝ }
@@ -109,23 +109,23 @@ fn serve(s: Sender, p: PayloadWriter, buf: &mut [u8], ring: &[u32]) -> Served
     requires { ⌜ (validOf s (now ring) ≡ true) × (payloadValid p (length (now buf)) ≡ true) ⌝ }
     ensures { λ r. ⌜ servedOf s (now (ring .entry)) p (now (buf .entry)) ≡ servedBy s r (now (buf .exit)) ⌝ }
 {
-    let mut waiting = s.queue;
-    let mut left = waiting.len;
+    let mut queue = s.queue;
+    let mut left = queue.len;
     let mut q = p;
     let mut n = 0;
     while 0 < left {
-        let head = waiting.head;
-        let req = waiting.items[head];
+        let head = queue.head;
+        let req = queue.items[head];
         let out = answer(s, req, q, buf, ring);
         q = out.payload;
         n += out.written;
         if leaves(out) {
-            let popped = history::valid::pop(waiting);
-            waiting = popped.queue;
+            let popped = history::tested::pop(queue);
+            queue = popped.queue;
             left -= 1;
         } else {
             return Served {
-                queue: rest(s, waiting, req, out.written),
+                queue: rest(s, queue, req, out.written),
                 payload: q,
                 written: n,
                 more: true,
@@ -133,7 +133,7 @@ fn serve(s: Sender, p: PayloadWriter, buf: &mut [u8], ring: &[u32]) -> Served
         }
     }
     Served {
-        queue: waiting,
+        queue,
         payload: q,
         written: n,
         more: false,
@@ -158,11 +158,11 @@ fn queue_idle(s: Sender, cfg: StreamConfig, time: u64, ring: &mut [u32]) -> Send
                 return s;
             }
             Sender {
-                history: history::valid::push(history, ring, &[0u32; 0]),
+                history: history::tested::push(history, ring, &[0u32; 0]),
                 queue,
                 unsent: s.unsent + 1,
                 unsent_words: s.unsent_words + 1,
-                idle: idle::valid::next(cfg, time, i),
+                idle: idle::tested::next(cfg, time, i),
             }
         }
     }
@@ -212,10 +212,10 @@ fn write_row(
     requires { ⌜ (validOf s (now ring) ≡ true) × (payloadValid p (length (now buf)) ≡ true) × (before ≤ 350) × Again s (now ring) p (now buf) again ⌝ }
     ensures { λ r. ⌜ (r, now (buf .exit)) ≡ newRow s cfg time before (now (ring .entry)) (again .count) (rowOf p (now (buf .entry)) (packetsFrom (again .count + s .unsent) (now (ring .entry)) (again .at))) ⌝ }
 {
-    let free = packet::valid::free_words(p, buf.len());
-    let out = rows::valid::write_entries(p, buf, ring, again.at, again.count + s.unsent);
+    let free = packet::tested::free_words(p, buf.len());
+    let out = rows::tested::write_entries(p, buf, ring, again.at, again.count + s.unsent);
     let payload = out.payload;
-    let took = free - packet::valid::free_words(payload, buf.len());
+    let took = free - packet::tested::free_words(payload, buf.len());
     let n = out.written - again.count;
     Wrote {
         sender: written_off(s, cfg, time, n, took - again.words),
@@ -235,7 +235,7 @@ fn place_of(h: SendHistory, ring: &[u32], k: usize, known: bool, place: usize) -
     if known {
         return place;
     }
-    history::valid::index_of(h, ring, k)
+    history::tested::index_of(h, ring, k)
 }
 
 // Writes up to R of the last written commands, and the new ones; `before` commands were written
@@ -269,9 +269,9 @@ fn write_new(
     let written = history.count - s.unsent;
     let k = least(cfg.fec_repeats as usize, written);
     let at = place_of(history, ring, written - k, known, place);
-    let last = rows::valid::walk(ring, at, k);
+    let last = rows::tested::walk(ring, at, k);
     let first = last.at;
-    if packet::valid::free_words(p, buf.len()) <= history::valid::pl(ring, first) {
+    if packet::tested::free_words(p, buf.len()) <= history::tested::pl(ring, first) {
         if p.len == 0 {
             return Wrote {
                 sender: s,
@@ -288,7 +288,7 @@ fn write_new(
             }),
         };
     }
-    let again = rows::valid::repeats(p, &buf[..], ring, at, k, last.words, first);
+    let again = rows::tested::repeats(p, &buf[..], ring, at, k, last.words, first);
     write_row(s, cfg, time, before, p, buf, ring, again)
 }
 

@@ -134,7 +134,7 @@ abbrev queue : List ℕ → Call
 queue ws = queue-words (settings 0) ws
 
 abbrev writing : ℕ → ℕ → Call
-writing now max = write (settings 0) now (payload max) (replicate max 0)
+writing time max = write (settings 0) time (payload max) (replicate max 0)
 
 abbrev leaving-log : List Entry
 leaving-log = saidFrom 7 4 nothing [] (queue (of 2) ∷ writing 10 16 ∷ queue (0x40903C40 ∷ []) ∷ queue (of 2) ∷ writing 1000 16 ∷ queue (of 2) ∷ [])

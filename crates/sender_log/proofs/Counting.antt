@@ -289,7 +289,7 @@ unfolding repeatsOf sizesOf
 repeats-none p by first [] e = refl
 repeats-none p by first (c ∷ cs) e = let f : fitAll p by (first ∷ c ∷ cs) ≡ false = omega (arith, tests, lifts) in rw f (repeats-none p by first cs e)
 
-module _ (cfg : StreamConfig) (now : ℕ) (d : Book) (sw : Short (d .written)) (su : Short (d .unwritten)) (owed : List Packet) (left : ℕ → List RetransmitRequest) (p : PayloadWriter) (by : List ℕ) (s : ServedIn) (i : Serves owed left p by s) (done : s .more ≡ false) (inside : p .len ≤ length by) where
+module _ (cfg : StreamConfig) (time : ℕ) (d : Book) (sw : Short (d .written)) (su : Short (d .unwritten)) (owed : List Packet) (left : ℕ → List RetransmitRequest) (p : PayloadWriter) (by : List ℕ) (s : ServedIn) (i : Serves owed left p by s) (done : s .more ≡ false) (inside : p .len ≤ length by) where
   abbrev n : ℕ
   n = s .commands
 
@@ -314,7 +314,7 @@ module _ (cfg : StreamConfig) (now : ℕ) (d : Book) (sw : Short (d .written)) (
             (λ e. absurd (let z : _≡_ {A = ℕ} 0 1 = cc in omega arith)))
       ]
 
-  new-by : (cs : List Packet) → Few cs → OutOf (owed ++ againBy d (cfg .«fec_repeats») (s .payload) (s .bytes) cs) p by (newBy cfg now n d (s .payload) (s .bytes) cs)
+  new-by : (cs : List Packet) → Few cs → OutOf (owed ++ againBy d (cfg .«fec_repeats») (s .payload) (s .bytes) cs) p by (newBy cfg time n d (s .payload) (s .bytes) cs)
   unfolding Few sizesOf
   new-by [] f = rw append-nil (wrote n false (s .payload) (s .bytes) inside (i .appends) (i .few) (λ e. absurd (let z : _≡_ {A = ℕ} 0 1 = cc in omega arith)) (λ e. whole))
   new-by (first ∷ others) f =
@@ -336,7 +336,7 @@ module _ (cfg : StreamConfig) (now : ℕ) (d : Book) (sw : Short (d .written)) (
         ])
       ]
 
-  new-out : OutOf (owed ++ againBy d (cfg .«fec_repeats») (s .payload) (s .bytes) (newIn d)) p by (newWritten cfg now n d (s .payload) (s .bytes))
+  new-out : OutOf (owed ++ againBy d (cfg .«fec_repeats») (s .payload) (s .bytes) (newIn d)) p by (newWritten cfg time n d (s .payload) (s .bytes))
   unfolding newWritten
   new-out = new-by (newIn d) (few-data _ (d .unwritten) su)
 
@@ -344,18 +344,18 @@ module _ (cfg : StreamConfig) (now : ℕ) (d : Book) (sw : Short (d .written)) (
 
 -- what stands behind the answers matters only where all of them are written
 abbrev pub Behind : ℕ → StreamConfig → ℕ → Book → PayloadWriter → List ℕ → List Packet → Type 0
-Behind c cfg now b p by rest =
+Behind c cfg time b p by rest =
     let s = servedIn b (b .waiting) p by in
-    let d : Book = idledIn c cfg now (withWaiting b (s .waiting)) in
+    let d : Book = idledIn c cfg time (withWaiting b (s .waiting)) in
     validOf p (length by) ≡ true → s .more ≡ false → rest ≡ againBy d (cfg .«fec_repeats») (s .payload) (s .bytes) (newIn d)
 
-module _ (c : ℕ) (cfg : StreamConfig) (now : ℕ) (b : Book) (small : Small b) (p : PayloadWriter) (by : List ℕ) (rest : List Packet) (same : Behind c cfg now b p by rest) where
-  written-out : validOf p (length by) ≡ true → OutOf (owedIn b p by (b .waiting) ++ rest) p by (writtenIn c cfg now b p by)
+module _ (c : ℕ) (cfg : StreamConfig) (time : ℕ) (b : Book) (small : Small b) (p : PayloadWriter) (by : List ℕ) (rest : List Packet) (same : Behind c cfg time b p by rest) where
+  written-out : validOf p (length by) ≡ true → OutOf (owedIn b p by (b .waiting) ++ rest) p by (writtenIn c cfg time b p by)
   unfolding writtenIn
   written-out v =
       let s = servedIn b (b .waiting) p by in
       let left : Book = withWaiting b (s .waiting) in
-      let d : Book = idledIn c cfg now left in
+      let d : Book = idledIn c cfg time left in
       let owed : List Packet = owedIn b p by (b .waiting) in
       let i = serves b small (b .waiting) p by v in
       let l = length-append owed rest in
@@ -364,15 +364,15 @@ module _ (c : ℕ) (cfg : StreamConfig) (now : ℕ) (b : Book) (small : Small b)
             rw t (wrote (s .commands) true (s .payload) (s .bytes) (valid-length p (length by) v) (rw (take-append-le (s .commands) owed rest (i .few)) (i .appends)) (omega (arith, i .few))
             (λ e. rw (drop-append-le (s .commands) owed rest (i .few)) (no-room-append (s .payload) (s .bytes) (drop (s .commands) owed) rest (i .cut t))) (λ e. absurd (let z : _≡_ {A = ℕ} 0 1 = cc in omega arith)))
         | inr t ↦
-            let k = idled-short c cfg now left (small .written) (small .unwritten) in
-            rw (t, same v t) (new-out cfg now d (k .0) (k .1) owed (leftIn b (turnIn b p by (b .waiting))) p by s i t (valid-length p (length by) v))
+            let k = idled-short c cfg time left (small .written) (small .unwritten) in
+            rw (t, same v t) (new-out cfg time d (k .0) (k .1) owed (leftIn b (turnIn b p by (b .waiting))) p by s i t (valid-length p (length by) v))
       ]
 
-  pub write-out : OutOf (owedIn b p by (b .waiting) ++ rest) p by (writeIn c cfg now b p by)
+  pub write-out : OutOf (owedIn b p by (b .waiting) ++ rest) p by (writeIn c cfg time b p by)
   unfolding writeIn
   write-out = on (checkOf cfg) (validOf p (length by)) refl
     where
-      on : (k : Outcome) (t : Bool) → validOf p (length by) ≡ t → OutOf (owedIn b p by (b .waiting) ++ rest) p by (entry k t (refused b p by) (writtenIn c cfg now b p by))
+      on : (k : Outcome) (t : Bool) → validOf p (length by) ≡ t → OutOf (owedIn b p by (b .waiting) ++ rest) p by (entry k t (refused b p by) (writtenIn c cfg time b p by))
       on (OutcomeRefused why) t v = unchanged why
       on Done false v = unchanged InvalidState
       on Done true v = written-out v
@@ -381,19 +381,19 @@ module _ (c : ℕ) (cfg : StreamConfig) (now : ℕ) (b : Book) (small : Small b)
 abbrev pub NotRefused : WriteIn → Type 0
 NotRefused a = (why : Refusal) → a .answer ≡ Refused why → ⊥
 
-module _ (c : ℕ) (cfg : StreamConfig) (now : ℕ) (b : Book) (small : Small b) (p : PayloadWriter) (by : List ℕ) (o : p .len ≡ 0 → ⊥) (v : validOf p (length by) ≡ true) where
-  new-taken : (n : ℕ) (d : Book) (q : PayloadWriter) (bq : List ℕ) → (q .len ≡ 0 → ⊥) → NotRefused (newWritten cfg now n d q bq)
+module _ (c : ℕ) (cfg : StreamConfig) (time : ℕ) (b : Book) (small : Small b) (p : PayloadWriter) (by : List ℕ) (o : p .len ≡ 0 → ⊥) (v : validOf p (length by) ≡ true) where
+  new-taken : (n : ℕ) (d : Book) (q : PayloadWriter) (bq : List ℕ) → (q .len ≡ 0 → ⊥) → NotRefused (newWritten cfg time n d q bq)
   unfolding newWritten
   new-taken n d q bq k = go (newIn d)
     where
-      go : (cs : List Packet) → NotRefused (newBy cfg now n d q bq cs)
+      go : (cs : List Packet) → NotRefused (newBy cfg time n d q bq cs)
       go [] = λ why e. let z : _≡_ {A = ℕ} 0 1 = cc in omega arith
       go (first ∷ others) =
           by-cond NotRefused (not (fitAll q bq (first ∷ []))) _ _
           (λ over. by-cond NotRefused (eqb (q .len) 0) _ _ (λ empty why e. k (omega (arith, tests))) (λ more why e. let z : _≡_ {A = ℕ} 0 1 = cc in omega arith))
           (λ fits why e. let z : _≡_ {A = ℕ} 0 1 = cc in omega arith)
 
-  pub write-taken : checkOf cfg ≡ Done → NotRefused (writeIn c cfg now b p by)
+  pub write-taken : checkOf cfg ≡ Done → NotRefused (writeIn c cfg time b p by)
   unfolding writeIn writtenIn
   write-taken e =
       let s = servedIn b (b .waiting) p by in

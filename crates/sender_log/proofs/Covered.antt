@@ -30,29 +30,29 @@ use Rattle.sender_log.specs.Counted.{wantedIn, CountedIn, Counted}
 use Rattle.sender_log.specs.Promise.{Kept, StateTaken, MoreRight, AnsweredIn, Started, StateRefused, Reached, NeverInvalid, NotStarted, Answered, More}
 
 -- R and K up to 255, numbers and counts up to 65,535
-pub every-call : (cfg : StreamConfig) (now : ℕ) (ws : List ℕ) (r : RetransmitRequest) (p : PayloadWriter) (b : List ℕ)
+pub every-call : (cfg : StreamConfig) (time : ℕ) (ws : List ℕ) (r : RetransmitRequest) (p : PayloadWriter) (b : List ℕ)
     → cfg .«fec_repeats» < 256 → cfg .«idle_further» < 256 → Words32 ws → r .seq < 65536 → r .count < 65536
-    → AllTyped (queue-words cfg ws ∷ retransmit-request cfg r ∷ write cfg now p b ∷ [])
-every-call cfg now ws r p b f g w s c = (((f, g), w), (((f, g), s, c), ((f, g), tt)))
+    → AllTyped (queue-words cfg ws ∷ retransmit-request cfg r ∷ write cfg time p b ∷ [])
+every-call cfg time ws r p b f g w s c = (((f, g), w), (((f, g), s, c), ((f, g), tt)))
 
 -- a history of 65 to 32,768 words, 1 to 16 places for requests, whatever the lent words are
-pub every-size : (c q : ℕ) (memory : List ℕ) → 65 ≤ c → c ≤ 32768 → length memory ≡ c → 1 ≤ q → q ≤ 16 → Started c q memory
+pub every-size : (c q : ℕ) (ring₀ : List ℕ) → 65 ≤ c → c ≤ 32768 → length ring₀ ≡ c → 1 ≤ q → q ≤ 16 → Started c q ring₀
 unfolding newAnswer
-every-size c q memory c-least c-most lent q-least q-most =
+every-size c q ring₀ c-least c-most lent q-least q-most =
     let a : leb 65 c ≡ true = omega (arith, lifts) in
     let b : leb c 32768 ≡ true = omega (arith, lifts) in
-    let d : eqb (length memory) c ≡ true = omega (arith, lifts) in
+    let d : eqb (length ring₀) c ≡ true = omega (arith, lifts) in
     let e : leb 1 q ≡ true = omega (arith, lifts) in
     let f : leb q 16 ≡ true = omega (arith, lifts) in
     rw (a, b, d, e, f)
 
 -- each theorem holds of each list of calls, and asks nothing else
-pub every-list : (c q : ℕ) (memory : List ℕ) → Started c q memory → (calls : List Call) → AllTyped calls
-    → (Reached → Kept c q (run c q memory calls .sender) (run c q memory calls .ring) (bookOf c q calls))
-    × (NeverInvalid → StateTaken (run c q memory calls .sender) (run c q memory calls .ring))
-    × (Answered → AnsweredIn c q memory calls)
+pub every-list : (c q : ℕ) (ring₀ : List ℕ) → Started c q ring₀ → (calls : List Call) → AllTyped calls
+    → (Reached → Kept c q (run c q ring₀ calls .sender) (run c q ring₀ calls .ring) (bookOf c q calls))
+    × (NeverInvalid → StateTaken (run c q ring₀ calls .sender) (run c q ring₀ calls .ring))
+    × (Answered → AnsweredIn c q ring₀ calls)
     × (More → MoreRight c (bookOf c q calls))
-every-list c q memory s calls l = (λ t. t c q memory s calls l, λ t. t c q memory s calls l, λ t. t c q memory s calls l, λ t. t c q memory s calls l)
+every-list c q ring₀ s calls l = (λ t. t c q ring₀ s calls l, λ t. t c q ring₀ s calls l, λ t. t c q ring₀ s calls l, λ t. t c q ring₀ s calls l)
 
 -- and the log holds each call, refused ones too
 log-length : (calls : List Call) (s : Sender) (ring : List ℕ) (t : List Entry) → length (runFrom s ring t calls .log) ≡ length calls + length t
@@ -61,20 +61,20 @@ log-length [] s ring t = omega arith
 log-length (call ∷ calls) s ring t =
     log-length calls (stepOf s ring call .sender) (stepOf s ring call .ring) (stepOf s ring call .entry ∷ t) ∙ omega arith
 
-pub every-entry : (c q : ℕ) (memory : List ℕ) (calls : List Call) → length (run c q memory calls .log) ≡ length calls
+pub every-entry : (c q : ℕ) (ring₀ : List ℕ) (calls : List Call) → length (run c q ring₀ calls .log) ≡ length calls
 unfolding run
-every-entry c q memory calls = log-length calls (newAnswer c q memory .0 .sender) (newAnswer c q memory .1) [] ∙ omega arith
+every-entry c q ring₀ calls = log-length calls (newAnswer c q ring₀ .0 .sender) (newAnswer c q ring₀ .1) [] ∙ omega arith
 
 -- what is held after each list, and what each write after it adds
-pub every-sender-held : (c q : ℕ) (memory : List ℕ) → Started c q memory → (calls : List Call) → AllTyped calls
-    → Held → HeldIn c (run c q memory calls .sender) (run c q memory calls .ring) (pastOf c q memory calls)
-every-sender-held c q memory s calls l h = h c q memory s calls l
+pub every-sender-held : (c q : ℕ) (ring₀ : List ℕ) → Started c q ring₀ → (calls : List Call) → AllTyped calls
+    → Held → HeldIn c (run c q ring₀ calls .sender) (run c q ring₀ calls .ring) (pastOf c q ring₀ calls)
+every-sender-held c q ring₀ s calls l h = h c q ring₀ s calls l
 
-pub every-write-counted : (c q : ℕ) (memory : List ℕ) → Started c q memory → (calls : List Call) → AllTyped calls
-    → Counted → (cfg : StreamConfig) → cfg .«fec_repeats» < 256 → cfg .«idle_further» < 256 → (now : ℕ) (p : PayloadWriter) (by : List ℕ)
-    → (let w = writeAnswer (run c q memory calls .sender) cfg now p by (run c q memory calls .ring) in
-    CountedIn (wantedIn c cfg now (pastOf c q memory calls) p by) p by (w .0 .answer) (w .0 .payload) (w .1))
-every-write-counted c q memory s calls l h cfg f g now p by = h c q memory s calls l cfg (f, g) now p by
+pub every-write-counted : (c q : ℕ) (ring₀ : List ℕ) → Started c q ring₀ → (calls : List Call) → AllTyped calls
+    → Counted → (cfg : StreamConfig) → cfg .«fec_repeats» < 256 → cfg .«idle_further» < 256 → (time : ℕ) (p : PayloadWriter) (by : List ℕ)
+    → (let w = writeAnswer (run c q ring₀ calls .sender) cfg time p by (run c q ring₀ calls .ring) in
+    CountedIn (wantedIn c cfg time (pastOf c q ring₀ calls) p by) p by (w .0 .answer) (w .0 .payload) (w .1))
+every-write-counted c q ring₀ s calls l h cfg f g time p by = h c q ring₀ s calls l cfg (f, g) time p by
 
 -- the idle times, for every T1 of 1 to 300 and every G but 0, whatever R, K and the other settings are
 abbrev pacing : ℕ → ℕ → ℕ → ℕ → Bool → ℕ → ℕ → ℕ → StreamConfig
@@ -99,7 +99,7 @@ every-pace h c T1 G K R X D M size t-least t-most g-least s-least s-most p by b 
     h c (pacing T1 G K R X D M size) p by b time (2 + R + K) (passes T1 G K R X D M size t-least t-most g-least s-least s-most) v l short none no-request i (omega arith)
 
 -- every start that 12 refuses: a history not of 65 to 32,768 words or not of the lent length, not 1 to 16 places; whatever history is lent afterwards
-pub every-refused-start : NotStarted → (c q : ℕ) (memory ring : List ℕ)
-    → outside 65 32768 c || (not (eqb (length memory) c) || outside 1 16 q) ≡ true → StateRefused (newAnswer c q memory .0 .sender) ring
+pub every-refused-start : NotStarted → (c q : ℕ) (ring₀ ring : List ℕ)
+    → outside 65 32768 c || (not (eqb (length ring₀) c) || outside 1 16 q) ≡ true → StateRefused (newAnswer c q ring₀ .0 .sender) ring
 unfolding newAnswer
-every-refused-start h c q memory ring refused = h c q memory SizeNotAllowed (rw refused) ring
+every-refused-start h c q ring₀ ring refused = h c q ring₀ SizeNotAllowed (rw refused) ring

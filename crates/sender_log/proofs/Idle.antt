@@ -38,7 +38,7 @@ pub record Silent (b : Book) (i : IdleTimer) : Type 0 where
 
 module _ (c : ℕ) (cfg : StreamConfig) (p : PayloadWriter) (by : List ℕ) (passed : checkOf cfg ≡ Done) (v : validOf p (length by) ≡ true) (room : startOf p + 4 ≤ limitOf p (length by)) where
   -- an idle command that is queued is written with the repeats that fit beside it
-  module _ (first : ℕ) (ws : List (List ℕ)) (i : IdleTimer) (short : Short ws) (now : ℕ) where
+  module _ (first : ℕ) (ws : List (List ℕ)) (i : IdleTimer) (short : Short ws) (time : ℕ) where
     abbrev queued : Book
     queued = record { first = first; written = ws; unwritten = [] ∷ []; waiting = []; idle = i }
 
@@ -65,11 +65,11 @@ module _ (c : ℕ) (cfg : StreamConfig) (p : PayloadWriter) (by : List ℕ) (pas
         let r = row-all (again ++ (idle-command ∷ [])) p by (few-append again (idle-command ∷ []) again-few (omega arith, tt)) v (omega (arith, sizes-append again (idle-command ∷ []))) in
         omega (arith, r .1, length-append again (idle-command ∷ []))
 
-    written-idle : Silent (writtenOn cfg now 1 queued) i
+    written-idle : Silent (writtenOn cfg time 1 queued) i
     unfolding writtenOn dataFrom anyWords
     written-idle = record { short = short-append ws ([] ∷ []) short (short-one [] (omega arith)); none = refl; quiet = refl; timer = refl }
 
-    new-idle : Silent (newWritten cfg now 0 queued p by .book) i
+    new-idle : Silent (newWritten cfg time 0 queued p by .book) i
     unfolding newWritten dataFrom
     new-idle = rw (alone-fits, row-length) written-idle
 
@@ -89,7 +89,7 @@ module _ (c : ℕ) (cfg : StreamConfig) (p : PayloadWriter) (by : List ℕ) (pas
       ∙ ap (λ (t : IdleTimer). record { first = b .first; written = b .written; unwritten = []; waiting = []; idle = t }) (s .timer)
 
   abbrev next-book : Book → ℕ → Book
-  next-book b now = writeIn c cfg now b p by .book
+  next-book b time = writeIn c cfg time b p by .book
 
   write-idle : (b : Book) (i : Timer) → Silent b (Waiting i) → Silent (next-book b (i .due)) (idleNext cfg (i .due) i)
   write-idle b i s =
@@ -115,17 +115,17 @@ module _ (c : ℕ) (cfg : StreamConfig) (p : PayloadWriter) (by : List ℕ) (pas
   abbrev G : ℕ
   G = cfg .«idle_growth»
 
-  module _ (now : ℕ) (i : Timer) where
-    next-same : i .step < R → idleNext cfg now i ≡ Waiting record { due = later now (i .interval); step = i .step + 1; interval = i .interval }
+  module _ (time : ℕ) (i : Timer) where
+    next-same : i .step < R → idleNext cfg time i ≡ Waiting record { due = later time (i .interval); step = i .step + 1; interval = i .interval }
     unfolding idleNext
     next-same l = rw (le-leb (i .step + 1) R (omega arith))
 
     next-grown : R ≤ i .step → i .step < R + K
-        → idleNext cfg now i ≡ Waiting record { due = later now (min (i .interval * G) lastTime); step = i .step + 1; interval = min (i .interval * G) lastTime }
+        → idleNext cfg time i ≡ Waiting record { due = later time (min (i .interval * G) lastTime); step = i .step + 1; interval = min (i .interval * G) lastTime }
     unfolding idleNext
     next-grown l m = rw (lt-leb (i .step + 1) R (omega arith), lt-ltb (i .step + 1) (1 + R + K) (omega arith))
 
-    next-off : R ≤ i .step → R + K ≤ i .step → idleNext cfg now i ≡ Off
+    next-off : R ≤ i .step → R + K ≤ i .step → idleNext cfg time i ≡ Off
     unfolding idleNext
     next-off l m = rw (lt-leb (i .step + 1) R (omega arith), le-ltb (i .step + 1) (1 + R + K) (omega arith))
 

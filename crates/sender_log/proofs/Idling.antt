@@ -34,10 +34,10 @@ unfolding size
 size-none [] e = refl
 size-none (u ∷ us) e = absurd (let z : ⊥ = omega arith in z)
 
-module _ (c q : ℕ) (s : Sender) (ring : List ℕ) (b : Book) (f : Follows c q s ring b) (cfg : StreamConfig) (typed : TypedConfig cfg) (now : ℕ) where
+module _ (c q : ℕ) (s : Sender) (ring : List ℕ) (b : Book) (f : Follows c q s ring b) (cfg : StreamConfig) (typed : TypedConfig cfg) (time : ℕ) where
   -- an idle command comes in when nothing is unwritten
   queued-idle : (i : Idle) → s .unsent ≡ 0
-      → Follows c q (withIdle (holding s (pushed (s .history) ring [] .0) 1 1) (idleNext cfg now i)) (pushed (s .history) ring [] .1) (withTimer (pushedIn c [] b) (idleNext cfg now i))
+      → Follows c q (withIdle (holding s (pushed (s .history) ring [] .0) 1 1) (idleNext cfg time i)) (pushed (s .history) ring [] .1) (withTimer (pushedIn c [] b) (idleNext cfg time i))
   unfolding pushedIn freed
   queued-idle i e =
       let l : length (b .unwritten) ≡ 0 = sym (f .unsent) ∙ e in
@@ -58,26 +58,26 @@ module _ (c q : ℕ) (s : Sender) (ring : List ℕ) (b : Book) (f : Follows c q 
         items = f .items;
         requests = f .requests;
         idle = refl;
-        step = next-ok cfg now i (omega (arith, typed .0)) (omega (arith, typed .1));
+        step = next-ok cfg time i (omega (arith, typed .0)) (omega (arith, typed .1));
       }
 
   abbrev Idles : Sender × List ℕ → Book → Type 0
   Idles h a = Follows c q (h .0) (h .1) a
 
-  idled-by : (i : IdleTimer) → Idles (idledBy s cfg now ring i) (idledByIn c cfg now b i)
+  idled-by : (i : IdleTimer) → Idles (idledBy s cfg time ring i) (idledByIn c cfg time b i)
   idled-by Off = f
   idled-by (Waiting i) =
       let e : not (isEmpty (b .unwritten)) ≡ ltb 0 (s .unsent) = some-left (b .unwritten) ∙ ap (ltb 0) (sym (f .unsent)) in
-      subst (λ (x : Bool). Idles (idledBy s cfg now ring (Waiting i)) (cond (x || ltb now (i .due)) b (withTimer (pushedIn c [] b) (idleNext cfg now i)))) (sym e)
-      (on (ltb 0 (s .unsent)) refl (ltb now (i .due)))
+      subst (λ (x : Bool). Idles (idledBy s cfg time ring (Waiting i)) (cond (x || ltb time (i .due)) b (withTimer (pushedIn c [] b) (idleNext cfg time i)))) (sym e)
+      (on (ltb 0 (s .unsent)) refl (ltb time (i .due)))
     where
       on : (x : Bool) → ltb 0 (s .unsent) ≡ x → (y : Bool) → Idles
-          (cond (x || y) (s, ring) (withIdle (holding s (pushed (s .history) ring [] .0) 1 1) (idleNext cfg now i), pushed (s .history) ring [] .1))
-          (cond (x || y) b (withTimer (pushedIn c [] b) (idleNext cfg now i)))
+          (cond (x || y) (s, ring) (withIdle (holding s (pushed (s .history) ring [] .0) 1 1) (idleNext cfg time i), pushed (s .history) ring [] .1))
+          (cond (x || y) b (withTimer (pushedIn c [] b) (idleNext cfg time i)))
       on true e y = f
       on false e true = f
       on false e false = queued-idle i (omega (arith, ltb-false 0 (s .unsent) e))
 
-  pub idled-follows : Follows c q (idledOf s cfg now ring .0) (idledOf s cfg now ring .1) (idledIn c cfg now b)
+  pub idled-follows : Follows c q (idledOf s cfg time ring .0) (idledOf s cfg time ring .1) (idledIn c cfg time b)
   unfolding idledOf idledIn
-  idled-follows = subst (λ (i : IdleTimer). Idles (idledBy s cfg now ring (s .idle)) (idledByIn c cfg now b i)) (f .idle) (idled-by (s .idle))
+  idled-follows = subst (λ (i : IdleTimer). Idles (idledBy s cfg time ring (s .idle)) (idledByIn c cfg time b i)) (f .idle) (idled-by (s .idle))

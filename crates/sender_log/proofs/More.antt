@@ -177,9 +177,9 @@ none-new b e = on (b .unwritten) (sym (length-data (after (oldestIn b) (length (
     on (u ∷ us) z = absurd (let y : ⊥ = omega arith in y)
 
 -- the unwritten commands after m of them were written
-new-left : (cfg : StreamConfig) (now m : ℕ) (b : Book) → m ≤ length (b .unwritten) → newIn (writtenOn cfg now m b) ≡ drop m (newIn b)
+new-left : (cfg : StreamConfig) (time m : ℕ) (b : Book) → m ≤ length (b .unwritten) → newIn (writtenOn cfg time m b) ≡ drop m (newIn b)
 unfolding writtenOn
-new-left cfg now m b l =
+new-left cfg time m b l =
     let o : ℕ = oldestIn b in
     let w : ℕ = length (b .written) in
     let n : length (b .written ++ take m (b .unwritten)) ≡ w + m = length-append (b .written) (take m (b .unwritten)) ∙ ap (λ (k : ℕ). w + k) (length-take-le m (b .unwritten) l) in
@@ -187,15 +187,15 @@ new-left cfg now m b l =
     ap (λ (k : ℕ). dataFrom (after o k) (drop m (b .unwritten))) n
     ∙ sym (drop-data m (after o w) (b .unwritten) (omega arith) ∙ ap (λ (k : ℕ). dataFrom k (drop m (b .unwritten))) e)
 
-module _ (cfg : StreamConfig) (now n : ℕ) (b : Book) (p : PayloadWriter) (by : List ℕ) (none : b .waiting ≡ []) where
+module _ (cfg : StreamConfig) (time n : ℕ) (b : Book) (p : PayloadWriter) (by : List ℕ) (none : b .waiting ≡ []) where
   -- the first doesn't fit, or is written with those that do
   row-left : (first : Packet) (others again : List Packet) (out : Row) → newIn b ≡ first ∷ others → RowRight (again ++ (first ∷ others)) out → length again ≤ out .written
-      → WriteRight (wrote (writtenOn cfg now (out .written - length again) b) (out .payload) (out .bytes) (n + out .written) (not (out .whole)))
+      → WriteRight (wrote (writtenOn cfg time (out .written - length again) b) (out .payload) (out .bytes) (n + out .written) (not (out .whole)))
   unfolding writtenOn
   row-left first others again out e i l =
       let cs : List Packet = first ∷ others in
       let m : ℕ = out .written - length again in
-      let after-row : Book = writtenOn cfg now m b in
+      let after-row : Book = writtenOn cfg time m b in
       let u : length (b .unwritten) ≡ length cs = sym (length-data (after (oldestIn b) (length (b .written))) (b .unwritten)) ∙ ap length e in
       let k = length-append again cs in
       elim (split (out .whole)) [
@@ -204,7 +204,7 @@ module _ (cfg : StreamConfig) (now n : ℕ) (b : Book) (p : PayloadWriter) (by :
             let z : length again + m ≡ out .written = omega arith in
             let d : drop (out .written) (again ++ cs) ≡ nextIn after-row =
             ap (λ (j : ℕ). drop j (again ++ cs)) (sym z) ∙ drop-append-add again cs m ∙ ap (drop m) (sym e)
-            ∙ sym (next-new after-row none ∙ new-left cfg now m b (omega (arith, i .left w .0))) in
+            ∙ sym (next-new after-row none ∙ new-left cfg time m b (omega (arith, i .left w .0))) in
             rw w (wrote-more after-row (out .payload) (out .bytes) (n + out .written) (subst (NoRoom (out .payload) (out .bytes)) d (i .left w .1)))
       ]
 
@@ -219,7 +219,7 @@ module _ (cfg : StreamConfig) (now n : ℕ) (b : Book) (p : PayloadWriter) (by :
     unfolding sizesOf
     again-enough again f t = row-enough again (first ∷ others) p by f v (omega (arith, leb-true (startOf p + sizesOf (first ∷ again)) (limitOf p (length by)) t))
 
-    new-some : Short (b .written) → Short (b .unwritten) → WriteRight (newBy cfg now n b p by (first ∷ others))
+    new-some : Short (b .written) → Short (b .unwritten) → WriteRight (newBy cfg time n b p by (first ∷ others))
     new-some sw su =
         let again : List Packet = againIn b (cfg .«fec_repeats») p by first in
         let j : ℕ = length (b .written) - min (cfg .«fec_repeats») (length (b .written)) in
@@ -235,37 +235,37 @@ module _ (cfg : StreamConfig) (now n : ℕ) (b : Book) (p : PayloadWriter) (by :
           ]
         ]
 
-  new-right : Short (b .written) → Short (b .unwritten) → validOf p (length by) ≡ true → WriteRight (newWritten cfg now n b p by)
+  new-right : Short (b .written) → Short (b .unwritten) → validOf p (length by) ≡ true → WriteRight (newWritten cfg time n b p by)
   unfolding newWritten
   new-right sw su v = on (newIn b) refl
     where
-      on : (cs : List Packet) → newIn b ≡ cs → WriteRight (newBy cfg now n b p by cs)
+      on : (cs : List Packet) → newIn b ≡ cs → WriteRight (newBy cfg time n b p by cs)
       on [] e = wrote-all b p by n none (none-new b e)
       on (first ∷ others) e = new-some first others e v sw su
 
 -- ---- the whole write
 
-pub idled-waiting : (c : ℕ) (cfg : StreamConfig) (now : ℕ) (b : Book) → idledIn c cfg now b .waiting ≡ b .waiting
+pub idled-waiting : (c : ℕ) (cfg : StreamConfig) (time : ℕ) (b : Book) → idledIn c cfg time b .waiting ≡ b .waiting
 unfolding idledIn pushedIn freed
-idled-waiting c cfg now b = on (b .idle)
+idled-waiting c cfg time b = on (b .idle)
   where
-    on : (i : IdleTimer) → idledBy c cfg now b i .waiting ≡ b .waiting
+    on : (i : IdleTimer) → idledBy c cfg time b i .waiting ≡ b .waiting
     on Off = refl
-    on (Waiting i) = by-test (not (isEmpty (b .unwritten)) || ltb now (i .due))
+    on (Waiting i) = by-test (not (isEmpty (b .unwritten)) || ltb time (i .due))
       where
-        by-test : (t : Bool) → cond t b (withIdle (pushedIn c [] b) (idleNext cfg now i)) .waiting ≡ b .waiting
+        by-test : (t : Bool) → cond t b (withIdle (pushedIn c [] b) (idleNext cfg time i)) .waiting ≡ b .waiting
         by-test true = refl
         by-test false = refl
 
-pub idled-short : (c : ℕ) (cfg : StreamConfig) (now : ℕ) (b : Book) → Short (b .written) → Short (b .unwritten) → Short (idledIn c cfg now b .written) × Short (idledIn c cfg now b .unwritten)
+pub idled-short : (c : ℕ) (cfg : StreamConfig) (time : ℕ) (b : Book) → Short (b .written) → Short (b .unwritten) → Short (idledIn c cfg time b .written) × Short (idledIn c cfg time b .unwritten)
 unfolding idledIn pushedIn freed
-idled-short c cfg now b sw su = on (b .idle)
+idled-short c cfg time b sw su = on (b .idle)
   where
-    on : (i : IdleTimer) → Short (idledBy c cfg now b i .written) × Short (idledBy c cfg now b i .unwritten)
+    on : (i : IdleTimer) → Short (idledBy c cfg time b i .written) × Short (idledBy c cfg time b i .unwritten)
     on Off = (sw, su)
-    on (Waiting i) = by-test (not (isEmpty (b .unwritten)) || ltb now (i .due))
+    on (Waiting i) = by-test (not (isEmpty (b .unwritten)) || ltb time (i .due))
       where
-        by-test : (t : Bool) → Short (cond t b (withIdle (pushedIn c [] b) (idleNext cfg now i)) .written) × Short (cond t b (withIdle (pushedIn c [] b) (idleNext cfg now i)) .unwritten)
+        by-test : (t : Bool) → Short (cond t b (withIdle (pushedIn c [] b) (idleNext cfg time i)) .written) × Short (cond t b (withIdle (pushedIn c [] b) (idleNext cfg time i)) .unwritten)
         by-test true = (sw, su)
         by-test false = (kept-short (c - size (b .unwritten)) 1 (b .written) sw, short-append (b .unwritten) ([] ∷ []) su (short-one [] (omega arith)))
 
@@ -274,24 +274,24 @@ unfolding nextIn answerIn
 next-waiting b [] = refl
 next-waiting b (r ∷ rs) = refl
 
-written-by : (c : ℕ) (cfg : StreamConfig) (now : ℕ) (b : Book) → Small b → (y : ServedIn) → ServedRight b y
+written-by : (c : ℕ) (cfg : StreamConfig) (time : ℕ) (b : Book) → Small b → (y : ServedIn) → ServedRight b y
     → WriteRight (cond (y .more) (wrote (withWaiting b (y .waiting)) (y .payload) (y .bytes) (y .commands) true)
-    (newWritten cfg now (y .commands) (idledIn c cfg now (withWaiting b (y .waiting))) (y .payload) (y .bytes)))
-written-by c cfg now b small y i = elim (split (y .more)) [
+    (newWritten cfg time (y .commands) (idledIn c cfg time (withWaiting b (y .waiting))) (y .payload) (y .bytes)))
+written-by c cfg time b small y i = elim (split (y .more)) [
   | inl t ↦ rw t (wrote-more (withWaiting b (y .waiting)) (y .payload) (y .bytes) (y .commands) (subst (NoRoom (y .payload) (y .bytes)) (next-waiting b (y .waiting)) (i .left t)))
   | inr t ↦
-      let s = idled-short c cfg now (withWaiting b (y .waiting)) (small .written) (small .unwritten) in
-      rw t (new-right cfg now (y .commands) (idledIn c cfg now (withWaiting b (y .waiting))) (y .payload) (y .bytes) (idled-waiting c cfg now (withWaiting b (y .waiting)) ∙ i .none t) (s .0) (s .1) (i .valid))
+      let s = idled-short c cfg time (withWaiting b (y .waiting)) (small .written) (small .unwritten) in
+      rw t (new-right cfg time (y .commands) (idledIn c cfg time (withWaiting b (y .waiting))) (y .payload) (y .bytes) (idled-waiting c cfg time (withWaiting b (y .waiting)) ∙ i .none t) (s .0) (s .1) (i .valid))
 ]
 
-write-right : (c : ℕ) (cfg : StreamConfig) (now : ℕ) (b : Book) → Small b → (p : PayloadWriter) (by : List ℕ) → WriteRight (writeIn c cfg now b p by)
+write-right : (c : ℕ) (cfg : StreamConfig) (time : ℕ) (b : Book) → Small b → (p : PayloadWriter) (by : List ℕ) → WriteRight (writeIn c cfg time b p by)
 unfolding writeIn writtenIn
-write-right c cfg now b small p by = on (checkOf cfg) (validOf p (length by)) refl
+write-right c cfg time b small p by = on (checkOf cfg) (validOf p (length by)) refl
   where
-    on : (k : Outcome) (t : Bool) → validOf p (length by) ≡ t → WriteRight (entry k t (refused b p by) (writtenIn c cfg now b p by))
+    on : (k : Outcome) (t : Bool) → validOf p (length by) ≡ t → WriteRight (entry k t (refused b p by) (writtenIn c cfg time b p by))
     on (Refused why) t v = refused-right b p by why
     on Done false v = refused-right b p by InvalidState
-    on Done true v = written-by c cfg now b small (servedIn b (b .waiting) p by) (served-right (b .waiting) b small p by v)
+    on Done true v = written-by c cfg time b small (servedIn b (b .waiting) p by) (served-right (b .waiting) b small p by v)
 
 -- ---- what calls reach
 
@@ -311,9 +311,9 @@ follows-small c q s ring b f =
     }
 
 pub more : More
-more c q memory started calls l =
-    let small = follows-small c q (run c q memory calls .sender) (run c q memory calls .ring) (bookOf c q calls) (run-ok c q memory started calls l) in
+more c q ring₀ started calls l =
+    let small = follows-small c q (run c q ring₀ calls .sender) (run c q ring₀ calls .ring) (bookOf c q calls) (run-ok c q ring₀ started calls l) in
     record {
-      more = λ cfg now p by n e. write-right c cfg now (bookOf c q calls) small p by .more n e;
-      no-more = λ cfg now p by n e. write-right c cfg now (bookOf c q calls) small p by .no-more n e;
+      more = λ cfg time p by n e. write-right c cfg time (bookOf c q calls) small p by .more n e;
+      no-more = λ cfg time p by n e. write-right c cfg time (bookOf c q calls) small p by .no-more n e;
     }

@@ -141,23 +141,23 @@ added-none p by = rw (drop-of-length-le (bytesIn p by) {i = startOf p} (short (e
 abbrev pub Opens : ℕ → PayloadWriter → WriteIn → Type 0
 Opens w p a = opensIn w (addedIn p (a .payload) (a .bytes)) ≡ writtenCount (a .book) - w
 
-idled-count : (c : ℕ) (cfg : StreamConfig) (now : ℕ) (b : Book) → (writtenCount (idledIn c cfg now b) ≡ writtenCount b) × (length (idledIn c cfg now b .written) ≤ length (b .written))
+idled-count : (c : ℕ) (cfg : StreamConfig) (time : ℕ) (b : Book) → (writtenCount (idledIn c cfg time b) ≡ writtenCount b) × (length (idledIn c cfg time b .written) ≤ length (b .written))
 unfolding idledIn pushedIn freed
-idled-count c cfg now b = by (b .idle)
+idled-count c cfg time b = by (b .idle)
   where
     Same : Book → Type 0
     Same d = (writtenCount d ≡ writtenCount b) × (length (d .written) ≤ length (b .written))
 
-    by : (t : IdleTimer) → Same (idledBy c cfg now b t)
+    by : (t : IdleTimer) → Same (idledBy c cfg time b t)
     by Off = (refl, omega arith)
-    by (Waiting i) = by-cond Same (not (isEmpty (b .unwritten)) || ltb now (i .due)) _ _ (λ e. (refl, omega arith)) (λ e. let l = length-kept _ 1 (b .written) in (omega arith, l))
+    by (Waiting i) = by-cond Same (not (isEmpty (b .unwritten)) || ltb time (i .due)) _ _ (λ e. (refl, omega arith)) (λ e. let l = length-kept _ 1 (b .written) in (omega arith, l))
 
 take-split : {A : Type 0} (n : ℕ) (xs ys : List A) → take n (xs ++ ys) ≡ take n xs ++ take (n - length xs) ys
 take-split zero xs ys = let z : 0 - length xs ≡ 0 = omega arith in rw z
 take-split (suc n) [] ys = let z : suc n - 0 ≡ suc n = omega arith in rw z
 take-split {A} (suc n) (x ∷ xs) ys = let m : suc n - suc (length xs) ≡ n - length xs = omega arith in rw m (ap (λ (zs : List A). x ∷ zs) (take-split n xs ys))
 
-module _ (cfg : StreamConfig) (now n : ℕ) (d : Book) (few : length (d .written) < turn) (sw : Short (d .written)) (su : Short (d .unwritten)) (i : Book32 d)
+module _ (cfg : StreamConfig) (time n : ℕ) (d : Book) (few : length (d .written) < turn) (sw : Short (d .written)) (su : Short (d .unwritten)) (i : Book32 d)
     (p q : PayloadWriter) (by bq : List ℕ) (inside : p .len ≤ length by) (cs : List Packet) (h : AllEncodable cs) (none : NoneOpen (writtenCount d) cs) (a : Appends p by cs q bq) where
   -- commands before, and none of the new ones
   before-opens : opensIn (writtenCount d) (addedIn p q bq) ≡ writtenCount d - writtenCount d
@@ -167,7 +167,7 @@ module _ (cfg : StreamConfig) (now n : ℕ) (d : Book) (few : length (d .written
   row-opens : (first : Packet) (others : List Packet) → newIn d ≡ first ∷ others
       → (let again = againIn d (cfg .«fec_repeats») q bq first in
       let out = rowOf q bq (again ++ (first ∷ others)) in
-      opensIn (writtenCount d) (addedIn p (out .payload) (out .bytes)) ≡ writtenCount (writtenOn cfg now (out .written - length again) d) - writtenCount d)
+      opensIn (writtenCount d) (addedIn p (out .payload) (out .bytes)) ≡ writtenCount (writtenOn cfg time (out .written - length again) d) - writtenCount d)
   unfolding writtenOn
   row-opens first others e =
       let w : ℕ = writtenCount d in
@@ -186,27 +186,27 @@ module _ (cfg : StreamConfig) (now n : ℕ) (d : Book) (few : length (d .written
       ∙ opens-new d few m in
       rw found (omega (arith, opens, length-append (d .written) (take m (d .unwritten))))
 
-  new-opens : Opens (writtenCount d) p (newWritten cfg now n d q bq)
+  new-opens : Opens (writtenCount d) p (newWritten cfg time n d q bq)
   unfolding newWritten
   new-opens = go (newIn d) refl
     where
-      go : (l : List Packet) → newIn d ≡ l → Opens (writtenCount d) p (newBy cfg now n d q bq l)
+      go : (l : List Packet) → newIn d ≡ l → Opens (writtenCount d) p (newBy cfg time n d q bq l)
       go [] e = before-opens
       go (first ∷ others) e =
           by-cond (Opens (writtenCount d) p) (not (fitAll q bq (first ∷ []))) _ _ (λ over. by-cond (Opens (writtenCount d) p) (eqb (q .len) 0) _ _ (λ empty. before-opens) (λ more. before-opens))
           (λ fits. row-opens first others e)
 
-module _ (c : ℕ) (cfg : StreamConfig) (now : ℕ) (b : Book) (small : Small b) (i : Book32 b) (p : PayloadWriter) (by : List ℕ) where
+module _ (c : ℕ) (cfg : StreamConfig) (time : ℕ) (b : Book) (small : Small b) (i : Book32 b) (p : PayloadWriter) (by : List ℕ) where
   same-opens : opensIn (writtenCount b) (addedIn p p by) ≡ writtenCount b - writtenCount b
   unfolding opensIn
   same-opens = rw (added-none p by) (omega arith)
 
-  written-opens : validOf p (length by) ≡ true → Opens (writtenCount b) p (writtenIn c cfg now b p by)
+  written-opens : validOf p (length by) ≡ true → Opens (writtenCount b) p (writtenIn c cfg time b p by)
   unfolding writtenIn
   written-opens v =
       let s = servedIn b (b .waiting) p by in
       let left : Book = withWaiting b (s .waiting) in
-      let d : Book = idledIn c cfg now left in
+      let d : Book = idledIn c cfg time left in
       let owed : List Packet = owedIn b p by (b .waiting) in
       let y = serves b small (b .waiting) p by v in
       let cs : List Packet = take (s .commands) owed in
@@ -216,17 +216,17 @@ module _ (c : ℕ) (cfg : StreamConfig) (now : ℕ) (b : Book) (small : Small b)
       by-cond (Opens (writtenCount b) p) (s .more) _ _
       (λ more. rw (appends-added p by l (s .payload) (s .bytes) cs h (y .appends), opens-none (writtenCount b) cs none) (omega arith))
       (λ all.
-      let k = idled-short c cfg now left (small .written) (small .unwritten) in
-      let g = idled-count c cfg now left in
+      let k = idled-short c cfg time left (small .written) (small .unwritten) in
+      let g = idled-count c cfg time left in
       let e : writtenCount b ≡ writtenCount d = sym (g .0) in
-      rw e (new-opens cfg now (s .commands) d (omega (arith, g .1, small .few)) (k .0) (k .1) (idled-32 c cfg now left record { written = i .written; unwritten = i .unwritten })
+      rw e (new-opens cfg time (s .commands) d (omega (arith, g .1, small .few)) (k .0) (k .1) (idled-32 c cfg time left record { written = i .written; unwritten = i .unwritten })
       p (s .payload) by (s .bytes) l cs h (rw e at none) (y .appends)))
 
-  pub write-opens : Opens (writtenCount b) p (writeIn c cfg now b p by)
+  pub write-opens : Opens (writtenCount b) p (writeIn c cfg time b p by)
   unfolding writeIn
   write-opens = on (checkOf cfg) (validOf p (length by)) refl
     where
-      on : (k : Outcome) (t : Bool) → validOf p (length by) ≡ t → Opens (writtenCount b) p (entry k t (refused b p by) (writtenIn c cfg now b p by))
+      on : (k : Outcome) (t : Bool) → validOf p (length by) ≡ t → Opens (writtenCount b) p (entry k t (refused b p by) (writtenIn c cfg time b p by))
       on (Refused why) t v = same-opens
       on Done false v = same-opens
       on Done true v = written-opens v

@@ -163,10 +163,10 @@ empty-nothing [] e = refl
 empty-nothing (u ∷ us) e = absurd (let z : _≡_ {A = ℕ} 0 1 = cc in omega arith)
 
 -- one more is queued
-next-timer : (cfg : StreamConfig) (now t0 T1 d : ℕ) (ks : List Queued)
-    → idleNext cfg now record { due = d; step = length ks; interval = stepAfter T1 ks } ≡ timerOf (oneMoreAt cfg now (since t0 T1 ks))
+next-timer : (cfg : StreamConfig) (time t0 T1 d : ℕ) (ks : List Queued)
+    → idleNext cfg time record { due = d; step = length ks; interval = stepAfter T1 ks } ≡ timerOf (oneMoreAt cfg time (since t0 T1 ks))
 unfolding idleNext timerOf stepAfter
-next-timer cfg now t0 T1 d ks =
+next-timer cfg time t0 T1 d ks =
     let n : ℕ = suc (length ks) in
     let R : ℕ = cfg .«fec_repeats» in
     let most : ℕ = 1 + R + cfg .«idle_further» in
@@ -183,24 +183,24 @@ next-timer cfg now t0 T1 d ks =
           ]
     ])
 
-module _ (c : ℕ) (some : 1 ≤ c) (cfg : StreamConfig) (now : ℕ) (b : Book) (x : Past) (i : Agrees c b x) where
+module _ (c : ℕ) (some : 1 ≤ c) (cfg : StreamConfig) (time : ℕ) (b : Book) (x : Past) (i : Agrees c b x) where
   abbrev openedBy : Bool → Schedule → Past
-  openedBy t s = cond t (record { written = x .written; unwritten = [] ∷ []; waiting = x .waiting; schedule = oneMoreAt cfg now s }) x
+  openedBy t s = cond t (record { written = x .written; unwritten = [] ∷ []; waiting = x .waiting; schedule = oneMoreAt cfg time s }) x
 
   never-due : (e : Bool) (s : Schedule) → Agrees c b (openedBy (e && false) s)
   never-due true s = i
   never-due false s = i
 
   due-agrees : (t0 T1 d : ℕ) (ks : List Queued)
-      → Agrees c (idledBy c cfg now b (Waiting record { due = d; step = length ks; interval = stepAfter T1 ks })) (openedBy (isEmpty (x .unwritten) && leb d now) (since t0 T1 ks))
+      → Agrees c (idledBy c cfg time b (Waiting record { due = d; step = length ks; interval = stepAfter T1 ks })) (openedBy (isEmpty (x .unwritten) && leb d time) (since t0 T1 ks))
   unfolding pushedIn freed
   due-agrees t0 T1 d ks =
-      let same : (not (isEmpty (b .unwritten)) || ltb now d) ≡ not (isEmpty (x .unwritten) && leb d now) =
-      ap (λ (us : List (List ℕ)). not (isEmpty us) || ltb now d) (i .unwritten) ∙ either-one (isEmpty (x .unwritten)) _ _ (ltb-not-leb now d) in
-      rw same (by (isEmpty (x .unwritten) && leb d now) refl)
+      let same : (not (isEmpty (b .unwritten)) || ltb time d) ≡ not (isEmpty (x .unwritten) && leb d time) =
+      ap (λ (us : List (List ℕ)). not (isEmpty us) || ltb time d) (i .unwritten) ∙ either-one (isEmpty (x .unwritten)) _ _ (ltb-not-leb time d) in
+      rw same (by (isEmpty (x .unwritten) && leb d time) refl)
     where
-      by : (t : Bool) → (isEmpty (x .unwritten) && leb d now) ≡ t
-          → Agrees c (cond (not t) b (withIdle (pushedIn c [] b) (idleNext cfg now record { due = d; step = length ks; interval = stepAfter T1 ks }))) (openedBy t (since t0 T1 ks))
+      by : (t : Bool) → (isEmpty (x .unwritten) && leb d time) ≡ t
+          → Agrees c (cond (not t) b (withIdle (pushedIn c [] b) (idleNext cfg time record { due = d; step = length ks; interval = stepAfter T1 ks }))) (openedBy t (since t0 T1 ks))
       by false e = i
       by true e =
           let empty : b .unwritten ≡ [] = i .unwritten ∙ empty-nothing (x .unwritten) (and-left (isEmpty (x .unwritten)) _ e) in
@@ -212,10 +212,10 @@ module _ (c : ℕ) (some : 1 ≤ c) (cfg : StreamConfig) (now : ℕ) (b : Book) 
             written = p .written;
             first = p .first;
             waiting = p .waiting;
-            idle = next-timer cfg now t0 T1 d ks;
+            idle = next-timer cfg time t0 T1 d ks;
           }
 
-  timer-agrees : (s : Schedule) → Agrees c (idledBy c cfg now b (timerOf s)) (openedBy (isEmpty (x .unwritten) && isDue now (timerOf s)) s)
+  timer-agrees : (s : Schedule) → Agrees c (idledBy c cfg time b (timerOf s)) (openedBy (isEmpty (x .unwritten) && isDue time (timerOf s)) s)
   unfolding timerOf
   timer-agrees none = never-due (isEmpty (x .unwritten)) none
   timer-agrees (since t0 T1 ks) = elim (split (allQueued ks)) [
@@ -223,12 +223,12 @@ module _ (c : ℕ) (some : 1 ≤ c) (cfg : StreamConfig) (now : ℕ) (b : Book) 
     | inr e ↦ rw e (due-agrees t0 T1 (later (lastAt t0 ks) (stepAfter T1 ks)) ks)
   ]
 
-  pub idled-agrees : Agrees c (idledIn c cfg now b) (idledOn x cfg now)
+  pub idled-agrees : Agrees c (idledIn c cfg time b) (idledOn x cfg time)
   unfolding idledIn
-  idled-agrees = subst (λ (t : IdleTimer). Agrees c (idledBy c cfg now b t) (idledOn x cfg now)) (sym (i .idle)) (timer-agrees (x .schedule))
+  idled-agrees = subst (λ (t : IdleTimer). Agrees c (idledBy c cfg time b t) (idledOn x cfg time)) (sym (i .idle)) (timer-agrees (x .schedule))
 
-idled-written : (x : Past) (cfg : StreamConfig) (now : ℕ) → idledOn x cfg now .written ≡ x .written
-idled-written x cfg now = by-cond (λ (y : Past). y .written ≡ x .written) (isEmpty (x .unwritten) && isDue now (timerOf (x .schedule))) _ _ (λ e. refl) (λ e. refl)
+idled-written : (x : Past) (cfg : StreamConfig) (time : ℕ) → idledOn x cfg time .written ≡ x .written
+idled-written x cfg time = by-cond (λ (y : Past). y .written ≡ x .written) (isEmpty (x .unwritten) && isDue time (timerOf (x .schedule))) _ _ (λ e. refl) (λ e. refl)
 
 -- ---- commands written
 
@@ -247,19 +247,19 @@ any-words k (u ∷ us) =
       | inr t ↦ let v : length (u ++ wordsIn us) ≡ length (wordsIn us) = omega (arith, tests) in rw (t, v)
     ])
 
-module _ (c : ℕ) (b : Book) (x : Past) (i : Agrees c b x) (cfg : StreamConfig) (now : ℕ) where
+module _ (c : ℕ) (b : Book) (x : Past) (i : Agrees c b x) (cfg : StreamConfig) (time : ℕ) where
   -- none are
-  same-agrees : (n : ℕ) → n ≡ 0 → Agrees c b (wroteOn x cfg now n)
+  same-agrees : (n : ℕ) → n ≡ 0 → Agrees c b (wroteOn x cfg time n)
   unfolding wordsIn
   same-agrees n e = rw (e, append-nil) i
 
-  starts : (t : Bool) → cond t (Waiting record { due = later now (cfg .«idle_interval_ms»); step = 0; interval = cfg .«idle_interval_ms» }) (b .idle)
-      ≡ timerOf (cond t (since now (cfg .«idle_interval_ms») []) (x .schedule))
+  starts : (t : Bool) → cond t (Waiting record { due = later time (cfg .«idle_interval_ms»); step = 0; interval = cfg .«idle_interval_ms» }) (b .idle)
+      ≡ timerOf (cond t (since time (cfg .«idle_interval_ms») []) (x .schedule))
   unfolding timerOf stepAfter
   starts true = refl
   starts false = i .idle
 
-  wrote-agrees : (m n : ℕ) → n ≡ length (take m (b .unwritten)) → Agrees c (writtenOn cfg now m b) (wroteOn x cfg now n)
+  wrote-agrees : (m n : ℕ) → n ≡ length (take m (b .unwritten)) → Agrees c (writtenOn cfg time m b) (wroteOn x cfg time n)
   unfolding writtenOn
   wrote-agrees m n e =
       let us : List (List ℕ) = b .unwritten in
@@ -294,27 +294,27 @@ served-waiting (r ∷ rs) b p by =
     (λ all. served-waiting rs b (out .payload) (out .bytes)) (λ cut. refl)
 
 -- new commands are written, or none; at least so many commands are counted
-record NewRight (c : ℕ) (x : Past) (cfg : StreamConfig) (now least : ℕ) (a : WriteIn) : Type 0 where
+record NewRight (c : ℕ) (x : Past) (cfg : StreamConfig) (time least : ℕ) (a : WriteIn) : Type 0 where
   changed : changes (a .answer) ≡ true
   enough : least ≤ countOf (a .answer)
-  agrees : (before : ℕ) → before ≡ length (x .written) → Agrees c (a .book) (wroteOn x cfg now (writtenCount (a .book) - before))
+  agrees : (before : ℕ) → before ≡ length (x .written) → Agrees c (a .book) (wroteOn x cfg time (writtenCount (a .book) - before))
 
-module _ (c : ℕ) (b : Book) (x : Past) (i : Agrees c b x) (cfg : StreamConfig) (now : ℕ) where
-  none-written : (before : ℕ) → before ≡ length (x .written) → Agrees c b (wroteOn x cfg now (writtenCount b - before))
-  none-written before e = same-agrees c b x i cfg now (writtenCount b - before) (omega (arith, i .first))
+module _ (c : ℕ) (b : Book) (x : Past) (i : Agrees c b x) (cfg : StreamConfig) (time : ℕ) where
+  none-written : (before : ℕ) → before ≡ length (x .written) → Agrees c b (wroteOn x cfg time (writtenCount b - before))
+  none-written before e = same-agrees c b x i cfg time (writtenCount b - before) (omega (arith, i .first))
 
-  some-written : (m before : ℕ) → before ≡ length (x .written) → Agrees c (writtenOn cfg now m b) (wroteOn x cfg now (writtenCount (writtenOn cfg now m b) - before))
+  some-written : (m before : ℕ) → before ≡ length (x .written) → Agrees c (writtenOn cfg time m b) (wroteOn x cfg time (writtenCount (writtenOn cfg time m b) - before))
   unfolding writtenOn
-  some-written m before e = wrote-agrees c b x i cfg now m (writtenCount (writtenOn cfg now m b) - before) (omega (arith, i .first, length-append (b .written) (take m (b .unwritten))))
+  some-written m before e = wrote-agrees c b x i cfg time m (writtenCount (writtenOn cfg time m b) - before) (omega (arith, i .first, length-append (b .written) (take m (b .unwritten))))
 
-  new-right : (n least : ℕ) (p : PayloadWriter) (by : List ℕ) → least ≤ n → (p .len ≡ 0 → least ≡ 0) → NewRight c x cfg now least (newWritten cfg now n b p by)
+  new-right : (n least : ℕ) (p : PayloadWriter) (by : List ℕ) → least ≤ n → (p .len ≡ 0 → least ≡ 0) → NewRight c x cfg time least (newWritten cfg time n b p by)
   unfolding newWritten
   new-right n least p by l z = go (newIn b)
     where
       Ok : WriteIn → Type 0
-      Ok = NewRight c x cfg now least
+      Ok = NewRight c x cfg time least
 
-      go : (cs : List Packet) → Ok (newBy cfg now n b p by cs)
+      go : (cs : List Packet) → Ok (newBy cfg time n b p by cs)
       go [] = record { changed = refl; enough = l; agrees = none-written }
       go (first ∷ others) =
           by-cond Ok (not (fitAll p by (first ∷ []))) _ _
@@ -341,24 +341,24 @@ check-kept cfg why =
     other : (w : Refusal) → eqb (numberOf w) 3 ≡ false → Refused w ≡ Refused why → eqb (numberOf why) 3 ≡ false
     other w f e = let g : w ≡ why = cc in subst (λ (v : Refusal). eqb (numberOf v) 3 ≡ false) g f
 
-module _ (c : ℕ) (some : 1 ≤ c) (b : Book) (small : Small b) (x : Past) (i : Agrees c b x) (cfg : StreamConfig) (now : ℕ) (p : PayloadWriter) (by : List ℕ) where
+module _ (c : ℕ) (some : 1 ≤ c) (b : Book) (small : Small b) (x : Past) (i : Agrees c b x) (cfg : StreamConfig) (time : ℕ) (p : PayloadWriter) (by : List ℕ) where
   abbrev Wrote : WriteIn → Type 0
   Wrote a =
-      Agrees c (a .book) (cond (changes (a .answer)) (wroteOn (servedOn c x cfg now p by (countOf (a .answer))) cfg now (writtenCount (a .book) - length (x .written))) x)
+      Agrees c (a .book) (cond (changes (a .answer)) (wroteOn (servedOn c x cfg time p by (countOf (a .answer))) cfg time (writtenCount (a .book) - length (x .written))) x)
 
   -- the requests that the log leaves
   served-as : (n : ℕ) (rs : List RetransmitRequest) → leftIn b (turnIn b p by (b .waiting)) n ≡ rs
-      → servedOn c x cfg now p by n ≡ cond (isEmpty rs) (idledOn (withRequests x rs) cfg now) (withRequests x rs)
+      → servedOn c x cfg time p by n ≡ cond (isEmpty rs) (idledOn (withRequests x rs) cfg time) (withRequests x rs)
   served-as n rs e =
       let f : leftAfter c x (inTurn c x p by (x .waiting)) n ≡ rs =
       left-is c b x i (inTurn c x p by (x .waiting)) n ∙ ap (λ (qs : List RetransmitRequest). leftIn b qs n) (turn-is c b x i p by (x .waiting) ∙ ap (turnIn b p by) (sym (i .waiting))) ∙ e in
-      ap (λ (qs : List RetransmitRequest). cond (isEmpty qs) (idledOn (withRequests x qs) cfg now) (withRequests x qs)) f
+      ap (λ (qs : List RetransmitRequest). cond (isEmpty qs) (idledOn (withRequests x qs) cfg time) (withRequests x qs)) f
 
   -- a refusal that isn't 3
   kept-agrees : (why : Refusal) → eqb (numberOf why) 3 ≡ false → Wrote (refused b p by why)
   kept-agrees why e = rw e i
 
-  written-agrees : payloadValid p (length by) ≡ true → Wrote (writtenIn c cfg now b p by)
+  written-agrees : payloadValid p (length by) ≡ true → Wrote (writtenIn c cfg time b p by)
   unfolding writtenIn
   written-agrees v =
       let y = servedIn b (b .waiting) p by in
@@ -368,29 +368,29 @@ module _ (c : ℕ) (some : 1 ≤ c) (b : Book) (small : Small b) (x : Past) (i :
       by-cond Wrote (y .more) _ _
       (λ more.
       let t : isEmpty (y .waiting) ≡ false = e ∙ ap not more in
-      let s : servedOn c x cfg now p by (y .commands) ≡ withRequests x (y .waiting) = served-as (y .commands) (y .waiting) (sym (w .waits)) ∙ rw t in
-      subst (λ (z : Past). Agrees c (withWaiting b (y .waiting)) (wroteOn z cfg now (writtenCount b - length (x .written)))) (sym s)
-      (none-written c (withWaiting b (y .waiting)) (withRequests x (y .waiting)) a cfg now (length (x .written)) refl))
+      let s : servedOn c x cfg time p by (y .commands) ≡ withRequests x (y .waiting) = served-as (y .commands) (y .waiting) (sym (w .waits)) ∙ rw t in
+      subst (λ (z : Past). Agrees c (withWaiting b (y .waiting)) (wroteOn z cfg time (writtenCount b - length (x .written)))) (sym s)
+      (none-written c (withWaiting b (y .waiting)) (withRequests x (y .waiting)) a cfg time (length (x .written)) refl))
       (λ all.
       let t : isEmpty (y .waiting) ≡ true = e ∙ ap not all in
       let owed : List Packet = owedIn b p by (b .waiting) in
       let m = w .all all in
-      let z : Past = idledOn (withRequests x (y .waiting)) cfg now in
-      let d : Book = idledIn c cfg now (withWaiting b (y .waiting)) in
-      let r = new-right c d z (idled-agrees c some cfg now (withWaiting b (y .waiting)) (withRequests x (y .waiting)) a) cfg now (y .commands) (length owed) (y .payload) (y .bytes) (omega arith) (served-nothing b small owed _ p by y w all) in
-      let n : WriteIn = newWritten cfg now (y .commands) d (y .payload) (y .bytes) in
+      let z : Past = idledOn (withRequests x (y .waiting)) cfg time in
+      let d : Book = idledIn c cfg time (withWaiting b (y .waiting)) in
+      let r = new-right c d z (idled-agrees c some cfg time (withWaiting b (y .waiting)) (withRequests x (y .waiting)) a) cfg time (y .commands) (length owed) (y .payload) (y .bytes) (omega arith) (served-nothing b small owed _ p by y w all) in
+      let n : WriteIn = newWritten cfg time (y .commands) d (y .payload) (y .bytes) in
       let none′ : y .waiting ≡ [] = w .waits ∙ left-none b (turnIn b p by (b .waiting)) (y .commands) (omega arith) in
-      let s : servedOn c x cfg now p by (countOf (n .answer)) ≡ z =
+      let s : servedOn c x cfg time p by (countOf (n .answer)) ≡ z =
       served-as (countOf (n .answer)) (y .waiting) (left-none b (turnIn b p by (b .waiting)) (countOf (n .answer)) (r .enough) ∙ sym none′) ∙ rw t in
-      subst (λ (k : Bool). Agrees c (n .book) (cond k (wroteOn (servedOn c x cfg now p by (countOf (n .answer))) cfg now (writtenCount (n .book) - length (x .written))) x)) (sym (r .changed))
-      (subst (λ (q : Past). Agrees c (n .book) (wroteOn q cfg now (writtenCount (n .book) - length (x .written)))) (sym s)
-      (r .agrees (length (x .written)) (ap length (sym (idled-written (withRequests x (y .waiting)) cfg now))))))
+      subst (λ (k : Bool). Agrees c (n .book) (cond k (wroteOn (servedOn c x cfg time p by (countOf (n .answer))) cfg time (writtenCount (n .book) - length (x .written))) x)) (sym (r .changed))
+      (subst (λ (q : Past). Agrees c (n .book) (wroteOn q cfg time (writtenCount (n .book) - length (x .written)))) (sym s)
+      (r .agrees (length (x .written)) (ap length (sym (idled-written (withRequests x (y .waiting)) cfg time))))))
 
-  write-agrees : Wrote (writeIn c cfg now b p by)
+  write-agrees : Wrote (writeIn c cfg time b p by)
   unfolding writeIn
   write-agrees = by-tests (checkOf cfg) refl (payloadValid p (length by)) refl
     where
-      by-tests : (k : Outcome) → checkOf cfg ≡ k → (v : Bool) → payloadValid p (length by) ≡ v → Wrote (entry k v (refused b p by) (writtenIn c cfg now b p by))
+      by-tests : (k : Outcome) → checkOf cfg ≡ k → (v : Bool) → payloadValid p (length by) ≡ v → Wrote (entry k v (refused b p by) (writtenIn c cfg time b p by))
       by-tests (Refused why) e v f = kept-agrees why (check-kept cfg why e)
       by-tests Done e false f = kept-agrees InvalidState refl
       by-tests Done e true f = written-agrees f
@@ -402,12 +402,12 @@ module _ (c q : ℕ) (some : 1 ≤ c) where
   unfolding toldOf pastAfter
   call-agrees b x i small h (queue-words cfg ws) = sent-agrees c b cfg ws x i
   call-agrees b x i small h (retransmit-request cfg r) = requested-agrees c q b cfg r x i
-  call-agrees b x i small h (write cfg now p by) =
-      let a = writeIn c cfg now b p by in
-      let o = write-opens c cfg now b small h p by in
+  call-agrees b x i small h (write cfg time p by) =
+      let a = writeIn c cfg time b p by in
+      let o = write-opens c cfg time b small h p by in
       let n : opensIn (length (x .written)) (addedIn p (a .payload) (a .bytes)) ≡ writtenCount (a .book) - length (x .written) =
       ap (λ (w : ℕ). opensIn w (addedIn p (a .payload) (a .bytes))) (sym (i .first)) ∙ o ∙ ap (λ (w : ℕ). writtenCount (a .book) - w) (i .first) in
-      rw n (write-agrees c some b small x i cfg now p by)
+      rw n (write-agrees c some b small x i cfg time p by)
 
   entry-agrees : (t : List Entry) (b : Book) (e f : Entry) → e ≡ f → Agrees c b (pastAfter c (pastIn c t) f) → Agrees c b (pastIn c (e ∷ t))
   unfolding pastIn
@@ -422,10 +422,10 @@ module _ (c q : ℕ) (some : 1 ≤ c) where
       from-agrees calls (stepOf s ring call .sender) (stepOf s ring call .ring) (stepOf s ring call .entry ∷ t) (toldOf c q b call .book) (k .follows) (call-32 c q call b (l .0) h) (l .1)
       (entry-agrees t (toldOf c q b call .book) (stepOf s ring call .entry) (toldOf c q b call .entry) (k .says) (call-agrees b (pastIn c t) i (follows-small c q s ring b f) h call))
 
-  pub past-agrees : (memory : List ℕ) → Started c q memory → (calls : List Call) → AllTyped calls → Agrees c (bookOf c q calls) (pastOf c q memory calls)
+  pub past-agrees : (ring₀ : List ℕ) → Started c q ring₀ → (calls : List Call) → AllTyped calls → Agrees c (bookOf c q calls) (pastOf c q ring₀ calls)
   unfolding size longestEnd timerOf pastIn run
-  past-agrees memory started calls l =
-      from-agrees calls (newAnswer c q memory .0 .sender) (newAnswer c q memory .1) [] nothing (start-follows c q memory started) (nothing-32 c q) l
+  past-agrees ring₀ started calls l =
+      from-agrees calls (newAnswer c q ring₀ .0 .sender) (newAnswer c q ring₀ .1) [] nothing (start-follows c q ring₀ started) (nothing-32 c q) l
       record { unwritten = refl; fits = omega arith; written = refl; first = refl; waiting = refl; idle = refl }
 
 held-all : (c q : ℕ) (s : Sender) (ring : List ℕ) (b : Book) (x : Past) → Kept c q s ring b → Agrees c b x → HeldIn c s ring x
@@ -443,6 +443,6 @@ held-all c q s ring b x k i =
     }
 
 pub held-past : Held
-held-past c q memory started calls l =
-    let f = run-ok c q memory started calls l in
-    held-all c q (run c q memory calls .sender) (run c q memory calls .ring) (bookOf c q calls) (pastOf c q memory calls) (reached c q memory started calls l) (past-agrees c q (omega (arith, f .least)) memory started calls l)
+held-past c q ring₀ started calls l =
+    let f = run-ok c q ring₀ started calls l in
+    held-all c q (run c q ring₀ calls .sender) (run c q ring₀ calls .ring) (bookOf c q calls) (pastOf c q ring₀ calls) (reached c q ring₀ started calls l) (past-agrees c q (omega (arith, f .least)) ring₀ started calls l)

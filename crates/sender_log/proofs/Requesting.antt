@@ -19,7 +19,7 @@ use Rattle.history.proofs.Queues.{waiting-pushed}
 use Rattle.sender.specs.Requests.{notInBuffer, withQueue, told, queuedBy, requestedOf}
 use Rattle.sender.specs.Answers.{requestRefused, requestAnswer}
 use Rattle.sender.specs.declared.sender.Sender.{Sender}
-use Rattle.sender.specs.declared.sender.Requested.{Requested}
+use Rattle.sender.specs.declared.sender.RequestHeard.{RequestHeard}
 use Rattle.sender.specs.declared.sender.RequestOutcome.the-variants.{Queued, Ignored, Error, NotSupported, Refused as RequestRefused}
 use Rattle.sender_log.specs.Book.{Book, absentIn, errorIn, withWaiting, RequestIn, requestedIn}
 use Rattle.sender_log.proofs.Ties.{Follows, follows-valid, absent-same, error-same, with-queue, waiting-count}
@@ -36,7 +36,7 @@ module _ (c q : ℕ) (s : Sender) (ring : List ℕ) (b : Book) (f : Follows c q 
       (length-set (s .queue .items) _ r ∙ f .items)
       (waiting-pushed (s .queue) r t l (f .items) ∙ ap (λ (x : List RetransmitRequest). x ++ (r ∷ [])) (f .requests))
 
-  abbrev Asked : Requested → RequestIn → Type 0
+  abbrev Asked : RequestHeard → RequestIn → Type 0
   Asked h a = Follows c q (h .sender) ring (a .book) × (h .outcome ≡ a .outcome)
 
   -- what the book says of a request whose number is that of a written command

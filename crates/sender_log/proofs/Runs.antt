@@ -11,7 +11,7 @@ use Rattle.config.specs.declared.refusal.Refusal.{Refusal}
 use Rattle.history.specs.State.{stateOk}
 use Rattle.history.proofs.Entries.{holds-entries}
 use Rattle.sender.specs.State.{validOf, startOf}
-use Rattle.sender.specs.Answers.{nobody, notStarted, newAnswer, resetAnswer, sendAnswer, requestAnswer, deadlineAnswer, wantsAnswer, nextAnswer, writeAnswer}
+use Rattle.sender.specs.Answers.{unstarted, notStarted, newAnswer, resetAnswer, sendAnswer, requestAnswer, deadlineAnswer, wantsAnswer, nextAnswer, writeAnswer}
 use Rattle.sender.specs.declared.sender.Sender.{Sender}
 use Rattle.config.specs.declared.answer.Outcome.the-variants.{Done, Refused}
 use Rattle.sender.specs.declared.sender.Started.{Started as StartAnswer}
@@ -35,8 +35,8 @@ step-ok c q s ring b (queue-words cfg ws) f t =
 step-ok c q s ring b (retransmit-request cfg r) f t =
     let k = request-follows c q s ring b f cfg r in
     record { follows = k .0; says = ap (request-entry cfg r) (k .1) }
-step-ok c q s ring b (write cfg now p by) f t =
-    let k = write-follows c q s ring b f cfg t now p by in
+step-ok c q s ring b (write cfg time p by) f t =
+    let k = write-follows c q s ring b f cfg t time p by in
     record { follows = k .0; says = cc (k .1, k .2, k .3) }
 
 -- ---- all calls
@@ -57,14 +57,14 @@ from-said c q (call ∷ calls) s ring b t f l =
     from-said c q calls (stepOf s ring call .sender) (stepOf s ring call .ring) (toldOf c q b call .book) (stepOf s ring call .entry ∷ t) (k .follows) (l .1)
     ∙ ap (λ (e : Entry). saidFrom c q (toldOf c q b call .book) (e ∷ t) calls) (k .says)
 
-module _ (c q : ℕ) (memory : List ℕ) (started : Started c q memory) (calls : List Call) (l : AllTyped calls) where
-  pub run-ok : Follows c q (run c q memory calls .sender) (run c q memory calls .ring) (bookOf c q calls)
+module _ (c q : ℕ) (ring₀ : List ℕ) (started : Started c q ring₀) (calls : List Call) (l : AllTyped calls) where
+  pub run-ok : Follows c q (run c q ring₀ calls .sender) (run c q ring₀ calls .ring) (bookOf c q calls)
   unfolding run
-  run-ok = from-ok c q calls (newAnswer c q memory .0 .sender) (newAnswer c q memory .1) nothing [] (start-follows c q memory started) l
+  run-ok = from-ok c q calls (newAnswer c q ring₀ .0 .sender) (newAnswer c q ring₀ .1) nothing [] (start-follows c q ring₀ started) l
 
-  run-said : run c q memory calls .log ≡ saidFrom c q nothing [] calls
+  run-said : run c q ring₀ calls .log ≡ saidFrom c q nothing [] calls
   unfolding run
-  run-said = from-said c q calls (newAnswer c q memory .0 .sender) (newAnswer c q memory .1) nothing [] (start-follows c q memory started) l
+  run-said = from-said c q calls (newAnswer c q ring₀ .0 .sender) (newAnswer c q ring₀ .1) nothing [] (start-follows c q ring₀ started) l
 
 -- ---- the theorems
 
@@ -86,9 +86,9 @@ unfolding sendAnswer requestAnswer writeAnswer deadlineAnswer wantsAnswer nextAn
 state-taken s ring v = record {
   queue-words = λ cfg ws. rw v;
   retransmit-request = λ cfg r. rw v;
-  write = λ cfg now p by. rw v;
+  write = λ cfg time p by. rw v;
   deadline = rw v;
-  wants = λ now. rw v;
+  wants = λ time. rw v;
   next = rw v;
   reset = rw v;
 }
@@ -98,35 +98,35 @@ unfolding sendAnswer requestAnswer writeAnswer deadlineAnswer wantsAnswer nextAn
 state-refused s ring v = record {
   queue-words = λ cfg ws. rw v;
   retransmit-request = λ cfg r. rw v;
-  write = λ cfg now p by. rw v;
+  write = λ cfg time p by. rw v;
   deadline = rw v;
-  wants = λ now. rw v;
+  wants = λ time. rw v;
   next = rw v;
   reset = rw v;
 }
 
-nobody-invalid : (ring : List ℕ) → validOf nobody ring ≡ false
+unstarted-invalid : (ring : List ℕ) → validOf unstarted ring ≡ false
 unfolding validOf stateOk
-nobody-invalid ring = refl
+unstarted-invalid ring = refl
 
 pub reached : Reached
-reached c q memory started calls l = kept c q (run c q memory calls .sender) (run c q memory calls .ring) (bookOf c q calls) (run-ok c q memory started calls l)
+reached c q ring₀ started calls l = kept c q (run c q ring₀ calls .sender) (run c q ring₀ calls .ring) (bookOf c q calls) (run-ok c q ring₀ started calls l)
 
 pub never-invalid : NeverInvalid
-never-invalid c q memory started calls l = state-taken (run c q memory calls .sender) (run c q memory calls .ring) (reached c q memory started calls l .valid)
+never-invalid c q ring₀ started calls l = state-taken (run c q ring₀ calls .sender) (run c q ring₀ calls .ring) (reached c q ring₀ started calls l .valid)
 
 pub answered : Answered
-answered c q memory started calls l = record {
-  next = λ call t. step-ok c q (run c q memory calls .sender) (run c q memory calls .ring) (bookOf c q calls) call (run-ok c q memory started calls l) t .says;
-  whole = run-said c q memory started calls l;
+answered c q ring₀ started calls l = record {
+  next = λ call t. step-ok c q (run c q ring₀ calls .sender) (run c q ring₀ calls .ring) (bookOf c q calls) call (run-ok c q ring₀ started calls l) t .says;
+  whole = run-said c q ring₀ started calls l;
 }
 
-refused-start : (t : Bool) (r : StartAnswer × List ℕ) (memory : List ℕ) (why : Refusal) → r .0 .answer ≡ Done → cond t (notStarted, memory) r .0 .answer ≡ Refused why
-    → (ring : List ℕ) → StateRefused (cond t (notStarted, memory) r .0 .sender) ring
-refused-start true r memory why d e ring = state-refused nobody ring (nobody-invalid ring)
-refused-start false r memory why d e ring = absurd (let z : _≡_ {A = ℕ} 0 1 = cc in omega arith)
+refused-start : (t : Bool) (r : StartAnswer × List ℕ) (ring₀ : List ℕ) (why : Refusal) → r .0 .answer ≡ Done → cond t (notStarted, ring₀) r .0 .answer ≡ Refused why
+    → (ring : List ℕ) → StateRefused (cond t (notStarted, ring₀) r .0 .sender) ring
+refused-start true r ring₀ why d e ring = state-refused unstarted ring (unstarted-invalid ring)
+refused-start false r ring₀ why d e ring = absurd (let z : _≡_ {A = ℕ} 0 1 = cc in omega arith)
 
 pub not-started : NotStarted
 unfolding newAnswer
-not-started c q memory why e ring =
-    refused-start (outside 65 32768 c || (not (eqb (length memory) c) || outside 1 16 q)) (record { sender = startOf c q memory .0; answer = Done }, startOf c q memory .1) memory why refl e ring
+not-started c q ring₀ why e ring =
+    refused-start (outside 65 32768 c || (not (eqb (length ring₀) c) || outside 1 16 q)) (record { sender = startOf c q ring₀ .0; answer = Done }, startOf c q ring₀ .1) ring₀ why refl e ring

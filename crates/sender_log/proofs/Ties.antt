@@ -105,9 +105,9 @@ module _ (c q : ℕ) (s : Sender) (ring : List ℕ) (b : Book) (f : Follows c q 
 
 -- ---- a start
 
-start-taken : (t : Bool) (r : Started × List ℕ) (memory : List ℕ) → cond t (notStarted, memory) r .0 .answer ≡ Done → t ≡ false
-start-taken true r memory e = absurd (let z : _≡_ {A = ℕ} 0 1 = cc in omega arith)
-start-taken false r memory e = refl
+start-taken : (t : Bool) (r : Started × List ℕ) (ring₀ : List ℕ) → cond t (notStarted, ring₀) r .0 .answer ≡ Done → t ≡ false
+start-taken true r ring₀ e = absurd (let z : _≡_ {A = ℕ} 0 1 = cc in omega arith)
+start-taken false r ring₀ e = refl
 
 fresh-follows : (c q : ℕ) → 65 ≤ c → c ≤ 32768 → 1 ≤ q → q ≤ 16 → Follows c q (fresh c q) (replicate c 0) nothing
 unfolding size
@@ -129,12 +129,12 @@ fresh-follows c q l m o p = record {
   step = refl;
 }
 
-pub start-follows : (c q : ℕ) (memory : List ℕ) → newAnswer c q memory .0 .answer ≡ Done → Follows c q (newAnswer c q memory .0 .sender) (newAnswer c q memory .1) nothing
+pub start-follows : (c q : ℕ) (ring₀ : List ℕ) → newAnswer c q ring₀ .0 .answer ≡ Done → Follows c q (newAnswer c q ring₀ .0 .sender) (newAnswer c q ring₀ .1) nothing
 unfolding newAnswer
-start-follows c q memory e =
-    let t = start-taken _ _ memory e in
+start-follows c q ring₀ e =
+    let t = start-taken _ _ ring₀ e in
     let w = not-outside 65 32768 c (or-left _ _ t) in
     let u = or-right (outside 65 32768 c) _ t in
-    let n : length memory ≡ c = eqb-true _ _ (not-false _ (or-left (not (eqb (length memory) c)) _ u)) in
-    let p = not-outside 1 16 q (or-right (not (eqb (length memory) c)) _ u) in
+    let n : length ring₀ ≡ c = eqb-true _ _ (not-false _ (or-left (not (eqb (length ring₀) c)) _ u)) in
+    let p = not-outside 1 16 q (or-right (not (eqb (length ring₀) c)) _ u) in
     rw (t, n) (fresh-follows c q (w .0) (w .1) (p .0) (p .1))

@@ -71,7 +71,7 @@ repeats-encodable owed last (first ∷ others) p by h = end-encodable _ last h
 
 -- ---- one write
 
-module _ (c : ℕ) (some : 1 ≤ c) (cfg : StreamConfig) (now : ℕ) (b : Book) (small : Small b) (x : Past) (i : Agrees c b x) (p : PayloadWriter) (by : List ℕ) where
+module _ (c : ℕ) (some : 1 ≤ c) (cfg : StreamConfig) (time : ℕ) (b : Book) (small : Small b) (x : Past) (i : Agrees c b x) (p : PayloadWriter) (by : List ℕ) where
   abbrev owed : List Packet
   owed = answersTo c x (inTurn c x p by (x .waiting))
 
@@ -79,7 +79,7 @@ module _ (c : ℕ) (some : 1 ≤ c) (cfg : StreamConfig) (now : ℕ) (b : Book) 
   R = cfg .«fec_repeats»
 
   abbrev rest : List Packet
-  rest = repeatsOn owed p by (lastWritten c (idledOn x cfg now) R) (newOf (idledOn x cfg now)) ++ newOf (idledOn x cfg now)
+  rest = repeatsOn owed p by (lastWritten c (idledOn x cfg time) R) (newOf (idledOn x cfg time)) ++ newOf (idledOn x cfg time)
 
   -- what the book owes
   owed-is : owed ≡ owedIn b p by (b .waiting)
@@ -87,50 +87,50 @@ module _ (c : ℕ) (some : 1 ≤ c) (cfg : StreamConfig) (now : ℕ) (b : Book) 
 
   -- which requests wait is nothing to an idle command
   idled-same : (rs : List RetransmitRequest)
-      → (newOf (idledOn (withRequests x rs) cfg now) ≡ newOf (idledOn x cfg now)) × (lastWritten c (idledOn (withRequests x rs) cfg now) R ≡ lastWritten c (idledOn x cfg now) R)
-  idled-same rs = elim (split (isEmpty (x .unwritten) && isDue now (timerOf (x .schedule)))) [ inl t ↦ rw t (refl, refl) | inr t ↦ rw t (refl, refl) ]
+      → (newOf (idledOn (withRequests x rs) cfg time) ≡ newOf (idledOn x cfg time)) × (lastWritten c (idledOn (withRequests x rs) cfg time) R ≡ lastWritten c (idledOn x cfg time) R)
+  idled-same rs = elim (split (isEmpty (x .unwritten) && isDue time (timerOf (x .schedule)))) [ inl t ↦ rw t (refl, refl) | inr t ↦ rw t (refl, refl) ]
 
-  behind-owed : Behind c cfg now b p by rest
+  behind-owed : Behind c cfg time b p by rest
   behind-owed v all =
       let s = servedIn b (b .waiting) p by in
       let w = serves b small (b .waiting) p by v in
-      let d : Book = idledIn c cfg now (withWaiting b (s .waiting)) in
-      let z : Past = idledOn (withRequests x (s .waiting)) cfg now in
-      let j : Agrees c d z = idled-agrees c some cfg now (withWaiting b (s .waiting)) (withRequests x (s .waiting)) (requests-agree c b x i (s .waiting)) in
+      let d : Book = idledIn c cfg time (withWaiting b (s .waiting)) in
+      let z : Past = idledOn (withRequests x (s .waiting)) cfg time in
+      let j : Agrees c d z = idled-agrees c some cfg time (withWaiting b (s .waiting)) (withRequests x (s .waiting)) (requests-agree c b x i (s .waiting)) in
       let t = idled-same (s .waiting) in
-      let n : newOf (idledOn x cfg now) ≡ newIn d = sym (t .0) ∙ new-is c d z j in
+      let n : newOf (idledOn x cfg time) ≡ newIn d = sym (t .0) ∙ new-is c d z j in
       let f : startOf (s .payload) ≡ startOf p + sizesOf owed =
       w .start ∙ ap (λ (ks : List Packet). startOf p + sizesOf ks) (take-all (s .commands) (owedIn b p by (b .waiting)) (omega (arith, w .all all)) ∙ sym owed-is) in
-      ap (λ (ns : List Packet). repeatsOn owed p by (lastWritten c (idledOn x cfg now) R) ns ++ ns) n
-      ∙ rest-is owed (lastWritten c (idledOn x cfg now) R) (newIn d) d R p (s .payload) by (s .bytes) f (w .limit) (sym (t .1) ∙ last-is c d z j R)
+      ap (λ (ns : List Packet). repeatsOn owed p by (lastWritten c (idledOn x cfg time) R) ns ++ ns) n
+      ∙ rest-is owed (lastWritten c (idledOn x cfg time) R) (newIn d) d R p (s .payload) by (s .bytes) f (w .limit) (sym (t .1) ∙ last-is c d z j R)
 
-  pub wanted-out : OutOf (wantedIn c cfg now x p by) p by (writeIn c cfg now b p by)
+  pub wanted-out : OutOf (wantedIn c cfg time x p by) p by (writeIn c cfg time b p by)
   unfolding wantedIn
-  wanted-out = subst (λ (ks : List Packet). OutOf (ks ++ rest) p by (writeIn c cfg now b p by)) (sym owed-is) (write-out c cfg now b small p by rest behind-owed)
+  wanted-out = subst (λ (ks : List Packet). OutOf (ks ++ rest) p by (writeIn c cfg time b p by)) (sym owed-is) (write-out c cfg time b small p by rest behind-owed)
 
-  pub wanted-encodable : Book32 b → AllEncodable (wantedIn c cfg now x p by)
+  pub wanted-encodable : Book32 b → AllEncodable (wantedIn c cfg time x p by)
   unfolding wantedIn
   wanted-encodable h =
-      let d : Book = idledIn c cfg now b in
-      let j : Agrees c d (idledOn x cfg now) = idled-agrees c some cfg now b x i in
-      let k = idled-short c cfg now b (small .written) (small .unwritten) in
-      let g : Book32 d = idled-32 c cfg now b h in
-      let new : AllEncodable (newOf (idledOn x cfg now)) = subst AllEncodable (sym (new-is c d (idledOn x cfg now) j)) (data-encodable _ (d .unwritten) (k .1) (g .unwritten)) in
-      let last : AllEncodable (lastWritten c (idledOn x cfg now) R) = subst AllEncodable (sym (last-is c d (idledOn x cfg now) j R)) (written-encodable d (k .0) g _) in
+      let d : Book = idledIn c cfg time b in
+      let j : Agrees c d (idledOn x cfg time) = idled-agrees c some cfg time b x i in
+      let k = idled-short c cfg time b (small .written) (small .unwritten) in
+      let g : Book32 d = idled-32 c cfg time b h in
+      let new : AllEncodable (newOf (idledOn x cfg time)) = subst AllEncodable (sym (new-is c d (idledOn x cfg time) j)) (data-encodable _ (d .unwritten) (k .1) (g .unwritten)) in
+      let last : AllEncodable (lastWritten c (idledOn x cfg time) R) = subst AllEncodable (sym (last-is c d (idledOn x cfg time) j R)) (written-encodable d (k .0) g _) in
       allEncodable-append owed rest (subst AllEncodable (sym owed-is) (answers-encodable b (small .written) h (turnIn b p by (b .waiting))))
-      (allEncodable-append _ (newOf (idledOn x cfg now)) (repeats-encodable owed _ (newOf (idledOn x cfg now)) p by last) new)
+      (allEncodable-append _ (newOf (idledOn x cfg time)) (repeats-encodable owed _ (newOf (idledOn x cfg time)) p by last) new)
 
 -- ---- every write
 
 pub counted : Counted
-counted c q memory started calls l cfg t now p by =
-    let s = run c q memory calls .sender in
-    let ring = run c q memory calls .ring in
+counted c q ring₀ started calls l cfg t time p by =
+    let s = run c q ring₀ calls .sender in
+    let ring = run c q ring₀ calls .ring in
     let b : Book = bookOf c q calls in
-    let x : Past = pastOf c q memory calls in
-    let f = run-ok c q memory started calls l in
+    let x : Past = pastOf c q ring₀ calls in
+    let f = run-ok c q ring₀ started calls l in
     let small = follows-small c q s ring b f in
     let some : 1 ≤ c = omega (arith, f .least) in
-    let i = past-agrees c q some memory started calls l in
-    let w = write-follows c q s ring b f cfg t now p by in
-    rw (w .1, w .2, w .3) (counts (wantedIn c cfg now x p by) p by _ _ _ (λ n m e. encodable-take n (wantedIn c cfg now x p by) (wanted-encodable c some cfg now b small x i p by (book-32 c q calls l))) (wanted-out c some cfg now b small x i p by))
+    let i = past-agrees c q some ring₀ started calls l in
+    let w = write-follows c q s ring b f cfg t time p by in
+    rw (w .1, w .2, w .3) (counts (wantedIn c cfg time x p by) p by _ _ _ (λ n m e. encodable-take n (wantedIn c cfg time x p by) (wanted-encodable c some cfg time b small x i p by (book-32 c q calls l))) (wanted-out c some cfg time b small x i p by))

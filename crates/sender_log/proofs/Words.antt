@@ -162,42 +162,42 @@ module _ (c : ℕ) where
       Ok : RequestIn → Type 0
       Ok a = Book32 (a .book)
 
-  pub idled-32 : (cfg : StreamConfig) (now : ℕ) (b : Book) → Book32 b → Book32 (idledIn c cfg now b)
+  pub idled-32 : (cfg : StreamConfig) (time : ℕ) (b : Book) → Book32 b → Book32 (idledIn c cfg time b)
   unfolding idledIn Words32
-  idled-32 cfg now b i = by (b .idle)
+  idled-32 cfg time b i = by (b .idle)
     where
-      by : (t : IdleTimer) → Book32 (idledBy c cfg now b t)
+      by : (t : IdleTimer) → Book32 (idledBy c cfg time b t)
       by Off = i
       by (Waiting k) =
-          by-cond Book32 (not (isEmpty (b .unwritten)) || ltb now (k .due)) _ _ (λ e. i)
+          by-cond Book32 (not (isEmpty (b .unwritten)) || ltb time (k .due)) _ _ (λ e. i)
           (λ e. let p = pushed-32 [] b tt i in record { written = p .written; unwritten = p .unwritten })
 
-  written-32 : (cfg : StreamConfig) (now m : ℕ) (b : Book) → Book32 b → Book32 (writtenOn cfg now m b)
+  written-32 : (cfg : StreamConfig) (time m : ℕ) (b : Book) → Book32 b → Book32 (writtenOn cfg time m b)
   unfolding writtenOn
-  written-32 cfg now m b i =
+  written-32 cfg time m b i =
       record { written = each-append (b .written) _ (i .written) (each-take m (b .unwritten) (i .unwritten)); unwritten = each-drop m (b .unwritten) (i .unwritten) }
 
-  new-32 : (cfg : StreamConfig) (now n : ℕ) (b : Book) (p : PayloadWriter) (by : List ℕ) → Book32 b → Book32 (newWritten cfg now n b p by .book)
+  new-32 : (cfg : StreamConfig) (time n : ℕ) (b : Book) (p : PayloadWriter) (by : List ℕ) → Book32 b → Book32 (newWritten cfg time n b p by .book)
   unfolding newWritten
-  new-32 cfg now n b p by i = go (newIn b)
+  new-32 cfg time n b p by i = go (newIn b)
     where
       Ok : WriteIn → Type 0
       Ok a = Book32 (a .book)
 
-      go : (cs : List Packet) → Ok (newBy cfg now n b p by cs)
+      go : (cs : List Packet) → Ok (newBy cfg time n b p by cs)
       go [] = i
       go (first ∷ others) =
           by-cond Ok (not (fitAll p by (first ∷ []))) _ _ (λ over. by-cond Ok (eqb (p .len) 0) _ _ (λ empty. i) (λ more. i))
-          (λ fits. written-32 cfg now _ b i)
+          (λ fits. written-32 cfg time _ b i)
 
-  write-32 : (cfg : StreamConfig) (now : ℕ) (b : Book) (p : PayloadWriter) (by : List ℕ) → Book32 b → Book32 (writeIn c cfg now b p by .book)
+  write-32 : (cfg : StreamConfig) (time : ℕ) (b : Book) (p : PayloadWriter) (by : List ℕ) → Book32 b → Book32 (writeIn c cfg time b p by .book)
   unfolding writeIn writtenIn
-  write-32 cfg now b p by i =
+  write-32 cfg time b p by i =
       let s = servedIn b (b .waiting) p by in
       let left : Book32 (withWaiting b (s .waiting)) = record { written = i .written; unwritten = i .unwritten } in
       entry-any Ok _ _ (λ why. i) (checkOf cfg) (payloadValid p (length by)) (λ passed valid.
       by-cond Ok (s .more) _ _ (λ more. left) (λ all.
-      new-32 cfg now (s .commands) (idledIn c cfg now (withWaiting b (s .waiting))) (s .payload) (s .bytes) (idled-32 cfg now _ left)))
+      new-32 cfg time (s .commands) (idledIn c cfg time (withWaiting b (s .waiting))) (s .payload) (s .bytes) (idled-32 cfg time _ left)))
     where
       Ok : WriteIn → Type 0
       Ok a = Book32 (a .book)
@@ -207,7 +207,7 @@ module _ (c q : ℕ) where
   unfolding toldOf
   call-32 (queue-words cfg ws) b t i = sent-32 c b cfg ws (t .1) i
   call-32 (retransmit-request cfg r) b t i = requested-32 c q b cfg r i
-  call-32 (write cfg now p by) b t i = write-32 c cfg now b p by i
+  call-32 (write cfg time p by) b t i = write-32 c cfg time b p by i
 
   from-32 : (calls : List Call) (b : Book) → AllTyped calls → Book32 b → Book32 (bookFrom c q b calls)
   unfolding bookFrom

@@ -41,10 +41,10 @@ use Rattle.sender_log.proofs.Idling.{idled-follows}
 
 -- ---- new commands
 
-after-ok : (cfg : StreamConfig) (now : ℕ) (cs : List Packet) (i : IdleTimer) → idleOk i ≡ true → idleOk (idleAfter cfg now cs i) ≡ true
-after-ok cfg now cs i e = on (anyWords cs)
+after-ok : (cfg : StreamConfig) (time : ℕ) (cs : List Packet) (i : IdleTimer) → idleOk i ≡ true → idleOk (idleAfter cfg time cs i) ≡ true
+after-ok cfg time cs i e = on (anyWords cs)
   where
-    on : (t : Bool) → idleOk (cond t (Waiting record { due = later now (cfg .«idle_interval_ms»); step = 0; interval = cfg .«idle_interval_ms» }) i) ≡ true
+    on : (t : Bool) → idleOk (cond t (Waiting record { due = later time (cfg .«idle_interval_ms»); step = 0; interval = cfg .«idle_interval_ms» }) i) ≡ true
     on true = refl
     on false = e
 
@@ -83,9 +83,9 @@ module _ (c q : ℕ) (s : Sender) (ring : List ℕ) (b : Book) (f : Follows c q 
       ∙ take-all (min R w) (writtenFrom b j) (omega arith)
 
   -- n of the unwritten ones are written
-  off-follows : (cfg : StreamConfig) (now n : ℕ) → n ≤ length (b .unwritten) → Follows c q (writtenOff s cfg now ring n) ring (writtenOn cfg now n b)
+  off-follows : (cfg : StreamConfig) (time n : ℕ) → n ≤ length (b .unwritten) → Follows c q (writtenOff s cfg time ring n) ring (writtenOn cfg time n b)
   unfolding writtenOff writtenOn
-  off-follows cfg now n l =
+  off-follows cfg time n l =
       let u : List (List ℕ) = b .unwritten in
       let p = new-parts n l in
       let t = take-append-drop n u in
@@ -104,26 +104,26 @@ module _ (c q : ℕ) (s : Sender) (ring : List ℕ) (b : Book) (f : Follows c q 
         fit = f .fit;
         items = f .items;
         requests = f .requests;
-        idle = ap (λ (x : List Packet). idleAfter cfg now x (s .idle)) (p .0) ∙ ap (idleAfter cfg now (take n (newIn b))) (f .idle);
-        step = after-ok cfg now _ (s .idle) (f .step);
+        idle = ap (λ (x : List Packet). idleAfter cfg time x (s .idle)) (p .0) ∙ ap (idleAfter cfg time (take n (newIn b))) (f .idle);
+        step = after-ok cfg time _ (s .idle) (f .step);
       }
 
   abbrev News : Wrote × List ℕ → WriteIn → Type 0
   News h a = Follows c q (h .0 .sender) ring (a .book) × (h .0 .answer ≡ a .answer) × (h .0 .payload ≡ a .payload) × (h .1 ≡ a .bytes)
 
-  module _ (cfg : StreamConfig) (now n : ℕ) (p : PayloadWriter) (by : List ℕ) where
+  module _ (cfg : StreamConfig) (time n : ℕ) (p : PayloadWriter) (by : List ℕ) where
     -- the first doesn't fit, or is written with those that do
     new-row : (fits empty : Bool) (again : ℕ) (out : Row) → out .written ≤ again + length (b .unwritten)
         → News
         (cond (not fits) (cond empty (refused s p) (wrote s p n true), by)
-        (wrote (writtenOff s cfg now ring (out .written - again)) (out .payload) (n + out .written) (not (out .whole)), out .bytes))
+        (wrote (writtenOff s cfg time ring (out .written - again)) (out .payload) (n + out .written) (not (out .whole)), out .bytes))
         (cond (not fits) (cond empty (refusedIn b p by TooLarge) (wroteIn b p by n true))
-        (wroteIn (writtenOn cfg now (out .written - again) b) (out .payload) (out .bytes) (n + out .written) (not (out .whole))))
+        (wroteIn (writtenOn cfg time (out .written - again) b) (out .payload) (out .bytes) (n + out .written) (not (out .whole))))
     new-row false true again out l = (f, refl, refl, refl)
     new-row false false again out l = (f, refl, refl, refl)
-    new-row true empty again out l = (off-follows cfg now (out .written - again) (omega arith), refl, refl, refl)
+    new-row true empty again out l = (off-follows cfg time (out .written - again) (omega arith), refl, refl, refl)
 
-    new-by : (cs : List Packet) → length cs ≡ length (b .unwritten) → News (newBy s cfg now n p by ring cs) (newByIn cfg now n b p by cs)
+    new-by : (cs : List Packet) → length cs ≡ length (b .unwritten) → News (newBy s cfg time n p by ring cs) (newByIn cfg time n b p by cs)
     new-by [] e = (f, refl, refl, refl)
     new-by (first ∷ others) e =
         let again : List Packet = againIn b (cfg .«fec_repeats») p by first in
@@ -132,13 +132,13 @@ module _ (c q : ℕ) (s : Sender) (ring : List ℕ) (b : Book) (f : Follows c q 
         rw (again-same (cfg .«fec_repeats»))
         (new-row (fitAll p by (first ∷ [])) (eqb (p .len) 0) (length again) (rowOf p by (again ++ (first ∷ others))) (omega arith))
 
-    new-follows : News (newOf s cfg now n p by ring) (newWritten cfg now n b p by)
+    new-follows : News (newOf s cfg time n p by ring) (newWritten cfg time n b p by)
     unfolding newOf newWritten
     new-follows = rw new-same (new-by (newIn b) new-length)
 
 -- ---- the whole write
 
-module _ (c q : ℕ) (ring : List ℕ) (b : Book) (cfg : StreamConfig) (typed : TypedConfig cfg) (now : ℕ) where
+module _ (c q : ℕ) (ring : List ℕ) (b : Book) (cfg : StreamConfig) (typed : TypedConfig cfg) (time : ℕ) where
   abbrev Writes : Wrote × List ℕ × List ℕ → WriteIn → Type 0
   Writes h a = Follows c q (h .0 .sender) (h .2) (a .book) × (h .0 .answer ≡ a .answer) × (h .0 .payload ≡ a .payload) × (h .1 ≡ a .bytes)
 
@@ -146,21 +146,21 @@ module _ (c q : ℕ) (ring : List ℕ) (b : Book) (cfg : StreamConfig) (typed : 
   rest-written : (s : Sender) (rs : List RetransmitRequest) (p : PayloadWriter) (by : List ℕ) (n : ℕ) (more : Bool) → Follows c q s ring (withWaiting b rs)
       → Writes
       (cond more (wrote s p n true, by, ring)
-      (newOf (idledOf s cfg now ring .0) cfg now n p by (idledOf s cfg now ring .1) .0, newOf (idledOf s cfg now ring .0) cfg now n p by (idledOf s cfg now ring .1) .1, idledOf s cfg now ring .1))
-      (cond more (wroteIn (withWaiting b rs) p by n true) (newWritten cfg now n (idledIn c cfg now (withWaiting b rs)) p by))
+      (newOf (idledOf s cfg time ring .0) cfg time n p by (idledOf s cfg time ring .1) .0, newOf (idledOf s cfg time ring .0) cfg time n p by (idledOf s cfg time ring .1) .1, idledOf s cfg time ring .1))
+      (cond more (wroteIn (withWaiting b rs) p by n true) (newWritten cfg time n (idledIn c cfg time (withWaiting b rs)) p by))
   rest-written s rs p by n true f = (f, refl, refl, refl)
   rest-written s rs p by n false f =
-      new-follows c q (idledOf s cfg now ring .0) (idledOf s cfg now ring .1) (idledIn c cfg now (withWaiting b rs)) (idled-follows c q s ring (withWaiting b rs) f cfg typed now) cfg now n p by
+      new-follows c q (idledOf s cfg time ring .0) (idledOf s cfg time ring .1) (idledIn c cfg time (withWaiting b rs)) (idled-follows c q s ring (withWaiting b rs) f cfg typed time) cfg time n p by
 
   written-by : (x : Served) (y : ServedIn) → Serves c q ring b x y
       → Writes
       (cond (x .more) (wrote (x .sender) (x .payload) (x .written) true, x .bytes, ring) (
-        newOf (idledOf (x .sender) cfg now ring .0) cfg now (x .written) (x .payload) (x .bytes) (idledOf (x .sender) cfg now ring .1) .0,
-        newOf (idledOf (x .sender) cfg now ring .0) cfg now (x .written) (x .payload) (x .bytes) (idledOf (x .sender) cfg now ring .1) .1,
-        idledOf (x .sender) cfg now ring .1,
+        newOf (idledOf (x .sender) cfg time ring .0) cfg time (x .written) (x .payload) (x .bytes) (idledOf (x .sender) cfg time ring .1) .0,
+        newOf (idledOf (x .sender) cfg time ring .0) cfg time (x .written) (x .payload) (x .bytes) (idledOf (x .sender) cfg time ring .1) .1,
+        idledOf (x .sender) cfg time ring .1,
       ))
       (cond (y .more) (wroteIn (withWaiting b (y .waiting)) (y .payload) (y .bytes) (y .commands) true)
-      (newWritten cfg now (y .commands) (idledIn c cfg now (withWaiting b (y .waiting))) (y .payload) (y .bytes)))
+      (newWritten cfg time (y .commands) (idledIn c cfg time (withWaiting b (y .waiting))) (y .payload) (y .bytes)))
   written-by x y i = rw (i .same) (rest-written (x .sender) (i .left) (x .payload) (x .bytes) (x .written) (x .more) (i .follows))
 
   served-whole : (s : Sender) (p : PayloadWriter) (by : List ℕ) → Follows c q s ring b → Serves c q ring b (servedOf s ring p by) (servedBy b (b .waiting) p by)
@@ -168,21 +168,21 @@ module _ (c q : ℕ) (ring : List ℕ) (b : Book) (cfg : StreamConfig) (typed : 
   served-whole s p by f =
       subst (λ (n : ℕ). Serves c q ring b (servedIn n s ring p by) (servedBy b (b .waiting) p by)) (sym (waiting-count c q s ring b f)) (served-follows (b .waiting) c q ring b s p by f)
 
-  written-follows : (s : Sender) (p : PayloadWriter) (by : List ℕ) → Follows c q s ring b → Writes (writtenBy s cfg now p by ring) (writtenIn c cfg now b p by)
+  written-follows : (s : Sender) (p : PayloadWriter) (by : List ℕ) → Follows c q s ring b → Writes (writtenBy s cfg time p by ring) (writtenIn c cfg time b p by)
   unfolding writtenBy writtenIn
   written-follows s p by f = written-by (servedOf s ring p by) (servedBy b (b .waiting) p by) (served-whole s p by f)
 
-pub write-follows : (c q : ℕ) (s : Sender) (ring : List ℕ) (b : Book) → Follows c q s ring b → (cfg : StreamConfig) → TypedConfig cfg → (now : ℕ) (p : PayloadWriter) (by : List ℕ)
-    → Follows c q (writeAnswer s cfg now p by ring .0 .sender) (writeAnswer s cfg now p by ring .2) (writeIn c cfg now b p by .book)
-    × (writeAnswer s cfg now p by ring .0 .answer ≡ writeIn c cfg now b p by .answer)
-    × (writeAnswer s cfg now p by ring .0 .payload ≡ writeIn c cfg now b p by .payload)
-    × (writeAnswer s cfg now p by ring .1 ≡ writeIn c cfg now b p by .bytes)
+pub write-follows : (c q : ℕ) (s : Sender) (ring : List ℕ) (b : Book) → Follows c q s ring b → (cfg : StreamConfig) → TypedConfig cfg → (time : ℕ) (p : PayloadWriter) (by : List ℕ)
+    → Follows c q (writeAnswer s cfg time p by ring .0 .sender) (writeAnswer s cfg time p by ring .2) (writeIn c cfg time b p by .book)
+    × (writeAnswer s cfg time p by ring .0 .answer ≡ writeIn c cfg time b p by .answer)
+    × (writeAnswer s cfg time p by ring .0 .payload ≡ writeIn c cfg time b p by .payload)
+    × (writeAnswer s cfg time p by ring .1 ≡ writeIn c cfg time b p by .bytes)
 unfolding writeAnswer writeIn
-write-follows c q s ring b f cfg typed now p by = rw (follows-valid c q s ring b f) (on (checkOf cfg) (payloadValid p (length by)))
+write-follows c q s ring b f cfg typed time p by = rw (follows-valid c q s ring b f) (on (checkOf cfg) (payloadValid p (length by)))
   where
-    on : (k : Outcome) (v : Bool) → Writes c q ring b cfg typed now
-        (entry k v (writeRefused s p by ring) (writtenBy s cfg now p by ring))
-        (entry k v (refusedIn b p by) (writtenIn c cfg now b p by))
+    on : (k : Outcome) (v : Bool) → Writes c q ring b cfg typed time
+        (entry k v (writeRefused s p by ring) (writtenBy s cfg time p by ring))
+        (entry k v (refusedIn b p by) (writtenIn c cfg time b p by))
     on (Refused why) v = (f, refl, refl, refl)
     on Done false = (f, refl, refl, refl)
-    on Done true = written-follows c q ring b cfg typed now s p by f
+    on Done true = written-follows c q ring b cfg typed time s p by f

@@ -13,9 +13,9 @@ pub record Told : Type 0 where
 unfoldable pub toldOf : ℕ → ℕ → Book → Call → Told
 toldOf c q b (queue-words cfg ws) = let a = sentIn c b cfg ws in record { book = a .book; entry = queue-entry cfg ws (a .answer) }
 toldOf c q b (retransmit-request cfg r) = let a = requestedIn q b cfg r in record { book = a .book; entry = request-entry cfg r (a .outcome) }
-toldOf c q b (write cfg now p by) =
-    let a = writeIn c cfg now b p by in
-    record { book = a .book; entry = write-entry cfg now p by (a .answer) (a .payload) (a .bytes) }
+toldOf c q b (write cfg time p by) =
+    let a = writeIn c cfg time b p by in
+    record { book = a .book; entry = write-entry cfg time p by (a .answer) (a .payload) (a .bytes) }
 
 -- what is held, from the calls alone
 unfoldable pub bookFrom : ℕ → ℕ → Book → List Call → Book

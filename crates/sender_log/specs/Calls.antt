@@ -40,9 +40,9 @@ stepOf s ring (queue-words cfg ws) =
 stepOf s ring (retransmit-request cfg r) =
     let h = requestAnswer s cfg ring r in
     record { sender = h .sender; ring = ring; entry = request-entry cfg r (h .outcome) }
-stepOf s ring (write cfg now p b) =
-    let h = writeAnswer s cfg now p b ring in
-    record { sender = h .0 .sender; ring = h .2; entry = write-entry cfg now p b (h .0 .answer) (h .0 .payload) (h .1) }
+stepOf s ring (write cfg time p b) =
+    let h = writeAnswer s cfg time p b ring in
+    record { sender = h .0 .sender; ring = h .2; entry = write-entry cfg time p b (h .0 .answer) (h .0 .payload) (h .1) }
 
 -- the state left, the history's words, and the log, newest first
 pub record Run : Type 0 where
@@ -57,7 +57,7 @@ runFrom s ring t (c ∷ calls) = runFrom (stepOf s ring c .sender) (stepOf s rin
 -- from a start over a lent history of c words, with q places for requests
 unfoldable pub run : ℕ → ℕ → List ℕ → List Call → Run
 unfolding runFrom
-run c q memory calls = runFrom (newAnswer c q memory .0 .sender) (newAnswer c q memory .1) [] calls
+run c q ring₀ calls = runFrom (newAnswer c q ring₀ .0 .sender) (newAnswer c q ring₀ .1) [] calls
 
 -- R and K have 8 bits
 abbrev pub TypedConfig : StreamConfig → Type 0
@@ -67,7 +67,7 @@ TypedConfig cfg = (cfg .«fec_repeats» < 256) × (cfg .«idle_further» < 256)
 abbrev pub Typed : Call → Type 0
 Typed (queue-words cfg ws) = TypedConfig cfg × Words32 ws
 Typed (retransmit-request cfg r) = TypedConfig cfg × (r .seq < turn) × (r .count < turn)
-Typed (write cfg now p b) = TypedConfig cfg
+Typed (write cfg time p b) = TypedConfig cfg
 
 abbrev pub AllTyped : List Call → Type 0
 AllTyped [] = Unit {0}

@@ -35,9 +35,9 @@ repeatsOn retransmits p by last (first ∷ others) = longestEnd (λ again. fitAl
 
 -- the answers to waiting requests; then, a due idle command being queued, repeats and new ones
 unfoldable pub wantedIn : ℕ → StreamConfig → ℕ → Past → PayloadWriter → List ℕ → List Packet
-wantedIn c cfg now x p by =
+wantedIn c cfg time x p by =
     let retransmits : List Packet = answersTo c x (inTurn c x p by (x .waiting)) in
-    let y : Past = idledOn x cfg now in
+    let y : Past = idledOn x cfg time in
     retransmits ++ (repeatsOn retransmits p by (lastWritten c y (cfg .«fec_repeats»)) (newOf y) ++ newOf y)
 
 -- what a write answers and leaves in the payload, of the commands that it has to write
@@ -57,7 +57,7 @@ pub record CountedIn (wanted : List Packet) (p : PayloadWriter) (by : List ℕ) 
 -- every write after every list of calls, into any payload
 abbrev pub Counted : Type 0
 Counted =
-    (c q : ℕ) (memory : List ℕ) → Started c q memory → (calls : List Call) → AllTyped calls
-    → (cfg : StreamConfig) → TypedConfig cfg → (now : ℕ) (p : PayloadWriter) (by : List ℕ)
-    → (let w = writeAnswer (run c q memory calls .sender) cfg now p by (run c q memory calls .ring) in
-    CountedIn (wantedIn c cfg now (pastOf c q memory calls) p by) p by (w .0 .answer) (w .0 .payload) (w .1))
+    (c q : ℕ) (ring₀ : List ℕ) → Started c q ring₀ → (calls : List Call) → AllTyped calls
+    → (cfg : StreamConfig) → TypedConfig cfg → (time : ℕ) (p : PayloadWriter) (by : List ℕ)
+    → (let w = writeAnswer (run c q ring₀ calls .sender) cfg time p by (run c q ring₀ calls .ring) in
+    CountedIn (wantedIn c cfg time (pastOf c q ring₀ calls) p by) p by (w .0 .answer) (w .0 .payload) (w .1))

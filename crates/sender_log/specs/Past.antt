@@ -70,24 +70,24 @@ changes (WriteRefused why) = eqb (numberOf why) 3
 
 -- a due idle command opens one, if none is unwritten
 abbrev pub idledOn : Past → StreamConfig → ℕ → Past
-idledOn x cfg now =
-    cond (isEmpty (x .unwritten) && isDue now (timerOf (x .schedule)))
-    (record { written = x .written; unwritten = [] ∷ []; waiting = x .waiting; schedule = oneMoreAt cfg now (x .schedule) }) x
+idledOn x cfg time =
+    cond (isEmpty (x .unwritten) && isDue time (timerOf (x .schedule)))
+    (record { written = x .written; unwritten = [] ∷ []; waiting = x .waiting; schedule = oneMoreAt cfg time (x .schedule) }) x
 
 -- and so a write that leaves no request waiting
 abbrev pub servedOn : ℕ → Past → StreamConfig → ℕ → PayloadWriter → List ℕ → ℕ → Past
-servedOn c x cfg now p by n =
+servedOn c x cfg time p by n =
     let left : Past = withRequests x (leftAfter c x (inTurn c x p by (x .waiting)) n) in
-    cond (isEmpty (left .waiting)) (idledOn left cfg now) left
+    cond (isEmpty (left .waiting)) (idledOn left cfg time) left
 
 -- n new ones are written; one with words starts the schedule
 abbrev pub wroteOn : Past → StreamConfig → ℕ → ℕ → Past
-wroteOn x cfg now n =
+wroteOn x cfg time n =
     record {
       written = x .written ++ take n (x .unwritten);
       unwritten = drop n (x .unwritten);
       waiting = x .waiting;
-      schedule = cond (ltb 0 (length (wordsIn (take n (x .unwritten))))) (since now (cfg .«idle_interval_ms») []) (x .schedule);
+      schedule = cond (ltb 0 (length (wordsIn (take n (x .unwritten))))) (since time (cfg .«idle_interval_ms») []) (x .schedule);
     }
 
 -- ---- the log, newest first
@@ -96,15 +96,15 @@ wroteOn x cfg now n =
 unfoldable pub pastAfter : ℕ → Past → Entry → Past
 pastAfter c x (queue-entry cfg ws a) = queuedOn x (cfg .«max_command_words») ws a
 pastAfter c x (request-entry cfg r a) = requestedOn x r a
-pastAfter c x (write-entry cfg now p by a p′ by′) =
-    cond (changes a) (wroteOn (servedOn c x cfg now p by (countOf a)) cfg now (opensIn (length (x .written)) (addedIn p p′ by′))) x
+pastAfter c x (write-entry cfg time p by a p′ by′) =
+    cond (changes a) (wroteOn (servedOn c x cfg time p by (countOf a)) cfg time (opensIn (length (x .written)) (addedIn p p′ by′))) x
 
 unfoldable pub pastIn : ℕ → List Entry → Past
 pastIn c [] = fresh
 pastIn c (e ∷ t) = pastAfter c (pastIn c t) e
 
 abbrev pub pastOf : ℕ → ℕ → List ℕ → List Call → Past
-pastOf c q memory calls = pastIn c (run c q memory calls .log)
+pastOf c q ring₀ calls = pastIn c (run c q ring₀ calls .log)
 
 -- ---- what a sender holds
 
@@ -120,5 +120,5 @@ pub record HeldIn (c : ℕ) (s : Sender) (ring : List ℕ) (x : Past) : Type 0 w
 
 abbrev pub Held : Type 0
 Held =
-    (c q : ℕ) (memory : List ℕ) → Started c q memory → (calls : List Call) → AllTyped calls
-    → HeldIn c (run c q memory calls .sender) (run c q memory calls .ring) (pastOf c q memory calls)
+    (c q : ℕ) (ring₀ : List ℕ) → Started c q ring₀ → (calls : List Call) → AllTyped calls
+    → HeldIn c (run c q ring₀ calls .sender) (run c q ring₀ calls .ring) (pastOf c q ring₀ calls)

@@ -49,11 +49,11 @@ pub record Kept (c q : ℕ) (s : Sender) (ring : List ℕ) (b : Book) : Type 0 w
 pub record StateTaken (s : Sender) (ring : List ℕ) : Type 0 where
   pub queue-words : (cfg : StreamConfig) (ws : List ℕ) → sendAnswer s cfg ring ws ≡ tested (checkOf cfg) (unsent s ring) (sentOf s ring (cfg .«max_command_words») ws)
   pub retransmit-request : (cfg : StreamConfig) (r : RetransmitRequest) → requestAnswer s cfg ring r ≡ tested (checkOf cfg) (requestRefused s) (requestedOf s cfg r)
-  pub write : (cfg : StreamConfig) (now : ℕ) (p : PayloadWriter) (by : List ℕ)
-      → writeAnswer s cfg now p by ring
-      ≡ entry (checkOf cfg) (payloadValid p (length by)) (writeRefused s p by ring) (writtenBy s cfg now p by ring)
+  pub write : (cfg : StreamConfig) (time : ℕ) (p : PayloadWriter) (by : List ℕ)
+      → writeAnswer s cfg time p by ring
+      ≡ entry (checkOf cfg) (payloadValid p (length by)) (writeRefused s p by ring) (writtenBy s cfg time p by ring)
   pub deadline : deadlineAnswer s ring ≡ deadlineOf s
-  pub wants : (now : ℕ) → wantsAnswer s ring now ≡ Is (wantsOf s now)
+  pub wants : (time : ℕ) → wantsAnswer s ring time ≡ Is (wantsOf s time)
   pub next : nextAnswer s ring ≡ Number (nextOf s)
   pub reset : resetAnswer s ring ≡ (record { sender = resetOf s ring .0; answer = Done }, resetOf s ring .1)
 
@@ -61,10 +61,10 @@ pub record StateTaken (s : Sender) (ring : List ℕ) : Type 0 where
 pub record StateRefused (s : Sender) (ring : List ℕ) : Type 0 where
   pub queue-words : (cfg : StreamConfig) (ws : List ℕ) → sendAnswer s cfg ring ws ≡ tested (checkOf cfg) (unsent s ring) (unsent s ring InvalidState)
   pub retransmit-request : (cfg : StreamConfig) (r : RetransmitRequest) → requestAnswer s cfg ring r ≡ tested (checkOf cfg) (requestRefused s) (requestRefused s InvalidState)
-  pub write : (cfg : StreamConfig) (now : ℕ) (p : PayloadWriter) (by : List ℕ)
-      → writeAnswer s cfg now p by ring ≡ tested (checkOf cfg) (writeRefused s p by ring) (writeRefused s p by ring InvalidState)
+  pub write : (cfg : StreamConfig) (time : ℕ) (p : PayloadWriter) (by : List ℕ)
+      → writeAnswer s cfg time p by ring ≡ tested (checkOf cfg) (writeRefused s p by ring) (writeRefused s p by ring InvalidState)
   pub deadline : deadlineAnswer s ring ≡ DeadlineRefused InvalidState
-  pub wants : (now : ℕ) → wantsAnswer s ring now ≡ AnsweredRefused InvalidState
+  pub wants : (time : ℕ) → wantsAnswer s ring time ≡ AnsweredRefused InvalidState
   pub next : nextAnswer s ring ≡ NextRefused InvalidState
   pub reset : resetAnswer s ring ≡ (record { sender = s; answer = Refused InvalidState }, ring)
 
@@ -85,40 +85,40 @@ NoRoom p by (c ∷ cs) = limitOf p (length by) < startOf p + sizeOf c
 
 -- A write answers "more" exactly when a command is left that doesn't fit; without it nothing is left.
 pub record MoreRight (c : ℕ) (b : Book) : Type 0 where
-  pub more : (cfg : StreamConfig) (now : ℕ) (p : PayloadWriter) (by : List ℕ) (n : ℕ)
-      → writeIn c cfg now b p by .answer ≡ Written record { commands = n; more = true }
-      → NoRoom (writeIn c cfg now b p by .payload) (writeIn c cfg now b p by .bytes) (nextIn (writeIn c cfg now b p by .book))
-  pub no-more : (cfg : StreamConfig) (now : ℕ) (p : PayloadWriter) (by : List ℕ) (n : ℕ)
-      → writeIn c cfg now b p by .answer ≡ Written record { commands = n; more = false }
-      → (writeIn c cfg now b p by .book .waiting ≡ []) × (writeIn c cfg now b p by .book .unwritten ≡ [])
+  pub more : (cfg : StreamConfig) (time : ℕ) (p : PayloadWriter) (by : List ℕ) (n : ℕ)
+      → writeIn c cfg time b p by .answer ≡ Written record { commands = n; more = true }
+      → NoRoom (writeIn c cfg time b p by .payload) (writeIn c cfg time b p by .bytes) (nextIn (writeIn c cfg time b p by .book))
+  pub no-more : (cfg : StreamConfig) (time : ℕ) (p : PayloadWriter) (by : List ℕ) (n : ℕ)
+      → writeIn c cfg time b p by .answer ≡ Written record { commands = n; more = false }
+      → (writeIn c cfg time b p by .book .waiting ≡ []) × (writeIn c cfg time b p by .book .unwritten ≡ [])
 
 -- ---- the theorems
 
 -- a start that isn't refused
 abbrev pub Started : ℕ → ℕ → List ℕ → Type 0
-Started c q memory = newAnswer c q memory .0 .answer ≡ Done
+Started c q ring₀ = newAnswer c q ring₀ .0 .answer ≡ Done
 
 abbrev pub Reached : Type 0
 Reached =
-    (c q : ℕ) (memory : List ℕ) → Started c q memory → (calls : List Call) → AllTyped calls
-    → Kept c q (run c q memory calls .sender) (run c q memory calls .ring) (bookOf c q calls)
+    (c q : ℕ) (ring₀ : List ℕ) → Started c q ring₀ → (calls : List Call) → AllTyped calls
+    → Kept c q (run c q ring₀ calls .sender) (run c q ring₀ calls .ring) (bookOf c q calls)
 
 abbrev pub NeverInvalid : Type 0
 NeverInvalid =
-    (c q : ℕ) (memory : List ℕ) → Started c q memory → (calls : List Call) → AllTyped calls
-    → StateTaken (run c q memory calls .sender) (run c q memory calls .ring)
+    (c q : ℕ) (ring₀ : List ℕ) → Started c q ring₀ → (calls : List Call) → AllTyped calls
+    → StateTaken (run c q ring₀ calls .sender) (run c q ring₀ calls .ring)
 
 -- a start that is refused leaves a sender that every call refuses, whatever history is lent
 abbrev pub NotStarted : Type 0
-NotStarted = (c q : ℕ) (memory : List ℕ) (why : Refusal) → newAnswer c q memory .0 .answer ≡ Refused why → (ring : List ℕ) → StateRefused (newAnswer c q memory .0 .sender) ring
+NotStarted = (c q : ℕ) (ring₀ : List ℕ) (why : Refusal) → newAnswer c q ring₀ .0 .answer ≡ Refused why → (ring : List ℕ) → StateRefused (newAnswer c q ring₀ .0 .sender) ring
 
 -- each answer, and with it the whole log, is settled by the past calls
-pub record AnsweredIn (c q : ℕ) (memory : List ℕ) (calls : List Call) : Type 0 where
-  pub next : (call : Call) → Typed call → stepOf (run c q memory calls .sender) (run c q memory calls .ring) call .entry ≡ toldOf c q (bookOf c q calls) call .entry
-  pub whole : run c q memory calls .log ≡ saidFrom c q nothing [] calls
+pub record AnsweredIn (c q : ℕ) (ring₀ : List ℕ) (calls : List Call) : Type 0 where
+  pub next : (call : Call) → Typed call → stepOf (run c q ring₀ calls .sender) (run c q ring₀ calls .ring) call .entry ≡ toldOf c q (bookOf c q calls) call .entry
+  pub whole : run c q ring₀ calls .log ≡ saidFrom c q nothing [] calls
 
 abbrev pub Answered : Type 0
-Answered = (c q : ℕ) (memory : List ℕ) → Started c q memory → (calls : List Call) → AllTyped calls → AnsweredIn c q memory calls
+Answered = (c q : ℕ) (ring₀ : List ℕ) → Started c q ring₀ → (calls : List Call) → AllTyped calls → AnsweredIn c q ring₀ calls
 
 abbrev pub More : Type 0
-More = (c q : ℕ) (memory : List ℕ) → Started c q memory → (calls : List Call) → AllTyped calls → MoreRight c (bookOf c q calls)
+More = (c q : ℕ) (ring₀ : List ℕ) → Started c q ring₀ → (calls : List Call) → AllTyped calls → MoreRight c (bookOf c q calls)

@@ -43,9 +43,9 @@ timerOf (since t0 T1 ks) =
     cond (allQueued ks) Off (Waiting record { due = later (lastAt t0 ks) (stepAfter T1 ks); step = length ks; interval = stepAfter T1 ks })
 
 abbrev pub isDue : ℕ → IdleTimer → Bool
-isDue now Off = false
-isDue now (Waiting i) = leb (i .due) now
+isDue time Off = false
+isDue time (Waiting i) = leb (i .due) time
 
 abbrev pub oneMoreAt : StreamConfig → ℕ → Schedule → Schedule
-oneMoreAt cfg now none = none
-oneMoreAt cfg now (since t0 T1 ks) = since t0 T1 (record { time = now; settings = cfg } ∷ ks)
+oneMoreAt cfg time none = none
+oneMoreAt cfg time (since t0 T1 ks) = since t0 T1 (record { time = time; settings = cfg } ∷ ks)

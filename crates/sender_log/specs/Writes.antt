@@ -88,12 +88,12 @@ withIdle b i = record { first = b .first; written = b .written; unwritten = b .u
 
 -- none is queued while a command is unwritten
 abbrev pub idledBy : ℕ → StreamConfig → ℕ → Book → IdleTimer → Book
-idledBy c cfg now b Off = b
-idledBy c cfg now b (Waiting i) =
-    cond (not (isEmpty (b .unwritten)) || ltb now (i .due)) b (withIdle (pushedIn c [] b) (idleNext cfg now i))
+idledBy c cfg time b Off = b
+idledBy c cfg time b (Waiting i) =
+    cond (not (isEmpty (b .unwritten)) || ltb time (i .due)) b (withIdle (pushedIn c [] b) (idleNext cfg time i))
 
 unfoldable pub idledIn : ℕ → StreamConfig → ℕ → Book → Book
-idledIn c cfg now b = idledBy c cfg now b (b .idle)
+idledIn c cfg time b = idledBy c cfg time b (b .idle)
 
 -- ---- repeats and new commands
 
@@ -103,13 +103,13 @@ againIn b R p by first = repeatsOf p by first (writtenFrom b (length (b .written
 
 -- n unwritten commands are written; writing one with words starts the idle schedule
 unfoldable pub writtenOn : StreamConfig → ℕ → ℕ → Book → Book
-writtenOn cfg now n b =
+writtenOn cfg time n b =
     record {
       first = b .first;
       written = b .written ++ take n (b .unwritten);
       unwritten = drop n (b .unwritten);
       waiting = b .waiting;
-      idle = idleAfter cfg now (take n (newIn b)) (b .idle);
+      idle = idleAfter cfg time (take n (newIn b)) (b .idle);
     }
 
 -- what is held, the answer, the payload and its bytes
@@ -127,25 +127,25 @@ refused b p by why = record { book = b; answer = Refused why; payload = p; bytes
 
 -- n commands were written before
 abbrev pub newBy : StreamConfig → ℕ → ℕ → Book → PayloadWriter → List ℕ → List Packet → WriteIn
-newBy cfg now n b p by [] = wrote b p by n false
-newBy cfg now n b p by (first ∷ others) =
+newBy cfg time n b p by [] = wrote b p by n false
+newBy cfg time n b p by (first ∷ others) =
     let again = againIn b (cfg .«fec_repeats») p by first in
     let out = rowOf p by (again ++ (first ∷ others)) in
     cond (not (fitAll p by (first ∷ []))) (cond (eqb (p .len) 0) (refused b p by TooLarge) (wrote b p by n true))
-    (wrote (writtenOn cfg now (out .written - length again) b) (out .payload) (out .bytes) (n + out .written) (not (out .whole)))
+    (wrote (writtenOn cfg time (out .written - length again) b) (out .payload) (out .bytes) (n + out .written) (not (out .whole)))
 
 unfoldable pub newWritten : StreamConfig → ℕ → ℕ → Book → PayloadWriter → List ℕ → WriteIn
-newWritten cfg now n b p by = newBy cfg now n b p by (newIn b)
+newWritten cfg time n b p by = newBy cfg time n b p by (newIn b)
 
 -- ---- the whole write, in a history of c words
 unfoldable pub writtenIn : ℕ → StreamConfig → ℕ → Book → PayloadWriter → List ℕ → WriteIn
-writtenIn c cfg now b p by =
+writtenIn c cfg time b p by =
     let served = servedIn b (b .waiting) p by in
     let left : Book = withWaiting b (served .waiting) in
     cond (served .more) (wrote left (served .payload) (served .bytes) (served .commands) true)
-    (newWritten cfg now (served .commands) (idledIn c cfg now left) (served .payload) (served .bytes))
+    (newWritten cfg time (served .commands) (idledIn c cfg time left) (served .payload) (served .bytes))
 
 -- settings, then the payload
 unfoldable pub writeIn : ℕ → StreamConfig → ℕ → Book → PayloadWriter → List ℕ → WriteIn
-writeIn c cfg now b p by =
-    entry (checkOf cfg) (payloadValid p (length by)) (refused b p by) (writtenIn c cfg now b p by)
+writeIn c cfg time b p by =
+    entry (checkOf cfg) (payloadValid p (length by)) (refused b p by) (writtenIn c cfg time b p by)

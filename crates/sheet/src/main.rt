@@ -136,7 +136,7 @@ fn figure(line: &[u8]) -> usize {
     0
 }
 
-// The same for the blank and the `k` bytes after it.
+// The figure in the blank and the `k` bytes after it; 0 where there are fewer.
 fn whole(line: &[u8], k: usize) -> usize {
     if line.len() <= k {
         return 0;

@@ -26,7 +26,7 @@ unfoldable pub after : Sheet → List ℕ → List Call → Sheet × List ℕ
 after s b [] = (s, b)
 after s b (c ∷ cs) = after (blockOf s b (c .0) (c .1) .0 .sheet) (blockOf s b (c .0) (c .1) .1) cs
 
--- the same from a start over a ring of n words
+-- the state and the ring after some calls, from a start over a ring of n words
 abbrev pub started : ℕ → List Call → Sheet × List ℕ
 started n cs = after (fresh n) (replicate n 0) cs
 

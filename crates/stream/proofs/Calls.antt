@@ -11,7 +11,7 @@ use Rattle.packet.specs.Write.{validOf as payloadValid}
 use Rattle.packet.specs.declared.writer.PayloadWriter.{PayloadWriter}
 use Rattle.receiver.specs.Receiver.{takenOf}
 use Rattle.receiver.specs.Answers.{takeAnswer}
-use Rattle.receiver.specs.declared.receiver.Requested.{Requested}
+use Rattle.receiver.specs.declared.receiver.RequestWritten.{RequestWritten}
 use Rattle.sender.specs.Answers.{writeAnswer}
 use Rattle.sender.specs.Writing.{writtenBy}
 use Rattle.stream.specs.State.{validOf}
@@ -26,12 +26,12 @@ unfolding takeAnswer
 taken-called s cfg p b ring e v w = rw (e, valid-receiver s ring v, w)
 
 write-called : (s : DataStream) (cfg : StreamConfig) (p : PayloadWriter) (b ring : List ℕ) → checkOf cfg ≡ Done → validOf s ring ≡ true → payloadValid p (length b) ≡ true
-    → (now : ℕ) (t : Requested × List ℕ) → t ≡ takenOf (s .receiver) cfg p b
-    → writtenBy (s .sender) cfg now (t .0 .payload) (t .1) ring ≡ writeAnswer (s .sender) cfg now (t .0 .payload) (t .1) ring
+    → (time : ℕ) (t : RequestWritten × List ℕ) → t ≡ takenOf (s .receiver) cfg p b
+    → writtenBy (s .sender) cfg time (t .0 .payload) (t .1) ring ≡ writeAnswer (s .sender) cfg time (t .0 .payload) (t .1) ring
 unfolding writeAnswer
-write-called s cfg p b ring e v w now t is = rw (e, valid-sender s ring v, taken-valid (s .receiver) cfg p b w (t .0) (t .1) is)
+write-called s cfg p b ring e v w time t is = rw (e, valid-sender s ring v, taken-valid (s .receiver) cfg p b w (t .0) (t .1) is)
 
 pub write-calls-ends : WriteCallsEnds
 write-calls-ends s cfg p b ring e v w =
     let t = taken-called s cfg p b ring e v w in
-    record { take-request = t; write = λ now. write-called s cfg p b ring e v w now (takeAnswer (s .receiver) cfg p b) (sym t) }
+    record { take-request = t; write = λ time. write-called s cfg p b ring e v w time (takeAnswer (s .receiver) cfg p b) (sym t) }

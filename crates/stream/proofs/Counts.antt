@@ -37,8 +37,8 @@ row-most cs p b v = omega (arith, row-grows cs p b, start-most (rowOf p b cs .pa
 counted : (n m : ℕ) → m ≤ 350 → n + m ≤ n + 350
 counted n m h = omega arith
 
-module _ (s : Sender) (cfg : StreamConfig) (now n : ℕ) (p : PayloadWriter) (b ring : List ℕ) (v : payloadValid p (length b) ≡ true) where
-  by-most : (cs : List Packet) → commandsIn (newBy s cfg now n p b ring cs .0 .answer) ≤ n + 350
+module _ (s : Sender) (cfg : StreamConfig) (time n : ℕ) (p : PayloadWriter) (b ring : List ℕ) (v : payloadValid p (length b) ≡ true) where
+  by-most : (cs : List Packet) → commandsIn (newBy s cfg time n p b ring cs .0 .answer) ≤ n + 350
   by-most [] = omega arith
   by-most (first ∷ others) = elim (split (fitAll p b (first ∷ []))) [
     | inl f ↦ rw f (counted n _ (row-most _ p b v))
@@ -48,24 +48,24 @@ module _ (s : Sender) (cfg : StreamConfig) (now n : ℕ) (p : PayloadWriter) (b 
     ]
   ]
 
-  new-most : commandsIn (newOf s cfg now n p b ring .0 .answer) ≤ n + 350
+  new-most : commandsIn (newOf s cfg time n p b ring .0 .answer) ≤ n + 350
   unfolding newOf
   new-most = by-most (commandsAt s ring (writtenCount s) (s .unsent))
 
-module _ (s : Sender) (cfg : StreamConfig) (now : ℕ) (p : PayloadWriter) (b ring : List ℕ) (v : senderValid s ring ≡ true) (pv : payloadValid p (length b) ≡ true) where
-  all-most : commandsIn (writtenBy s cfg now p b ring .0 .answer) ≤ 700
+module _ (s : Sender) (cfg : StreamConfig) (time : ℕ) (p : PayloadWriter) (b ring : List ℕ) (v : senderValid s ring ≡ true) (pv : payloadValid p (length b) ≡ true) where
+  all-most : commandsIn (writtenBy s cfg time p b ring .0 .answer) ≤ 700
   unfolding writtenBy
   all-most =
       let z = servedOf s ring p b in
       let sound = served-sound s ring p b v pv in
       let few : z .written ≤ 350 = omega (arith, sound .grows, start-most (z .payload) _ (sound .payload)) in
-      let idled = idledOf (z .sender) cfg now ring in
+      let idled = idledOf (z .sender) cfg time ring in
       elim (split (z .more)) [
         | inl m ↦ rw m (omega arith)
-        | inr m ↦ rw m (le-trans (new-most (idled .0) cfg now (z .written) (z .payload) (z .bytes) (idled .1) (sound .payload)) (omega arith))
+        | inr m ↦ rw m (le-trans (new-most (idled .0) cfg time (z .written) (z .payload) (z .bytes) (idled .1) (sound .payload)) (omega arith))
       ]
 
-  pub written-most : (w : Wrote) (bytes next : List ℕ) → (w, bytes, next) ≡ writtenBy s cfg now p b ring → (x : Written) → w .answer ≡ Counted x → x .commands ≤ 700
+  pub written-most : (w : Wrote) (bytes next : List ℕ) → (w, bytes, next) ≡ writtenBy s cfg time p b ring → (x : Written) → w .answer ≡ Counted x → x .commands ≤ 700
   written-most w bytes next e x a =
-      let f : writtenBy s cfg now p b ring .0 .answer ≡ Counted x = sym (ap (λ (y : Wrote × List ℕ × List ℕ). y .0 .answer) e) ∙ a in
+      let f : writtenBy s cfg time p b ring .0 .answer ≡ Counted x = sym (ap (λ (y : Wrote × List ℕ × List ℕ). y .0 .answer) e) ∙ a in
       rw f at all-most

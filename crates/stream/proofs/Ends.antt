@@ -9,10 +9,10 @@ use Rattle.command.specs.declared.retransmit.RetransmitError.{RetransmitError}
 use Rattle.receiver.specs.Answers as receiver
 use Rattle.receiver.specs.declared.receiver.Heard.{Heard as ReceiverHeard}
 use Rattle.receiver.specs.declared.receiver.Told.{Told as ReceiverTold}
-use Rattle.receiver.specs.declared.receiver.Requested.{Requested as ReceiverTook}
+use Rattle.receiver.specs.declared.receiver.RequestWritten.{RequestWritten as ReceiverTook}
 use Rattle.sender.specs.Answers as sender
 use Rattle.sender.specs.declared.sender.Sent.{Sent as SenderSent}
-use Rattle.sender.specs.declared.sender.Requested.{Requested as SenderRequested}
+use Rattle.sender.specs.declared.sender.RequestHeard.{RequestHeard as SenderRequested}
 use Rattle.stream.specs.State.{withSender, withReceiver}
 use Rattle.stream.specs.Ends.{sendAnswer, requestAnswer, dataAnswer, toldBy, errorAnswer, nakAnswer, pollAnswer, takeAnswer}
 use Rattle.stream.specs.declared.stream.DataStream.{DataStream}
@@ -32,10 +32,10 @@ module _ (s : DataStream) where
     request-end r e q = rw (← q)
 
   -- ---- the receiver's
-  pub data-end : (cfg : StreamConfig) (now seq : ℕ) (e : ReceiverHeard) → e ≡ receiver.dataAnswer (s .receiver) cfg now seq
-      → record { stream = withReceiver s (e .receiver); answer = e .answer } ≡ dataAnswer s cfg now seq
+  pub data-end : (cfg : StreamConfig) (time seq : ℕ) (e : ReceiverHeard) → e ≡ receiver.dataAnswer (s .receiver) cfg time seq
+      → record { stream = withReceiver s (e .receiver); answer = e .answer } ≡ dataAnswer s cfg time seq
   unfolding dataAnswer
-  data-end cfg now seq e q = rw (← q)
+  data-end cfg time seq e q = rw (← q)
 
   module _ (e : ReceiverTold) (t : Told) (f : t ≡ toldBy (s .sender) e) where
     pub error-end : (err : RetransmitError) → e ≡ receiver.errorAnswer (s .receiver) err → t ≡ errorAnswer s err
@@ -46,9 +46,9 @@ module _ (s : DataStream) where
     unfolding nakAnswer
     nak-end q = rw (← q) f
 
-    pub poll-end : (cfg : StreamConfig) (now : ℕ) → e ≡ receiver.pollAnswer (s .receiver) cfg now → t ≡ pollAnswer s cfg now
+    pub poll-end : (cfg : StreamConfig) (time : ℕ) → e ≡ receiver.pollAnswer (s .receiver) cfg time → t ≡ pollAnswer s cfg time
     unfolding pollAnswer
-    poll-end cfg now q = rw (← q) f
+    poll-end cfg time q = rw (← q) f
 
   pub take-end : (cfg : StreamConfig) (p : PayloadWriter) (b after : List ℕ) (e : ReceiverTook) → (e, after) ≡ receiver.takeAnswer (s .receiver) cfg p b
       → (record { stream = withReceiver s (e .receiver); payload = e .payload; answer = e .answer }, after) ≡ takeAnswer s cfg p b

@@ -17,10 +17,10 @@ use Rattle.window.specs.declared.window.Span.{Span}
 use Rattle.window.specs.declared.window.Span.the-variants.{Nothing, Of}
 use Rattle.receiver.specs.Receiver.{enabledOf, withAsked, notDue, takenBy, offeredOf, takenSpan, takenOf}
 use Rattle.receiver.specs.declared.receiver.Receiver.{Receiver}
-use Rattle.receiver.specs.declared.receiver.Requested.{Requested}
+use Rattle.receiver.specs.declared.receiver.RequestWritten.{RequestWritten}
 
 module _ (r : Receiver) (cfg : StreamConfig) (p : PayloadWriter) (b : List ℕ) (v : payloadValid p (length b) ≡ true) where
-  abbrev Kept : Requested × List ℕ → Type 0
+  abbrev Kept : RequestWritten × List ℕ → Type 0
   Kept t = (payloadValid (t .0 .payload) (length b) ≡ true) × (length (t .1) ≡ length b)
 
   taken-payload : (q : RetransmitRequest) (w : PayloadWriter) (a : Outcome) → takenBy r q w a .payload ≡ w
@@ -44,5 +44,5 @@ module _ (r : Receiver) (cfg : StreamConfig) (p : PayloadWriter) (b : List ℕ) 
   unfolding takenOf
   taken-kept = kept (r .«request_due») (enabledOf r cfg)
 
-  pub taken-valid : (t : Requested) (bytes : List ℕ) → (t, bytes) ≡ takenOf r cfg p b → payloadValid (t .payload) (length bytes) ≡ true
+  pub taken-valid : (t : RequestWritten) (bytes : List ℕ) → (t, bytes) ≡ takenOf r cfg p b → payloadValid (t .payload) (length bytes) ≡ true
   taken-valid t bytes e = let k : Kept (t, bytes) = subst Kept (sym e) taken-kept in rw (k .1) (k .0)

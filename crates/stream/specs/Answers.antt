@@ -18,14 +18,14 @@ use Rattle.config.specs.declared.answer.Answered.the-variants.{Is, Refused as A
 use Rattle.config.specs.declared.answer.Deadline.{Deadline}
 use Rattle.config.specs.declared.answer.Deadline.the-variants.{Nothing, At, Refused as DeadlineRefused}
 use Rattle.sender.specs.Requests as sender
-use Rattle.stream.specs.State.{validOf, fresh, nobody}
+use Rattle.stream.specs.State.{validOf, fresh, unstarted}
 use Rattle.stream.specs.declared.stream.DataStream.{DataStream}
 use Rattle.stream.specs.declared.stream.Started.{Started}
 use Rattle.stream.specs.declared.stream.WasReset.{WasReset}
 
 -- ---- start and reset
 abbrev pub notStarted : Refusal → Started
-notStarted why = record { stream = nobody; answer = Refused why }
+notStarted why = record { stream = unstarted; answer = Refused why }
 
 -- W isn't 1 to 128, the history isn't 65 to 32,768 words or not what is lent, or the ring isn't 1 to 16
 abbrev pub sizesOut : ℕ → ℕ → ℕ → List ℕ → Bool
@@ -64,4 +64,4 @@ deadlineAnswer d ring = onState (validOf d ring) DeadlineRefused (earlier (recei
 
 -- a request is due, or the sender has something to write
 unfoldable pub wantsAnswer : DataStream → List ℕ → ℕ → Answered
-wantsAnswer d ring now = onState (validOf d ring) AnsweredRefused (Is (d .receiver .«request_due» || sender.wantsOf (d .sender) now))
+wantsAnswer d ring time = onState (validOf d ring) AnsweredRefused (Is (d .receiver .«request_due» || sender.wantsOf (d .sender) time))

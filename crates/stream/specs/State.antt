@@ -12,13 +12,13 @@ use Rattle.stream.specs.declared.stream.DataStream.{DataStream}
 unfoldable pub validOf : DataStream → List ℕ → Bool
 validOf s ring = receiverValid (s .receiver) && senderValid (s .sender) ring
 
--- a start with this window, history and request ring: both ends fresh
+-- a start with this window, history and request queue: both ends fresh
 abbrev pub fresh : ℕ → ℕ → ℕ → DataStream
 fresh window words places = record { sender = freshSender words places; receiver = freshOf window }
 
 -- what stands in for a stream where the start is refused: one that every call refuses
-abbrev pub nobody : DataStream
-nobody = fresh 0 0 0
+abbrev pub unstarted : DataStream
+unstarted = fresh 0 0 0
 
 -- one end changes, and the other is as it was
 abbrev pub withSender : DataStream → Sender → DataStream

@@ -20,8 +20,8 @@ use Rattle.stream.specs.declared.stream.DataStream.{DataStream}
 -- (The other calls of one end are that end's by definition.)
 pub record EndsCalled (s : DataStream) (cfg : StreamConfig) (p : PayloadWriter) (b ring : List ℕ) : Type 0 where
   pub take-request : takenOf (s .receiver) cfg p b ≡ takeAnswer (s .receiver) cfg p b
-  pub write : (now : ℕ) → let t = takeAnswer (s .receiver) cfg p b in
-      writtenBy (s .sender) cfg now (t .0 .payload) (t .1) ring ≡ Sender.writeAnswer (s .sender) cfg now (t .0 .payload) (t .1) ring
+  pub write : (time : ℕ) → let t = takeAnswer (s .receiver) cfg p b in
+      writtenBy (s .sender) cfg time (t .0 .payload) (t .1) ring ≡ Sender.writeAnswer (s .sender) cfg time (t .0 .payload) (t .1) ring
 
 abbrev pub WriteCallsEnds : Type 0
 WriteCallsEnds =

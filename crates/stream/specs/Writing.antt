@@ -32,24 +32,24 @@ countedAlso n (Refused why) = Refused why
 
 -- the sender's write, after n commands
 unfoldable pub sentAfter : ℕ → DataStream → StreamConfig → ℕ → PayloadWriter → List ℕ → List ℕ → Wrote × List ℕ × List ℕ
-sentAfter n s cfg now p b ring =
-    let w = writtenBy (s .sender) cfg now p b ring in
+sentAfter n s cfg time p b ring =
+    let w = writtenBy (s .sender) cfg time p b ring in
     (record { stream = withSender s (w .0 .sender); payload = w .0 .payload; answer = countedAlso n (w .0 .answer) }, w .1, w .2)
 
 -- a request that doesn't fit ends the write; one that was written is one command
 abbrev pub afterRequest : Request → DataStream → StreamConfig → ℕ → PayloadWriter → List ℕ → List ℕ → Wrote × List ℕ × List ℕ
-afterRequest (NotTaken why) s cfg now p b ring = writeRefused s p b ring why
-afterRequest NoSpace s cfg now p b ring =
+afterRequest (NotTaken why) s cfg time p b ring = writeRefused s p b ring why
+afterRequest NoSpace s cfg time p b ring =
     (record { stream = s; payload = p; answer = Written record { commands = 0; more = true } }, b, ring)
-afterRequest NotDue s cfg now p b ring = sentAfter 0 s cfg now p b ring
-afterRequest Taken s cfg now p b ring = sentAfter 1 s cfg now p b ring
+afterRequest NotDue s cfg time p b ring = sentAfter 0 s cfg time p b ring
+afterRequest Taken s cfg time p b ring = sentAfter 1 s cfg time p b ring
 
 -- over settings, states and a payload that were tested
 unfoldable pub dataWritten : DataStream → StreamConfig → ℕ → PayloadWriter → List ℕ → List ℕ → Wrote × List ℕ × List ℕ
-dataWritten s cfg now p b ring =
+dataWritten s cfg time p b ring =
     let t = takenOf (s .receiver) cfg p b in
-    afterRequest (t .0 .answer) (withReceiver s (t .0 .receiver)) cfg now (t .0 .payload) (t .1) ring
+    afterRequest (t .0 .answer) (withReceiver s (t .0 .receiver)) cfg time (t .0 .payload) (t .1) ring
 
 unfoldable pub writeAnswer : DataStream → StreamConfig → ℕ → PayloadWriter → List ℕ → List ℕ → Wrote × List ℕ × List ℕ
-writeAnswer s cfg now p b ring =
-    entry (checkOf cfg) (validOf s ring && payloadValid p (length b)) (writeRefused s p b ring) (dataWritten s cfg now p b ring)
+writeAnswer s cfg time p b ring =
+    entry (checkOf cfg) (validOf s ring && payloadValid p (length b)) (writeRefused s p b ring) (dataWritten s cfg time p b ring)

@@ -4,7 +4,7 @@ ghost use mathlib.Core.Path.{_≡_};
 ghost use Rattle.stream.specs.Ends.{sendAnswer, requestAnswer, dataAnswer, toldBy, errorAnswer, nakAnswer, pollAnswer, takeAnswer};
 ghost use Rattle.stream.specs.Answers.{notStarted, newAnswer, resetAnswer, deadlineAnswer, wantsAnswer};
 ghost use Rattle.stream.specs.Writing.{writeAnswer};
-use super::valid;
+use super::tested;
 use command::data::UmpData;
 use command::retransmit::RetransmitError;
 use command::retransmit::RetransmitRequest;
@@ -47,7 +47,7 @@ pub struct Sent {
     pub answer: Outcome,
 }
 
-pub struct Requested {
+pub struct RequestHeard {
     pub stream: DataStream,
     pub outcome: RequestOutcome,
 }
@@ -62,7 +62,7 @@ pub struct Told {
     pub event: StreamEvent,
 }
 
-pub struct Taken {
+pub struct RequestWritten {
     pub stream: DataStream,
     pub payload: PayloadWriter,
     pub answer: Request,
@@ -78,7 +78,7 @@ pub struct Wrote {
 fn not_started(why: Refusal) -> Started
     ensures { λ r. ⌜ r ≡ notStarted why ⌝ }
 {
-    let none = sender::valid::not_started();
+    let none = sender::tested::not_started();
     let sender = none.sender;
     Started {
         stream: DataStream {
@@ -113,7 +113,7 @@ fn event(sender: Sender, by: receiver::receiver::Told) -> Told
 
 impl DataStream {
     // A fresh stream: a receive window of `window` numbers, a lent history of `words` words, which is
-    // zeroed, and a request ring of `places` places; 12 for sizes that are not taken.
+    // zeroed, and a request queue of `places` places; 12 for sizes that are not taken.
     pub fn new(
         cfg: StreamConfig,
         window: u32,
@@ -147,13 +147,13 @@ impl DataStream {
     pub fn reset(self, ring: &mut [u32]) -> WasReset
         ensures { λ r. ⌜ (r, now (ring .exit)) ≡ resetAnswer self (now (ring .entry)) ⌝ }
     {
-        if valid::is_valid(self, &ring[..]) {
+        if tested::is_valid(self, &ring[..]) {
             let receiver = self.receiver;
             let sender = self.sender;
             return WasReset {
                 stream: DataStream {
-                    sender: sender::valid::reset(sender, ring),
-                    receiver: receiver::valid::reset(receiver),
+                    sender: sender::tested::reset(sender, ring),
+                    receiver: receiver::tested::reset(receiver),
                 },
                 answer: Outcome::Done,
             };
@@ -185,7 +185,7 @@ impl DataStream {
         cfg: StreamConfig,
         ring: &[u32],
         req: RetransmitRequest,
-    ) -> Requested
+    ) -> RequestHeard
         ensures { λ r. ⌜ r ≡ requestAnswer self cfg (now (ring .entry)) req ⌝ }
     {
         let before = self.sender;
@@ -193,7 +193,7 @@ impl DataStream {
         let requested = before.on_retransmit_request(cfg, ring, req);
         let sender = requested.sender;
         let outcome = requested.outcome;
-        Requested {
+        RequestHeard {
             stream: DataStream { sender, receiver },
             outcome,
         }
@@ -242,7 +242,12 @@ impl DataStream {
     }
 
     // Takes a due request into a payload, and writes nothing else.
-    pub fn write_request(self, cfg: StreamConfig, p: PayloadWriter, buf: &mut [u8]) -> Taken
+    pub fn write_request(
+        self,
+        cfg: StreamConfig,
+        p: PayloadWriter,
+        buf: &mut [u8],
+    ) -> RequestWritten
         ensures { λ r. ⌜ (r, now (buf .exit)) ≡ takeAnswer self cfg p (now (buf .entry)) ⌝ }
     {
         let sender = self.sender;
@@ -251,7 +256,7 @@ impl DataStream {
         let receiver = taken.receiver;
         let payload = taken.payload;
         let answer = taken.answer;
-        Taken {
+        RequestWritten {
             stream: DataStream { sender, receiver },
             payload,
             answer,
@@ -262,12 +267,12 @@ impl DataStream {
     pub fn next_deadline(self, ring: &[u32]) -> Deadline
         ensures { λ r. ⌜ r ≡ deadlineAnswer self (now (ring .entry)) ⌝ }
     {
-        if valid::is_valid(self, ring) {
+        if tested::is_valid(self, ring) {
             let receiver = self.receiver;
             let sender = self.sender;
-            return valid::earlier(
-                receiver::valid::next_deadline(receiver),
-                sender::valid::next_deadline(sender),
+            return tested::earlier(
+                receiver::tested::next_deadline(receiver),
+                sender::tested::next_deadline(sender),
             );
         }
         Deadline::Refused(Refusal::InvalidState)
@@ -277,13 +282,13 @@ impl DataStream {
     pub fn wants_write(self, ring: &[u32], time: u64) -> Answered
         ensures { λ r. ⌜ r ≡ wantsAnswer self (now (ring .entry)) time ⌝ }
     {
-        if valid::is_valid(self, ring) {
+        if tested::is_valid(self, ring) {
             let receiver = self.receiver;
             let sender = self.sender;
             if receiver.request_due {
                 return Answered::Is(true);
             }
-            return Answered::Is(sender::valid::wants_write(sender, time));
+            return Answered::Is(sender::tested::wants_write(sender, time));
         }
         Answered::Refused(Refusal::InvalidState)
     }
@@ -307,10 +312,10 @@ impl DataStream {
                 answer: Writing::Refused(why),
             },
             Outcome::Done => {
-                let tested = valid::test(self, &ring[..], cfg.fec_repeats as usize);
-                if tested.ok {
-                    if packet::valid::is_valid(p, buf.len()) {
-                        return valid::write_data(self, cfg, time, p, buf, ring, tested.at);
+                let found = tested::test(self, &ring[..], cfg.fec_repeats as usize);
+                if found.ok {
+                    if packet::tested::is_valid(p, buf.len()) {
+                        return tested::write_data(self, cfg, time, p, buf, ring, found.at);
                     }
                 }
                 Wrote {

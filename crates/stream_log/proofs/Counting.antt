@@ -86,7 +86,7 @@ unfolding AllEncodable Words32
 request-encodable q l = (record { few = omega arith; words32 = (omega arith, tt) }, tt)
 
 module _ (W c q : ℕ) (most : W ≤ maxWindow) (s : DataStream) (ring : List ℕ) (t : List Receiver.Entry) (bk : Book) (f : ReceiverFollows W (s .receiver) t) (g : SenderFollows c q (s .sender) ring bk)
-    (c-some : 1 ≤ c) (x′ : Past) (agree : Agrees c bk x′) (h32 : Book32 bk) (cfg : StreamConfig) (typed : TypedConfig cfg) (now : ℕ) (p : PayloadWriter) (b : List ℕ) where
+    (c-some : 1 ≤ c) (x′ : Past) (agree : Agrees c bk x′) (h32 : Book32 bk) (cfg : StreamConfig) (typed : TypedConfig cfg) (time : ℕ) (p : PayloadWriter) (b : List ℕ) where
   abbrev Counts : List Packet → Wrote × List ℕ × List ℕ → Type 0
   Counts wanted w =
       ((n : ℕ) (x : Bool) → w .0 .answer ≡ Written record { commands = n; more = x } → AllEncodable (take n wanted)) × Out wanted p b (w .0 .answer) (w .0 .payload) (w .1)
@@ -95,23 +95,23 @@ module _ (W c q : ℕ) (most : W ≤ maxWindow) (s : DataStream) (ring : List �
   small = follows-small c q (s .sender) ring bk g
 
   -- the sender's write into a payload
-  sender-out : (p₁ : PayloadWriter) (b₁ : List ℕ) → (let w = sender.writeAnswer (s .sender) cfg now p₁ b₁ ring in Out (wantedIn c cfg now x′ p₁ b₁) p₁ b₁ (w .0 .answer) (w .0 .payload) (w .1))
-  sender-out p₁ b₁ = let w = write-follows c q (s .sender) ring bk g cfg typed now p₁ b₁ in rw (w .1, w .2, w .3) (wanted-out c c-some cfg now bk small x′ agree p₁ b₁)
+  sender-out : (p₁ : PayloadWriter) (b₁ : List ℕ) → (let w = sender.writeAnswer (s .sender) cfg time p₁ b₁ ring in Out (wantedIn c cfg time x′ p₁ b₁) p₁ b₁ (w .0 .answer) (w .0 .payload) (w .1))
+  sender-out p₁ b₁ = let w = write-follows c q (s .sender) ring bk g cfg typed time p₁ b₁ in rw (w .1, w .2, w .3) (wanted-out c c-some cfg time bk small x′ agree p₁ b₁)
 
   sender-taken : (p₁ : PayloadWriter) (b₁ : List ℕ) → checkOf cfg ≡ Done → payloadValid p₁ (length b₁) ≡ true → (p₁ .len ≡ 0 → ⊥) → (why : Refusal)
-      → sender.writeAnswer (s .sender) cfg now p₁ b₁ ring .0 .answer ≡ Refused why → ⊥
+      → sender.writeAnswer (s .sender) cfg time p₁ b₁ ring .0 .answer ≡ Refused why → ⊥
   sender-taken p₁ b₁ k v o why e =
-      let w = write-follows c q (s .sender) ring bk g cfg typed now p₁ b₁ in
-      write-taken c cfg now bk small p₁ b₁ o v k why (sym (w .1) ∙ e)
+      let w = write-follows c q (s .sender) ring bk g cfg typed time p₁ b₁ in
+      write-taken c cfg time bk small p₁ b₁ o v k why (sym (w .1) ∙ e)
 
-  sender-encodable : (p₁ : PayloadWriter) (b₁ : List ℕ) → AllEncodable (wantedIn c cfg now x′ p₁ b₁)
-  sender-encodable p₁ b₁ = wanted-encodable c c-some cfg now bk small x′ agree p₁ b₁ h32
+  sender-encodable : (p₁ : PayloadWriter) (b₁ : List ℕ) → AllEncodable (wantedIn c cfg time x′ p₁ b₁)
+  sender-encodable p₁ b₁ = wanted-encodable c c-some cfg time bk small x′ agree p₁ b₁ h32
 
   refused-out : (wanted : List Packet) (r : Receiver) (why : Refusal) → Counts wanted (writeRefused (withReceiver s r) p b ring why)
   refused-out wanted r why = (λ n x e. absurd (let z : _≡_ {A = ℕ} 0 1 = cc in omega arith), unchanged why)
 
   behind-out : (a : Request) (r : Receiver) (p₁ : PayloadWriter) (b₁ : List ℕ) → Took (s .receiver) cfg p b a r p₁ b₁ → AskedOk W (r .asked)
-      → Counts (wantedBy (s .receiver) cfg ++ wantedIn c cfg now x′ p₁ b₁) (behindTake a (withReceiver s r) cfg now p₁ b₁ ring)
+      → Counts (wantedBy (s .receiver) cfg ++ wantedIn c cfg time x′ p₁ b₁) (behindTake a (withReceiver s r) cfg time p₁ b₁ ring)
   unfolding AllEncodable
   behind-out a r p₁ b₁ (settings why k) ok = refused-out _ r why
   behind-out a r p₁ b₁ (invalid k v) ok = refused-out _ r InvalidState
@@ -123,8 +123,8 @@ module _ (W c q : ℕ) (most : W ≤ maxWindow) (s : DataStream) (ring : List �
         wrote 0 true p b (valid-length p (length b) (g .valid)) none (omega arith) (λ y. none-fits) (λ y. absurd (let o : _≡_ {A = ℕ} 0 1 = cc in omega arith)),
       )
   behind-out a r p₁ b₁ (not-due g _ e d) ok = rw e (
-    λ n x y. encodable-take n (wantedIn c cfg now x′ p b) (sender-encodable p b),
-    out-behind p p _ b b _ [] (wantedIn c cfg now x′ p b) 0 _ refl (valid-length p (length b) (g .valid)) none (sender-out p b) (λ z. (refl, refl)) (λ z. absurd (let y : ⊥ = omega arith in y)),
+    λ n x y. encodable-take n (wantedIn c cfg time x′ p b) (sender-encodable p b),
+    out-behind p p _ b b _ [] (wantedIn c cfg time x′ p b) 0 _ refl (valid-length p (length b) (g .valid)) none (sender-out p b) (λ z. (refl, refl)) (λ z. absurd (let y : ⊥ = omega arith in y)),
   )
   behind-out a r p₁ b₁ (taken g q′ _ e d k l) ok =
       let request : List Packet = requestPacket q′ ∷ [] in
@@ -134,40 +134,40 @@ module _ (W c q : ℕ) (most : W ≤ maxWindow) (s : DataStream) (ring : List �
       let some : p₁ .len ≡ 0 → ⊥ = rw w (λ z. omega arith) in
       let valid : payloadValid p₁ (length b₁) ≡ true = rw w (one-valid p b (g .valid) (requestPacket q′) l refl) in
       rw e (
-        λ n x y. encodable-take n (request ++ wantedIn c cfg now x′ p₁ b₁) (allEncodable-append request (wantedIn c cfg now x′ p₁ b₁) (request-encodable q′ (omega (arith, few .1))) (sender-encodable p₁ b₁)),
-        out-behind p p₁ _ b b₁ _ request (wantedIn c cfg now x′ p₁ b₁) 1 _ refl (valid-length p (length b) (g .valid)) adds (sender-out p₁ b₁) (λ z. absurd (let y : ⊥ = omega arith in y))
+        λ n x y. encodable-take n (request ++ wantedIn c cfg time x′ p₁ b₁) (allEncodable-append request (wantedIn c cfg time x′ p₁ b₁) (request-encodable q′ (omega (arith, few .1))) (sender-encodable p₁ b₁)),
+        out-behind p p₁ _ b b₁ _ request (wantedIn c cfg time x′ p₁ b₁) 1 _ refl (valid-length p (length b) (g .valid)) adds (sender-out p₁ b₁) (λ z. absurd (let y : ⊥ = omega arith in y))
             (λ z. sender-taken p₁ b₁ (g .check) valid some),
       )
 
   stream-out : receiverValid (s .receiver) ≡ true → Joined s ring
-      → (let t₁ = receiver.takeAnswer (s .receiver) cfg p b in Counts (wantedBy (s .receiver) cfg ++ wantedIn c cfg now x′ (t₁ .0 .payload) (t₁ .1)) (writeAnswer s cfg now p b ring))
+      → (let t₁ = receiver.takeAnswer (s .receiver) cfg p b in Counts (wantedBy (s .receiver) cfg ++ wantedIn c cfg time x′ (t₁ .0 .payload) (t₁ .1)) (writeAnswer s cfg time p b ring))
   unfolding Receiver.stepOf
   stream-out v joined =
       let t₁ = receiver.takeAnswer (s .receiver) cfg p b in
       let ok : AskedOk W (t₁ .0 .receiver .asked) = receiver-step W (s .receiver) t (Receiver.take-request cfg p b) f tt .follows .few in
-      rw (joined cfg now p b) (behind-out (t₁ .0 .answer) (t₁ .0 .receiver) (t₁ .0 .payload) (t₁ .1) (take-took (s .receiver) cfg p b v) ok)
+      rw (joined cfg time p b) (behind-out (t₁ .0 .answer) (t₁ .0 .receiver) (t₁ .0 .payload) (t₁ .1) (take-took (s .receiver) cfg p b v) ok)
 
 -- ---- the theorem
 
 pub stream-counted : StreamCounted
 unfolding wantedOf
-stream-counted start W c q memory done calls l cfg typed now p b =
-    let u = run start W c q memory calls in
+stream-counted start W c q ring₀ done calls l cfg typed time p b =
+    let u = run start W c q ring₀ calls in
     let e = endsOf W calls in
-    let i = reached start W c q memory done calls l in
-    let st = start-is start W c q memory done in
+    let i = reached start W c q ring₀ done calls l in
+    let st = start-is start W c q ring₀ done in
     let t = logOf W (e .received) in
     let k = bookOf c q (e .sent) in
     let f : ReceiverFollows W (u .stream .receiver) t = subst (λ (r : Receiver). ReceiverFollows W r t) (sym (i .receiver)) (receiver-run W (st .least) (st .most) (e .received) (i .receiver-typed)) in
-    let g : SenderFollows c q (u .stream .sender) (u .ring) k = moved (i .sender) (i .history) (λ (x : Sender) (m : List ℕ). SenderFollows c q x m k) (sender-run c q memory (st .started) (e .sent) (i .sender-typed)) in
+    let g : SenderFollows c q (u .stream .sender) (u .ring) k = moved (i .sender) (i .history) (λ (x : Sender) (m : List ℕ). SenderFollows c q x m k) (sender-run c q ring₀ (st .started) (e .sent) (i .sender-typed)) in
     let some : 1 ≤ c = omega (arith, g .least) in
-    let x = pastOf c q memory (e .sent) in
-    let o = stream-out W c q (st .most) (u .stream) (u .ring) t k f g some x (past-agrees c q some memory (st .started) (e .sent) (i .sender-typed)) (book-32 c q (e .sent) (i .sender-typed)) cfg typed now p b (i .receiver-kept .valid) (write-joined (u .stream) (u .ring) (i .valid)) in
-    let w = writeAnswer (u .stream) cfg now p b (u .ring) in
+    let x = pastOf c q ring₀ (e .sent) in
+    let o = stream-out W c q (st .most) (u .stream) (u .ring) t k f g some x (past-agrees c q some ring₀ (st .started) (e .sent) (i .sender-typed)) (book-32 c q (e .sent) (i .sender-typed)) cfg typed time p b (i .receiver-kept .valid) (write-joined (u .stream) (u .ring) (i .valid)) in
+    let w = writeAnswer (u .stream) cfg time p b (u .ring) in
     let t₁ = receiver.takeAnswer (u .stream .receiver) cfg p b in
-    let rest = wantedIn c cfg now x (t₁ .0 .payload) (t₁ .1) in
+    let rest = wantedIn c cfg time x (t₁ .0 .payload) (t₁ .1) in
     let said : CountedIn (requestWanted W t cfg ++ rest) p b (w .0 .answer) (w .0 .payload) (w .1) =
     subst (λ (xs : List Packet). CountedIn (xs ++ rest) p b (w .0 .answer) (w .0 .payload) (w .1)) (wanted-is W (u .stream .receiver) t (i .receiver-kept) cfg)
     (counts (wantedBy (u .stream .receiver) cfg ++ rest) p b (w .0 .answer) (w .0 .payload) (w .1) (o .0) (o .1)) in
     subst (λ (r : Receiver). let v = receiver.takeAnswer r cfg p b in
-    CountedIn (requestWanted W t cfg ++ wantedIn c cfg now x (v .0 .payload) (v .1)) p b (w .0 .answer) (w .0 .payload) (w .1)) (i .receiver) said
+    CountedIn (requestWanted W t cfg ++ wantedIn c cfg time x (v .0 .payload) (v .1)) p b (w .0 .answer) (w .0 .payload) (w .1)) (i .receiver) said

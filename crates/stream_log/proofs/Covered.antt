@@ -26,25 +26,25 @@ use Rattle.stream_log.specs.Console.{Call, open-payload, lend-again, put
 -- ---- calls
 
 -- settings, words, payloads and buffers may be such as are refused
-pub every-call : (cfg : StreamConfig) (now seq : ℕ) (ws : List ℕ) (r : RetransmitRequest) (err : RetransmitError) (p : PayloadWriter) (b : List ℕ)
+pub every-call : (cfg : StreamConfig) (time seq : ℕ) (ws : List ℕ) (r : RetransmitRequest) (err : RetransmitError) (p : PayloadWriter) (b : List ℕ)
     → cfg .«fec_repeats» ≤ 255 → cfg .«idle_further» ≤ 255 → Words32 ws → seq < 65536 → r .seq < 65536 → r .count < 65536
     → AllTyped
-    (send-ump cfg ws ∷ on-retransmit-request cfg r ∷ on-ump-data cfg now seq ws ∷ on-retransmit-error err ∷ on-retransmit-nak ∷ poll cfg now ∷ write-request cfg p b ∷ write-data cfg now p b
-    ∷ next-deadline ∷ wants-write now ∷ reset ∷ [])
-every-call cfg now seq ws r err p b f g w s n c =
+    (send-ump cfg ws ∷ on-retransmit-request cfg r ∷ on-ump-data cfg time seq ws ∷ on-retransmit-error err ∷ on-retransmit-nak ∷ poll cfg time ∷ write-request cfg p b ∷ write-data cfg time p b
+    ∷ next-deadline ∷ wants-write time ∷ reset ∷ [])
+every-call cfg time seq ws r err p b f g w s n c =
     let R : cfg .«fec_repeats» < 256 = omega arith in
     let K : cfg .«idle_further» < 256 = omega arith in
     (((R, K), w), (((R, K), n, c), (s, (tt, (tt, (tt, (tt, ((R, K), (tt, (tt, (tt, tt)))))))))))
 
 -- with payloads: into any of them, and a write that is refused for its payload; no reset
-pub every-console-call : (limit k : ℕ) (buffer : List ℕ) (call : Writes.Call) (cfg : StreamConfig) (now seq : ℕ) (ws : List ℕ) (r : RetransmitRequest) (err : RetransmitError) (p : PayloadWriter)
+pub every-console-call : (limit k : ℕ) (buffer : List ℕ) (call : Writes.Call) (cfg : StreamConfig) (time seq : ℕ) (ws : List ℕ) (r : RetransmitRequest) (err : RetransmitError) (p : PayloadWriter)
     → Writes.Typed call → isData (Writes.commandOf call) ≡ false
     → cfg .«fec_repeats» ≤ 255 → cfg .«idle_further» ≤ 255 → Words32 ws → seq < 65536 → r .seq < 65536 → r .count < 65536 → payloadValid p (length buffer) ≡ false
     → EachAllowed
-    (open-payload limit buffer ∷ lend-again k buffer ∷ put-into k call ∷ request-into k cfg ∷ write-into k cfg now
-    ∷ on-stream (send-ump cfg ws) ∷ on-stream (on-retransmit-request cfg r) ∷ on-stream (on-ump-data cfg now seq ws) ∷ on-stream (on-retransmit-error err) ∷ on-stream on-retransmit-nak
-    ∷ on-stream (poll cfg now) ∷ on-stream (write-request cfg p buffer) ∷ on-stream (write-data cfg now p buffer) ∷ on-stream next-deadline ∷ on-stream (wants-write now) ∷ [])
-every-console-call limit k buffer call cfg now seq ws r err p t d f g w s n c v =
+    (open-payload limit buffer ∷ lend-again k buffer ∷ put-into k call ∷ request-into k cfg ∷ write-into k cfg time
+    ∷ on-stream (send-ump cfg ws) ∷ on-stream (on-retransmit-request cfg r) ∷ on-stream (on-ump-data cfg time seq ws) ∷ on-stream (on-retransmit-error err) ∷ on-stream on-retransmit-nak
+    ∷ on-stream (poll cfg time) ∷ on-stream (write-request cfg p buffer) ∷ on-stream (write-data cfg time p buffer) ∷ on-stream next-deadline ∷ on-stream (wants-write time) ∷ [])
+every-console-call limit k buffer call cfg time seq ws r err p t d f g w s n c v =
     let R : cfg .«fec_repeats» < 256 = omega arith in
     let K : cfg .«idle_further» < 256 = omega arith in (
       tt,
@@ -91,13 +91,13 @@ every-setting cfg a b c d g =
     rw (le-leb 1 (cfg .«max_command_words») a, le-leb (cfg .«max_command_words») 64 b, le-leb 1 (cfg .«idle_interval_ms») c, le-leb (cfg .«idle_interval_ms») 300 d, z)
 
 -- a window of 1 to 128, a history of 65 to 32,768 words, 1 to 16 places for requests
-pub every-size : (cfg : StreamConfig) → checkOf cfg ≡ Done → (W c q : ℕ) (memory : List ℕ) → 1 ≤ W → W ≤ 128 → 65 ≤ c → c ≤ 32768 → length memory ≡ c → 1 ≤ q → q ≤ 16 → Started cfg W c q memory
+pub every-size : (cfg : StreamConfig) → checkOf cfg ≡ Done → (W c q : ℕ) (ring₀ : List ℕ) → 1 ≤ W → W ≤ 128 → 65 ≤ c → c ≤ 32768 → length ring₀ ≡ c → 1 ≤ q → q ≤ 16 → Started cfg W c q ring₀
 unfolding newAnswer
-every-size cfg k W c q memory a b d f e g h =
-    rw (k, le-leb 1 W a, le-leb W 128 b, le-leb 65 c d, le-leb c 32768 f, eq-eqb (length memory) c e, le-leb 1 q g, le-leb q 16 h)
+every-size cfg k W c q ring₀ a b d f e g h =
+    rw (k, le-leb 1 W a, le-leb W 128 b, le-leb 65 c d, le-leb c 32768 f, eq-eqb (length ring₀) c e, le-leb 1 q g, le-leb q 16 h)
 
 -- so each of them is an end of a line, with any calls
-pub every-end : (cfg : StreamConfig) → checkOf cfg ≡ Done → (W c q : ℕ) (memory : List ℕ) → 1 ≤ W → W ≤ 128 → 65 ≤ c → c ≤ 32768 → length memory ≡ c → 1 ≤ q → q ≤ 16
+pub every-end : (cfg : StreamConfig) → checkOf cfg ≡ Done → (W c q : ℕ) (ring₀ : List ℕ) → 1 ≤ W → W ≤ 128 → 65 ≤ c → c ≤ 32768 → length ring₀ ≡ c → 1 ≤ q → q ≤ 16
     → (calls : List Call) → EachAllowed calls → End
-every-end cfg k W c q memory a b d f e g h calls l =
-    record { settings = cfg; window = W; words = c; places = q; memory = memory; started = every-size cfg k W c q memory a b d f e g h; calls = calls; allowed = l }
+every-end cfg k W c q ring₀ a b d f e g h calls l =
+    record { settings = cfg; window = W; words = c; places = q; ring₀ = ring₀; started = every-size cfg k W c q ring₀ a b d f e g h; calls = calls; allowed = l }

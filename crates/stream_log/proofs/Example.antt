@@ -104,7 +104,7 @@ unfolding newAnswer checkOf
 started = refl
 
 abbrev console : End
-console = record { settings = plain; window = 4; words = 65; places = 4; memory = zeros 65; started = started; calls = played; allowed = played-allowed }
+console = record { settings = plain; window = 4; words = 65; places = 4; ring₀ = zeros 65; started = started; calls = played; allowed = played-allowed }
 
 -- the calls of its sender with the payloads
 abbrev counted : List Delivery.Call
@@ -159,7 +159,7 @@ heard-allowed : EachAllowed heard
 heard-allowed = omega arith
 
 abbrev chamber : End
-chamber = record { settings = plain; window = 4; words = 65; places = 4; memory = zeros 65; started = started; calls = heard; allowed = heard-allowed }
+chamber = record { settings = plain; window = 4; words = 65; places = 4; ring₀ = zeros 65; started = started; calls = heard; allowed = heard-allowed }
 
 called-is : runOf chamber .called
     ≡ on-ump-data plain 6 1 B ∷ Calls.poll plain 16 ∷ Calls.write-data plain 16 (record { len = 0; max = 1400 }) (zeros 12) ∷ on-ump-data plain 21 0 A ∷ []
@@ -176,11 +176,11 @@ same-received Taken e c = refl
 same-received NoSpace e c = refl
 same-received (NotTaken why) e c = refl
 
-write-received : (W : ℕ) (e : Ends) (cfg : StreamConfig) (now : ℕ) (p : PayloadWriter) (b : List ℕ) → endsAfter W e (Calls.write-data cfg now p b) .received ≡ e .received ++ (take-request cfg p b ∷ [])
+write-received : (W : ℕ) (e : Ends) (cfg : StreamConfig) (time : ℕ) (p : PayloadWriter) (b : List ℕ) → endsAfter W e (Calls.write-data cfg time p b) .received ≡ e .received ++ (take-request cfg p b ∷ [])
 unfolding endsAfter
-write-received W e cfg now p b =
+write-received W e cfg time p b =
     let t = Ends.takenAfter W (e .received) cfg p b in
-    same-received (t .0 .answer) (Ends.receiving e (take-request cfg p b)) (Sender.write cfg now (t .0 .payload) (t .1))
+    same-received (t .0 .answer) (Ends.receiving e (take-request cfg p b)) (Sender.write cfg time (t .0 .payload) (t .1))
 
 arrivals-are : Ends.endsOf 4 (runOf chamber .called) .received ≡ arrivals
 unfolding endsFrom endsAfter

@@ -132,21 +132,21 @@ request-other q k cfg r = elim (settings-tested cfg) [
     by false false false false = none
 
 -- into a valid payload
-new-other : (cfg : StreamConfig) (now n : ℕ) (k : Book) (p : PayloadWriter) (b : List ℕ) (cs : List Packet) → Other (writeNumber (newBy cfg now n k p b cs .answer))
-new-other cfg now n k p b [] = none
-new-other cfg now n k p b (first ∷ others) = elim (split (fitAll p b (first ∷ []))) [
+new-other : (cfg : StreamConfig) (time n : ℕ) (k : Book) (p : PayloadWriter) (b : List ℕ) (cs : List Packet) → Other (writeNumber (newBy cfg time n k p b cs .answer))
+new-other cfg time n k p b [] = none
+new-other cfg time n k p b (first ∷ others) = elim (split (fitAll p b (first ∷ []))) [
   | inl f ↦ rw f none
   | inr f ↦ elim (split (eqb (p .len) 0)) [ inl z ↦ rw (f, z) (other 3 refl) | inr z ↦ rw (f, z) none ]
 ]
 
-write-other : (c : ℕ) (cfg : StreamConfig) (now : ℕ) (k : Book) (p : PayloadWriter) (b : List ℕ) → payloadValid p (length b) ≡ true → Other (writeNumber (writeIn c cfg now k p b .answer))
+write-other : (c : ℕ) (cfg : StreamConfig) (time : ℕ) (k : Book) (p : PayloadWriter) (b : List ℕ) → payloadValid p (length b) ≡ true → Other (writeNumber (writeIn c cfg time k p b .answer))
 unfolding writeIn writtenIn newWritten
-write-other c cfg now k p b v =
+write-other c cfg time k p b v =
     let s = servedIn k (k .waiting) p b in
-    let d : Book = idledIn c cfg now (withWaiting k (s .waiting)) in
+    let d : Book = idledIn c cfg time (withWaiting k (s .waiting)) in
     elim (settings-tested cfg) [
       | refuses why e h ↦ rw e h
-      | passes e ↦ elim (split (s .more)) [ inl m ↦ rw (e, v, m) none | inr m ↦ rw (e, v, m) (new-other cfg now (s .commands) d (s .payload) (s .bytes) (newIn d)) ]
+      | passes e ↦ elim (split (s .more)) [ inl m ↦ rw (e, v, m) none | inr m ↦ rw (e, v, m) (new-other cfg time (s .commands) d (s .payload) (s .bytes) (newIn d)) ]
     ]
 
 -- ---- the receiver's calls
@@ -202,19 +202,19 @@ counted-other : (n : ℕ) (a : Writing) → Other (writeNumber a) → Other (wri
 counted-other n (Written w) h = h
 counted-other n (NotWritten why) h = h
 
-module _ (c : ℕ) (k : Book) (cfg : StreamConfig) (now : ℕ) (p : PayloadWriter) (b : List ℕ) (v : payloadValid p (length b) ≡ true) where
-  first-other : (s : Span) → Other (writeNumber (requestFirst c k cfg now p b (asCommand s) .answer))
-  first-other NoSpan = counted-other 0 (writeIn c cfg now k p b .answer) (write-other c cfg now k p b v)
+module _ (c : ℕ) (k : Book) (cfg : StreamConfig) (time : ℕ) (p : PayloadWriter) (b : List ℕ) (v : payloadValid p (length b) ≡ true) where
+  first-other : (s : Span) → Other (writeNumber (requestFirst c k cfg time p b (asCommand s) .answer))
+  first-other NoSpan = counted-other 0 (writeIn c cfg time k p b .answer) (write-other c cfg time k p b v)
   first-other (Of range) =
       let r = asRequest range in
       elim (split (left p b r)) [
         | inl l ↦ elim (split (eqb (p .len) 0)) [ inl z ↦ rw (l, z) (other 3 refl) | inr z ↦ rw (l, z) none ]
         | inr l ↦
             let q = doneOf p r .payload in
-            rw (l, one-written p b v r l refl) (counted-other 1 (writeIn c cfg now k q (placedOf p b r) .answer) (write-other c cfg now k q (placedOf p b r) (one-valid p b v r l refl)))
+            rw (l, one-written p b v r l refl) (counted-other 1 (writeIn c cfg time k q (placedOf p b r) .answer) (write-other c cfg time k q (placedOf p b r) (one-valid p b v r l refl)))
       ]
 
-  out-other : (W : ℕ) (t : List Receiver.Entry) → Other (writeNumber (writeOut W c t k cfg now p b .answer))
+  out-other : (W : ℕ) (t : List Receiver.Entry) → Other (writeNumber (writeOut W c t k cfg time p b .answer))
   unfolding writeOut requestWanted
   out-other W t = elim (settings-tested cfg) [
     | refuses why e h ↦ rw e h
@@ -242,23 +242,23 @@ module _ (W c q : ℕ) (e : Ends) where
   unfolding answerOf receiverAnswer toldOf
   answer-other (send-ump cfg ws) g = send-other c k cfg ws
   answer-other (on-retransmit-request cfg r) g = request-other q k cfg r
-  answer-other (on-ump-data cfg now seq ws) g = hear-other cfg (deliveryIn W (reports t) seq)
+  answer-other (on-ump-data cfg time seq ws) g = hear-other cfg (deliveryIn W (reports t) seq)
   answer-other (on-retransmit-error err) g = error-other W (reports t) err (askedIn W t)
   answer-other on-retransmit-nak g = nak-other (missingIn W (reports t)) (askedIn W t)
-  answer-other (poll cfg now) g = poll-other cfg (missingIn W (reports t)) (tickAt (enabledIn t cfg) cfg now (timerIn W t))
+  answer-other (poll cfg time) g = poll-other cfg (missingIn W (reports t)) (tickAt (enabledIn t cfg) cfg time (timerIn W t))
   answer-other (write-request cfg p b) g = take-other cfg p b g (dueIn W t && enabledIn t cfg) (requestIn W (reports t))
-  answer-other (write-data cfg now p b) g = out-other c k cfg now p b g W t
+  answer-other (write-data cfg time p b) g = out-other c k cfg time p b g W t
   answer-other next-deadline g = deadline-other (timerIn W t) (isEmpty (k .unwritten)) (k .idle)
-  answer-other (wants-write now) g = none
+  answer-other (wants-write time) g = none
   answer-other reset g = none
 
 -- ---- the theorem
 
 pub never-invalid : NeverInvalid
-never-invalid cfg W c q memory done calls l =
-    let st = start-is cfg W c q memory done in
-    let u = run cfg W c q memory calls in
+never-invalid cfg W c q ring₀ done calls l =
+    let st = start-is cfg W c q ring₀ done in
+    let u = run cfg W c q ring₀ calls in
     let e = endsOf W calls in
-    let i = run-tied cfg W c q memory done calls l in
-    state-taken W c q memory (st .least) (st .most) (st .started) (u .stream) (u .ring) e i
-    (λ call k g n. answer-other W c q e call g (subst (λ (x : Entry). numberIn x ≡ 13) (call-says W c q memory (st .least) (st .most) (st .started) (u .stream) (u .ring) e i call k) n))
+    let i = run-tied cfg W c q ring₀ done calls l in
+    state-taken W c q ring₀ (st .least) (st .most) (st .started) (u .stream) (u .ring) e i
+    (λ call k g n. answer-other W c q e call g (subst (λ (x : Entry). numberIn x ≡ 13) (call-says W c q ring₀ (st .least) (st .most) (st .started) (u .stream) (u .ring) e i call k) n))

@@ -12,17 +12,17 @@ use Rattle.stream_log.proofs.Consoles.{line-ends}
 use Rattle.stream.specs.Answers.{newAnswer}
 use Rattle.receiver_log.specs.Calls.{AllTyped}
 
-start : (e : End) → StartIs (e .window) (e .words) (e .places) (e .memory) (newAnswer (e .settings) (e .window) (e .words) (e .places) (e .memory))
-start e = start-is (e .settings) (e .window) (e .words) (e .places) (e .memory) (e .started)
+start : (e : End) → StartIs (e .window) (e .words) (e .places) (e .ring₀) (newAnswer (e .settings) (e .window) (e .words) (e .places) (e .ring₀))
+start e = start-is (e .settings) (e .window) (e .words) (e .places) (e .ring₀) (e .started)
 
 heard-typed : (e : End) → AllTyped (endsOf (e .window) (runOf e .called) .received)
-heard-typed e = reached (e .settings) (e .window) (e .words) (e .places) (e .memory) (e .started) (runOf e .called) (line-ends e .typed) .receiver-typed
+heard-typed e = reached (e .settings) (e .window) (e .words) (e .places) (e .ring₀) (e .started) (runOf e .called) (line-ends e .typed) .receiver-typed
 
 abbrev run : Pair → Run
 run u = record {
   words = u .console .words;
   places = u .console .places;
-  memory = u .console .memory;
+  ring₀ = u .console .ring₀;
   started = start (u .console) .started;
   calls = runOf (u .console) .sent;
   allowed = line-ends (u .console) .allowed;

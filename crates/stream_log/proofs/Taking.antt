@@ -30,7 +30,7 @@ use Rattle.receiver.specs.declared.receiver.Receiver.{Receiver}
 use Rattle.receiver.specs.declared.receiver.Asked.the-variants.{Request as AskedFor}
 use Rattle.receiver.specs.declared.receiver.Request.{Request}
 use Rattle.receiver.specs.declared.receiver.Request.the-variants.{Nothing as NotDue, Written as Taken, More as NoSpace, Refused as NotTaken}
-use Rattle.receiver.specs.declared.receiver.Requested.{Requested}
+use Rattle.receiver.specs.declared.receiver.RequestWritten.{RequestWritten}
 use Rattle.receiver_log.specs.Calls as Receiver
 use Rattle.receiver_log.specs.Promise as Received
 use Rattle.stream_log.specs.Answers.{asCommand, requestWanted}
@@ -69,7 +69,7 @@ pub data Took (r : Receiver) (cfg : StreamConfig) (p : PayloadWriter) (b : List 
   taken : Passing cfg p b → (q : RetransmitRequest) (r′ : Receiver) → wantedBy r cfg ≡ requestPacket q ∷ [] → r′ .«request_due» ≡ false → r′ .asked ≡ AskedFor q
       → left p b (requestPacket q) ≡ false → Took r cfg p b Taken r′ (writtenOf p b (requestPacket q) .0 .payload) (writtenOf p b (requestPacket q) .1)
 
-abbrev pub TookBy : Receiver → StreamConfig → PayloadWriter → List ℕ → Requested × List ℕ → Type 0
+abbrev pub TookBy : Receiver → StreamConfig → PayloadWriter → List ℕ → RequestWritten × List ℕ → Type 0
 TookBy r cfg p b t = Took r cfg p b (t .0 .answer) (t .0 .receiver) (t .0 .payload) (t .1)
 
 -- one command, by whether it fits

@@ -14,7 +14,7 @@ use Rattle.receiver.specs.Answers as receiver
 use Rattle.receiver.specs.declared.receiver.Receiver.{Receiver}
 use Rattle.receiver.specs.declared.receiver.Request.{Request}
 use Rattle.receiver.specs.declared.receiver.Request.the-variants.{Nothing as NotDue, Written as Taken, More as NoSpace, Refused as NotTaken}
-use Rattle.receiver.specs.declared.receiver.Requested.{Requested}
+use Rattle.receiver.specs.declared.receiver.RequestWritten.{RequestWritten}
 use Rattle.sender.specs.Writing.{writtenBy}
 use Rattle.sender.specs.Answers as sender
 use Rattle.sender.specs.declared.sender.Writing.the-variants.{Written}
@@ -29,26 +29,26 @@ use Rattle.stream.proofs.Calls.{write-calls-ends}
 
 -- the sender's write, behind n commands
 abbrev pub sentBehind : ℕ → DataStream → StreamConfig → ℕ → PayloadWriter → List ℕ → List ℕ → Wrote × List ℕ × List ℕ
-sentBehind n s cfg now p b ring =
-    let w = sender.writeAnswer (s .sender) cfg now p b ring in
+sentBehind n s cfg time p b ring =
+    let w = sender.writeAnswer (s .sender) cfg time p b ring in
     (record { stream = withSender s (w .0 .sender); payload = w .0 .payload; answer = countedAlso n (w .0 .answer) }, w .1, w .2)
 
 abbrev pub behindTake : Request → DataStream → StreamConfig → ℕ → PayloadWriter → List ℕ → List ℕ → Wrote × List ℕ × List ℕ
-behindTake (NotTaken why) s cfg now p b ring = writeRefused s p b ring why
-behindTake NoSpace s cfg now p b ring = (record { stream = s; payload = p; answer = Written record { commands = 0; more = true } }, b, ring)
-behindTake NotDue s cfg now p b ring = sentBehind 0 s cfg now p b ring
-behindTake Taken s cfg now p b ring = sentBehind 1 s cfg now p b ring
+behindTake (NotTaken why) s cfg time p b ring = writeRefused s p b ring why
+behindTake NoSpace s cfg time p b ring = (record { stream = s; payload = p; answer = Written record { commands = 0; more = true } }, b, ring)
+behindTake NotDue s cfg time p b ring = sentBehind 0 s cfg time p b ring
+behindTake Taken s cfg time p b ring = sentBehind 1 s cfg time p b ring
 
 abbrev pub Joined : DataStream → List ℕ → Type 0
 Joined s ring =
-    (cfg : StreamConfig) (now : ℕ) (p : PayloadWriter) (b : List ℕ)
-    → writeAnswer s cfg now p b ring ≡ (let t = receiver.takeAnswer (s .receiver) cfg p b in behindTake (t .0 .answer) (withReceiver s (t .0 .receiver)) cfg now (t .0 .payload) (t .1) ring)
+    (cfg : StreamConfig) (time : ℕ) (p : PayloadWriter) (b : List ℕ)
+    → writeAnswer s cfg time p b ring ≡ (let t = receiver.takeAnswer (s .receiver) cfg p b in behindTake (t .0 .answer) (withReceiver s (t .0 .receiver)) cfg time (t .0 .payload) (t .1) ring)
 
 -- ---- of a stream that passes the state test
 
-module _ (s : DataStream) (ring : List ℕ) (cfg : StreamConfig) (now : ℕ) where
-  same-behind : (p : PayloadWriter) (b : List ℕ) → writtenBy (s .sender) cfg now p b ring ≡ sender.writeAnswer (s .sender) cfg now p b ring
-      → (r : Receiver) (a : Request) → afterRequest a (withReceiver s r) cfg now p b ring ≡ behindTake a (withReceiver s r) cfg now p b ring
+module _ (s : DataStream) (ring : List ℕ) (cfg : StreamConfig) (time : ℕ) where
+  same-behind : (p : PayloadWriter) (b : List ℕ) → writtenBy (s .sender) cfg time p b ring ≡ sender.writeAnswer (s .sender) cfg time p b ring
+      → (r : Receiver) (a : Request) → afterRequest a (withReceiver s r) cfg time p b ring ≡ behindTake a (withReceiver s r) cfg time p b ring
   unfolding sentAfter
   same-behind p b e r (NotTaken why) = refl
   same-behind p b e r NoSpace = refl
@@ -56,25 +56,25 @@ module _ (s : DataStream) (ring : List ℕ) (cfg : StreamConfig) (now : ℕ) whe
   same-behind p b e r Taken = rw e
 
   taken-joined : (p : PayloadWriter) (b : List ℕ) → checkOf cfg ≡ Done → validOf s ring ≡ true → payloadValid p (length b) ≡ true
-      → dataWritten s cfg now p b ring ≡ (let t = receiver.takeAnswer (s .receiver) cfg p b in behindTake (t .0 .answer) (withReceiver s (t .0 .receiver)) cfg now (t .0 .payload) (t .1) ring)
+      → dataWritten s cfg time p b ring ≡ (let t = receiver.takeAnswer (s .receiver) cfg p b in behindTake (t .0 .answer) (withReceiver s (t .0 .receiver)) cfg time (t .0 .payload) (t .1) ring)
   unfolding dataWritten
   taken-joined p b k v w =
       let e = write-calls-ends s cfg p b ring k v w in
       let t = receiver.takeAnswer (s .receiver) cfg p b in
-      ap (λ (t : Requested × List ℕ). afterRequest (t .0 .answer) (withReceiver s (t .0 .receiver)) cfg now (t .0 .payload) (t .1) ring) (e .take-request)
-      ∙ same-behind (t .0 .payload) (t .1) (e .write now) (t .0 .receiver) (t .0 .answer)
+      ap (λ (t : RequestWritten × List ℕ). afterRequest (t .0 .answer) (withReceiver s (t .0 .receiver)) cfg time (t .0 .payload) (t .1) ring) (e .take-request)
+      ∙ same-behind (t .0 .payload) (t .1) (e .write time) (t .0 .receiver) (t .0 .answer)
 
-write-passed : (s : DataStream) (ring : List ℕ) (cfg : StreamConfig) (now : ℕ) (p : PayloadWriter) (b : List ℕ) → checkOf cfg ≡ Done → validOf s ring ≡ true → payloadValid p (length b) ≡ true
-    → writeAnswer s cfg now p b ring ≡ dataWritten s cfg now p b ring
+write-passed : (s : DataStream) (ring : List ℕ) (cfg : StreamConfig) (time : ℕ) (p : PayloadWriter) (b : List ℕ) → checkOf cfg ≡ Done → validOf s ring ≡ true → payloadValid p (length b) ≡ true
+    → writeAnswer s cfg time p b ring ≡ dataWritten s cfg time p b ring
 unfolding writeAnswer
-write-passed s ring cfg now p b e v f = rw (e, v, f)
+write-passed s ring cfg time p b e v f = rw (e, v, f)
 
 pub write-joined : (s : DataStream) (ring : List ℕ) → validOf s ring ≡ true → Joined s ring
 unfolding writeAnswer receiver.takeAnswer
-write-joined s ring v cfg now p b = by (checkOf cfg) refl (payloadValid p (length b)) refl
+write-joined s ring v cfg time p b = by (checkOf cfg) refl (payloadValid p (length b)) refl
   where
     by : (k : Outcome) → checkOf cfg ≡ k → (w : Bool) → payloadValid p (length b) ≡ w
-        → writeAnswer s cfg now p b ring ≡ (let t = receiver.takeAnswer (s .receiver) cfg p b in behindTake (t .0 .answer) (withReceiver s (t .0 .receiver)) cfg now (t .0 .payload) (t .1) ring)
+        → writeAnswer s cfg time p b ring ≡ (let t = receiver.takeAnswer (s .receiver) cfg p b in behindTake (t .0 .answer) (withReceiver s (t .0 .receiver)) cfg time (t .0 .payload) (t .1) ring)
     by (Refused why) e w f = rw e
     by Done e false f = rw (e, v, valid-receiver s ring v, f)
-    by Done e true f = write-passed s ring cfg now p b e v f ∙ taken-joined s ring cfg now p b e v f
+    by Done e true f = write-passed s ring cfg time p b e v f ∙ taken-joined s ring cfg time p b e v f

@@ -56,7 +56,7 @@ moreOut p b = record { answer = Written record { commands = 0; more = true }; pa
 
 -- the sender's write, behind n commands
 abbrev pub sentOut : ℕ → ℕ → Book → StreamConfig → ℕ → PayloadWriter → List ℕ → Out
-sentOut n c k cfg now p b = let w = writeIn c cfg now k p b in record { answer = countedAlso n (w .answer); payload = w .payload; bytes = w .bytes }
+sentOut n c k cfg time p b = let w = writeIn c cfg time k p b in record { answer = countedAlso n (w .answer); payload = w .payload; bytes = w .bytes }
 
 abbrev pub asCommand : Span → List Packet
 asCommand NoSpan = []
@@ -68,16 +68,16 @@ requestWanted W t cfg = cond (dueIn W t && enabledIn t cfg) (asCommand (requestI
 
 -- 3 when the payload is empty and the due request doesn't fit; not fitting a nonempty payload is no refusal but "more"
 abbrev pub requestFirst : ℕ → Book → StreamConfig → ℕ → PayloadWriter → List ℕ → List Packet → Out
-requestFirst c k cfg now p b [] = sentOut 0 c k cfg now p b
-requestFirst c k cfg now p b (request ∷ none) =
+requestFirst c k cfg time p b [] = sentOut 0 c k cfg time p b
+requestFirst c k cfg time p b (request ∷ none) =
     let w = writtenOf p b request in
     cond (ltb (limitOf p (length b)) (startOf p + sizeOf request)) (cond (eqb (p .len) 0) (refusedOut p b TooLarge) (moreOut p b))
-    (sentOut 1 c k cfg now (w .0 .payload) (w .1))
+    (sentOut 1 c k cfg time (w .0 .payload) (w .1))
 
 -- settings, then the payload
 unfoldable pub writeOut : ℕ → ℕ → List Receiver.Entry → Book → StreamConfig → ℕ → PayloadWriter → List ℕ → Out
-writeOut W c t k cfg now p b =
-    entry (checkOf cfg) (payloadValid p (length b)) (refusedOut p b) (requestFirst c k cfg now p b (requestWanted W t cfg))
+writeOut W c t k cfg time p b =
+    entry (checkOf cfg) (payloadValid p (length b)) (refusedOut p b) (requestFirst c k cfg time p b (requestWanted W t cfg))
 
 -- ---- questions
 
@@ -87,7 +87,7 @@ deadlineIn W t k = earlier (deadlineAt (timerIn W t)) (cond (isEmpty (k .unwritt
 
 -- a request is due, a command is unwritten, a request waits, or an idle command is due
 abbrev pub wantsIn : ℕ → List Receiver.Entry → Book → ℕ → Bool
-wantsIn W t k now = dueIn W t || (not (isEmpty (k .unwritten)) || (not (isEmpty (k .waiting)) || isDue (k .idle) now))
+wantsIn W t k time = dueIn W t || (not (isEmpty (k .unwritten)) || (not (isEmpty (k .waiting)) || isDue (k .idle) time))
 
 -- ---- all calls
 
@@ -101,16 +101,16 @@ senderSays c q e call = by-sender (toldOf c q (bookOf c q (e .sent)) call .entry
 unfoldable pub answerOf : ℕ → ℕ → ℕ → Ends → Call → Entry
 answerOf W c q e (send-ump cfg ws) = senderSays c q e (Sender.queue-words cfg ws)
 answerOf W c q e (on-retransmit-request cfg r) = senderSays c q e (Sender.retransmit-request cfg r)
-answerOf W c q e (on-ump-data cfg now seq ws) = receiverSays W e (Receiver.data-command cfg now seq ws)
+answerOf W c q e (on-ump-data cfg time seq ws) = receiverSays W e (Receiver.data-command cfg time seq ws)
 answerOf W c q e (on-retransmit-error err) = receiverSays W e (Receiver.retransmit-error err)
 answerOf W c q e on-retransmit-nak = receiverSays W e Receiver.nak
-answerOf W c q e (poll cfg now) = receiverSays W e (Receiver.poll cfg now)
+answerOf W c q e (poll cfg time) = receiverSays W e (Receiver.poll cfg time)
 answerOf W c q e (write-request cfg p b) = receiverSays W e (Receiver.take-request cfg p b)
-answerOf W c q e (write-data cfg now p b) =
-    let w = writeOut W c (logOf W (e .received)) (bookOf c q (e .sent)) cfg now p b in
-    wrote cfg now p b (w .answer) (w .payload) (w .bytes)
+answerOf W c q e (write-data cfg time p b) =
+    let w = writeOut W c (logOf W (e .received)) (bookOf c q (e .sent)) cfg time p b in
+    wrote cfg time p b (w .answer) (w .payload) (w .bytes)
 answerOf W c q e next-deadline = deadline (deadlineIn W (logOf W (e .received)) (bookOf c q (e .sent)))
-answerOf W c q e (wants-write now) = wants now (Is (wantsIn W (logOf W (e .received)) (bookOf c q (e .sent)) now))
+answerOf W c q e (wants-write time) = wants time (Is (wantsIn W (logOf W (e .received)) (bookOf c q (e .sent)) time))
 answerOf W c q e reset = was-reset Done
 
 -- the log of a list of calls, from the calls alone

@@ -64,26 +64,26 @@ stepOf s ring (send-ump cfg ws) =
 stepOf s ring (on-retransmit-request cfg r) =
     let h = requestAnswer s cfg ring r in
     record { stream = h .stream; ring = ring; entry = by-sender (Sender.request-entry cfg r (h .outcome)) }
-stepOf s ring (on-ump-data cfg now seq ws) =
-    let h = dataAnswer s cfg now seq in
-    record { stream = h .stream; ring = ring; entry = by-receiver (Receiver.data-entry cfg now seq ws (h .answer)) }
+stepOf s ring (on-ump-data cfg time seq ws) =
+    let h = dataAnswer s cfg time seq in
+    record { stream = h .stream; ring = ring; entry = by-receiver (Receiver.data-entry cfg time seq ws (h .answer)) }
 stepOf s ring (on-retransmit-error err) =
     let h = errorAnswer s err in
     record { stream = h .stream; ring = ring; entry = by-receiver (Receiver.error-entry err (h .event)) }
 stepOf s ring on-retransmit-nak =
     let h = nakAnswer s in
     record { stream = h .stream; ring = ring; entry = by-receiver (Receiver.nak-entry (h .event)) }
-stepOf s ring (poll cfg now) =
-    let h = pollAnswer s cfg now in
-    record { stream = h .stream; ring = ring; entry = by-receiver (Receiver.poll-entry cfg now (h .event)) }
+stepOf s ring (poll cfg time) =
+    let h = pollAnswer s cfg time in
+    record { stream = h .stream; ring = ring; entry = by-receiver (Receiver.poll-entry cfg time (h .event)) }
 stepOf s ring (write-request cfg p b) =
     let h = takeAnswer s cfg p b in
     record { stream = h .0 .stream; ring = ring; entry = by-receiver (Receiver.take-entry cfg p b (h .0 .answer) (h .0 .payload) (h .1)) }
-stepOf s ring (write-data cfg now p b) =
-    let h = writeAnswer s cfg now p b ring in
-    record { stream = h .0 .stream; ring = h .2; entry = wrote cfg now p b (h .0 .answer) (h .0 .payload) (h .1) }
+stepOf s ring (write-data cfg time p b) =
+    let h = writeAnswer s cfg time p b ring in
+    record { stream = h .0 .stream; ring = h .2; entry = wrote cfg time p b (h .0 .answer) (h .0 .payload) (h .1) }
 stepOf s ring next-deadline = record { stream = s; ring = ring; entry = deadline (deadlineAnswer s ring) }
-stepOf s ring (wants-write now) = record { stream = s; ring = ring; entry = wants now (wantsAnswer s ring now) }
+stepOf s ring (wants-write time) = record { stream = s; ring = ring; entry = wants time (wantsAnswer s ring time) }
 stepOf s ring reset =
     let h = resetAnswer s ring in
     record { stream = h .0 .stream; ring = h .1; entry = was-reset (h .0 .answer) }
@@ -100,20 +100,20 @@ runFrom s ring t (c ∷ calls) = runFrom (stepOf s ring c .stream) (stepOf s rin
 
 -- from a start with this window, over a lent history of c words, with q places for requests
 unfoldable pub run : StreamConfig → ℕ → ℕ → ℕ → List ℕ → List Call → Run
-run cfg W c q memory calls = runFrom (newAnswer cfg W c q memory .0 .stream) (newAnswer cfg W c q memory .1) [] calls
+run cfg W c q ring₀ calls = runFrom (newAnswer cfg W c q ring₀ .0 .stream) (newAnswer cfg W c q ring₀ .1) [] calls
 
 -- words have 32 bits, numbers and counts 16, R and K 8
 abbrev pub Typed : Call → Type 0
 Typed (send-ump cfg ws) = TypedConfig cfg × Words32 ws
 Typed (on-retransmit-request cfg r) = TypedConfig cfg × (r .seq < turn) × (r .count < turn)
-Typed (on-ump-data cfg now seq ws) = seq < turn
+Typed (on-ump-data cfg time seq ws) = seq < turn
 Typed (on-retransmit-error err) = Unit {0}
 Typed on-retransmit-nak = Unit {0}
-Typed (poll cfg now) = Unit {0}
+Typed (poll cfg time) = Unit {0}
 Typed (write-request cfg p b) = Unit {0}
-Typed (write-data cfg now p b) = TypedConfig cfg
+Typed (write-data cfg time p b) = TypedConfig cfg
 Typed next-deadline = Unit {0}
-Typed (wants-write now) = Unit {0}
+Typed (wants-write time) = Unit {0}
 Typed reset = Unit {0}
 
 abbrev pub AllTyped : List Call → Type 0

@@ -15,7 +15,7 @@ use Rattle.receiver.specs.declared.receiver.Asked.{Asked}
 use Rattle.receiver.specs.declared.receiver.Asked.the-variants.{Nothing as Unasked, Request as AskedFor}
 use Rattle.receiver.specs.declared.receiver.Request.{Request}
 use Rattle.receiver.specs.declared.receiver.Request.the-variants.{Nothing as NotDue, Written as Taken, More as NoSpace, Refused as NotTaken}
-use Rattle.receiver.specs.declared.receiver.Requested.{Requested}
+use Rattle.receiver.specs.declared.receiver.RequestWritten.{RequestWritten}
 use Rattle.sender_log.specs.Calls.{TypedConfig}
 use Rattle.delivery.specs.Commands.{isData}
 use Rattle.delivery.specs.Console.{Lent, noPayload, freshConsole, AllAllowed}
@@ -72,9 +72,9 @@ stepOf c (request-into k cfg) =
     let v = payloadAt c k in
     let h = takeAnswer (c .stream) cfg (v .payload) (v .buffer) in
     cond (isOpen c k) (record { stream = h .0 .stream; ring = c .ring; payloads = set (c .payloads) k record { payload = h .0 .payload; buffer = h .1 } }) c
-stepOf c (write-into k cfg now) =
+stepOf c (write-into k cfg time) =
     let v = payloadAt c k in
-    let h = writeAnswer (c .stream) cfg now (v .payload) (v .buffer) (c .ring) in
+    let h = writeAnswer (c .stream) cfg time (v .payload) (v .buffer) (c .ring) in
     cond (isOpen c k) (record { stream = h .0 .stream; ring = h .2; payloads = set (c .payloads) k record { payload = h .0 .payload; buffer = h .1 } }) c
 stepOf c (on-stream call) =
     let x = Stream.stepOf (c .stream) (c .ring) call in
@@ -87,7 +87,7 @@ ofStream c (open-payload limit buffer) = []
 ofStream c (lend-again k rest) = []
 ofStream c (put-into k call) = []
 ofStream c (request-into k cfg) = let v = payloadAt c k in cond (isOpen c k) (write-request cfg (v .payload) (v .buffer) ∷ []) []
-ofStream c (write-into k cfg now) = let v = payloadAt c k in cond (isOpen c k) (write-data cfg now (v .payload) (v .buffer) ∷ []) []
+ofStream c (write-into k cfg time) = let v = payloadAt c k in cond (isOpen c k) (write-data cfg time (v .payload) (v .buffer) ∷ []) []
 ofStream c (on-stream call) = call ∷ []
 
 -- ---- the calls of crate delivery's console that they count as
@@ -108,21 +108,21 @@ unlessCut NoSpace call = []
 unlessCut (NotTaken why) call = []
 
 -- taking a due request into payload k
-abbrev pub takenInto : Console → ℕ → StreamConfig → Requested × List ℕ
+abbrev pub takenInto : Console → ℕ → StreamConfig → RequestWritten × List ℕ
 takenInto c k cfg = let v = payloadAt c k in receiver.takeAnswer (c .stream .receiver) cfg (v .payload) (v .buffer)
 
 -- a write into a payload that isn't valid is refused before its sender is called
 abbrev pub ofSender : Stream.Call → List Delivery.Call
 ofSender (send-ump cfg ws) = Delivery.queue-words cfg ws ∷ []
 ofSender (on-retransmit-request cfg r) = Delivery.retransmit-request cfg r ∷ []
-ofSender (on-ump-data cfg now seq ws) = []
+ofSender (on-ump-data cfg time seq ws) = []
 ofSender (on-retransmit-error err) = []
 ofSender on-retransmit-nak = []
-ofSender (poll cfg now) = []
+ofSender (poll cfg time) = []
 ofSender (write-request cfg p b) = []
-ofSender (write-data cfg now p b) = []
+ofSender (write-data cfg time p b) = []
 ofSender next-deadline = []
-ofSender (wants-write now) = []
+ofSender (wants-write time) = []
 ofSender reset = []
 
 abbrev pub ofConsole : Console → Call → List Delivery.Call
@@ -130,9 +130,9 @@ ofConsole c (open-payload limit buffer) = Delivery.open-payload limit buffer ∷
 ofConsole c (lend-again k rest) = Delivery.lend-again k rest ∷ []
 ofConsole c (put-into k call) = Delivery.put-into k call ∷ []
 ofConsole c (request-into k cfg) = let t = takenInto c k cfg in cond (isOpen c k) (putBy k (t .0 .answer) (t .0 .receiver .asked)) []
-ofConsole c (write-into k cfg now) =
+ofConsole c (write-into k cfg time) =
     let t = takenInto c k cfg in
-    cond (isOpen c k) (putBy k (t .0 .answer) (t .0 .receiver .asked) ++ unlessCut (t .0 .answer) (Delivery.write-into k cfg now)) []
+    cond (isOpen c k) (putBy k (t .0 .answer) (t .0 .receiver .asked) ++ unlessCut (t .0 .answer) (Delivery.write-into k cfg time)) []
 ofConsole c (on-stream call) = ofSender call
 
 -- ---- lists of calls
@@ -153,14 +153,14 @@ runFrom c (call ∷ calls) =
 abbrev pub Aside : Stream.Call → Type 0
 Aside (send-ump cfg ws) = Unit {0}
 Aside (on-retransmit-request cfg r) = Unit {0}
-Aside (on-ump-data cfg now seq ws) = Unit {0}
+Aside (on-ump-data cfg time seq ws) = Unit {0}
 Aside (on-retransmit-error err) = Unit {0}
 Aside on-retransmit-nak = Unit {0}
-Aside (poll cfg now) = Unit {0}
+Aside (poll cfg time) = Unit {0}
 Aside (write-request cfg p b) = Unit {0}
-Aside (write-data cfg now p b) = payloadValid p (length b) ≡ false
+Aside (write-data cfg time p b) = payloadValid p (length b) ≡ false
 Aside next-deadline = Unit {0}
-Aside (wants-write now) = Unit {0}
+Aside (wants-write time) = Unit {0}
 Aside reset = ⊥
 
 -- arguments lie in their types, and no other call writes a data command
@@ -169,7 +169,7 @@ Allowed (open-payload limit buffer) = Unit {0}
 Allowed (lend-again k rest) = Unit {0}
 Allowed (put-into k call) = WriteTyped call × (isData (commandOf call) ≡ false)
 Allowed (request-into k cfg) = Unit {0}
-Allowed (write-into k cfg now) = TypedConfig cfg
+Allowed (write-into k cfg time) = TypedConfig cfg
 Allowed (on-stream call) = Typed call × Aside call
 
 abbrev pub EachAllowed : List Call → Type 0
@@ -184,14 +184,14 @@ pub record End : Type 0 where
   pub window : ℕ
   pub words : ℕ
   pub places : ℕ
-  pub memory : List ℕ
-  pub started : Started settings window words places memory
+  pub ring₀ : List ℕ
+  pub started : Started settings window words places ring₀
   pub calls : List Call
   pub allowed : EachAllowed calls
 
 unfoldable pub runOf : End → Run
 runOf e =
-    let x = newAnswer (e .settings) (e .window) (e .words) (e .places) (e .memory) in
+    let x = newAnswer (e .settings) (e .window) (e .words) (e .places) (e .ring₀) in
     runFrom record { stream = x .0 .stream; ring = x .1; payloads = [] } (e .calls)
 
 -- what crate delivery's console is left with
@@ -201,10 +201,10 @@ endFrom d (call ∷ calls) = endFrom (Delivery.stepOf d call .console) calls
 
 -- The stream is what its calls leave, and its sender with the payloads, every byte of them, is what crate delivery's calls leave.
 pub record LineEnd (e : End) : Type 0 where
-  pub stream : (let u = Stream.run (e .settings) (e .window) (e .words) (e .places) (e .memory) (runOf e .called) in
+  pub stream : (let u = Stream.run (e .settings) (e .window) (e .words) (e .places) (e .ring₀) (runOf e .called) in
       (runOf e .console .stream ≡ u .stream) × (runOf e .console .ring ≡ u .ring))
   pub typed : AllTyped (runOf e .called)
-  pub sending : sendingEnd (runOf e .console) ≡ endFrom (freshConsole (e .words) (e .places) (e .memory)) (runOf e .sent)
+  pub sending : sendingEnd (runOf e .console) ≡ endFrom (freshConsole (e .words) (e .places) (e .ring₀)) (runOf e .sent)
   pub allowed : AllAllowed (runOf e .sent)
 
 abbrev pub LineEnds : Type 0

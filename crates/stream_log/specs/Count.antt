@@ -16,15 +16,15 @@ use Rattle.stream_log.specs.Promise.{Started}
 
 -- a payload takes a due request, retransmits, then up to R of the last written commands, then new ones
 unfoldable pub wantedOf : ℕ → ℕ → ℕ → List ℕ → Ends → StreamConfig → ℕ → PayloadWriter → List ℕ → List Packet
-wantedOf W c q memory e cfg now p b =
+wantedOf W c q ring₀ e cfg time p b =
     let t = takenAfter W (e .received) cfg p b in
-    requestWanted W (logOf W (e .received)) cfg ++ wantedIn c cfg now (pastOf c q memory (e .sent)) (t .0 .payload) (t .1)
+    requestWanted W (logOf W (e .received)) cfg ++ wantedIn c cfg time (pastOf c q ring₀ (e .sent)) (t .0 .payload) (t .1)
 
 -- every write after every list of calls, into any payload
 abbrev pub StreamCounted : Type 0
 StreamCounted =
-    (start : StreamConfig) (W c q : ℕ) (memory : List ℕ) → Started start W c q memory → (calls : List Call) → AllTyped calls
-    → (cfg : StreamConfig) → TypedConfig cfg → (now : ℕ) (p : PayloadWriter) (b : List ℕ)
-    → (let u = run start W c q memory calls in
-    let w = writeAnswer (u .stream) cfg now p b (u .ring) in
-    CountedIn (wantedOf W c q memory (endsOf W calls) cfg now p b) p b (w .0 .answer) (w .0 .payload) (w .1))
+    (start : StreamConfig) (W c q : ℕ) (ring₀ : List ℕ) → Started start W c q ring₀ → (calls : List Call) → AllTyped calls
+    → (cfg : StreamConfig) → TypedConfig cfg → (time : ℕ) (p : PayloadWriter) (b : List ℕ)
+    → (let u = run start W c q ring₀ calls in
+    let w = writeAnswer (u .stream) cfg time p b (u .ring) in
+    CountedIn (wantedOf W c q ring₀ (endsOf W calls) cfg time p b) p b (w .0 .answer) (w .0 .payload) (w .1))

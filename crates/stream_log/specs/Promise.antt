@@ -39,26 +39,26 @@ use Rattle.stream_log.specs.Answers.{requestWanted, answerOf, saidFrom}
 
 -- a start that isn't refused
 abbrev pub Started : StreamConfig → ℕ → ℕ → ℕ → List ℕ → Type 0
-Started cfg W c q memory = newAnswer cfg W c q memory .0 .answer ≡ Done
+Started cfg W c q ring₀ = newAnswer cfg W c q ring₀ .0 .answer ≡ Done
 
 -- ---- the state
 
 -- each end is what its own calls leave, passes the state test, and is what those calls say
-pub record Kept (W c q : ℕ) (memory : List ℕ) (s : DataStream) (ring : List ℕ) (e : Ends) : Type 0 where
+pub record Kept (W c q : ℕ) (ring₀ : List ℕ) (s : DataStream) (ring : List ℕ) (e : Ends) : Type 0 where
   pub receiver : s .receiver ≡ Receiver.run W (e .received) .receiver
-  pub sender : s .sender ≡ Sender.run c q memory (e .sent) .sender
-  pub history : ring ≡ Sender.run c q memory (e .sent) .ring
+  pub sender : s .sender ≡ Sender.run c q ring₀ (e .sent) .sender
+  pub history : ring ≡ Sender.run c q ring₀ (e .sent) .ring
   pub receiver-typed : Receiver.AllTyped (e .received)
   pub sender-typed : Sender.AllTyped (e .sent)
   pub valid : validOf s ring ≡ true
   pub receiver-kept : Received.Kept W (s .receiver) (logOf W (e .received))
   pub sender-kept : Sent.Kept c q (s .sender) ring (bookOf c q (e .sent))
-  pub sender-held : HeldIn c (s .sender) ring (pastOf c q memory (e .sent))
+  pub sender-held : HeldIn c (s .sender) ring (pastOf c q ring₀ (e .sent))
 
 abbrev pub Reached : Type 0
 Reached =
-    (cfg : StreamConfig) (W c q : ℕ) (memory : List ℕ) → Started cfg W c q memory → (calls : List Call) → AllTyped calls
-    → (let u = run cfg W c q memory calls in Kept W c q memory (u .stream) (u .ring) (endsOf W calls))
+    (cfg : StreamConfig) (W c q : ℕ) (ring₀ : List ℕ) → Started cfg W c q ring₀ → (calls : List Call) → AllTyped calls
+    → (let u = run cfg W c q ring₀ calls in Kept W c q ring₀ (u .stream) (u .ring) (endsOf W calls))
 
 -- ---- no call is refused for the stream's state
 
@@ -66,14 +66,14 @@ Reached =
 abbrev pub GivenValid : Call → Type 0
 GivenValid (send-ump cfg ws) = Unit {0}
 GivenValid (on-retransmit-request cfg r) = Unit {0}
-GivenValid (on-ump-data cfg now seq ws) = Unit {0}
+GivenValid (on-ump-data cfg time seq ws) = Unit {0}
 GivenValid (on-retransmit-error err) = Unit {0}
 GivenValid on-retransmit-nak = Unit {0}
-GivenValid (poll cfg now) = Unit {0}
+GivenValid (poll cfg time) = Unit {0}
 GivenValid (write-request cfg p b) = payloadValid p (length b) ≡ true
-GivenValid (write-data cfg now p b) = payloadValid p (length b) ≡ true
+GivenValid (write-data cfg time p b) = payloadValid p (length b) ≡ true
 GivenValid next-deadline = Unit {0}
-GivenValid (wants-write now) = Unit {0}
+GivenValid (wants-write time) = Unit {0}
 GivenValid reset = Unit {0}
 
 pub record StateTaken (W c q : ℕ) (s : DataStream) (ring : List ℕ) : Type 0 where
@@ -82,29 +82,29 @@ pub record StateTaken (W c q : ℕ) (s : DataStream) (ring : List ℕ) : Type 0 
   -- and each answer is what the call's definition says behind its tests: of one end, that end's
   pub of-sender : Sent.StateTaken (s .sender) ring
   pub of-receiver : Received.StateTaken (s .receiver)
-  pub write-data : (cfg : StreamConfig) (now : ℕ) (p : PayloadWriter) (b : List ℕ)
-      → writeAnswer s cfg now p b ring
-      ≡ entry (checkOf cfg) (payloadValid p (length b)) (writeRefused s p b ring) (dataWritten s cfg now p b ring)
+  pub write-data : (cfg : StreamConfig) (time : ℕ) (p : PayloadWriter) (b : List ℕ)
+      → writeAnswer s cfg time p b ring
+      ≡ entry (checkOf cfg) (payloadValid p (length b)) (writeRefused s p b ring) (dataWritten s cfg time p b ring)
   pub next-deadline : deadlineAnswer s ring ≡ earlier (receiverDeadline (s .receiver)) (senderDeadline (s .sender))
-  pub wants-write : (now : ℕ) → wantsAnswer s ring now ≡ Is (s .receiver .«request_due» || wantsOf (s .sender) now)
+  pub wants-write : (time : ℕ) → wantsAnswer s ring time ≡ Is (s .receiver .«request_due» || wantsOf (s .sender) time)
   -- a reset leaves exactly a fresh stream
   pub reset : resetAnswer s ring ≡ (record { stream = fresh W c q; answer = Done }, replicate c 0)
 
 abbrev pub NeverInvalid : Type 0
 NeverInvalid =
-    (cfg : StreamConfig) (W c q : ℕ) (memory : List ℕ) → Started cfg W c q memory → (calls : List Call) → AllTyped calls
-    → (let u = run cfg W c q memory calls in StateTaken W c q (u .stream) (u .ring))
+    (cfg : StreamConfig) (W c q : ℕ) (ring₀ : List ℕ) → Started cfg W c q ring₀ → (calls : List Call) → AllTyped calls
+    → (let u = run cfg W c q ring₀ calls in StateTaken W c q (u .stream) (u .ring))
 
 -- ---- answers
 
 -- each answer, and with it the whole log, is settled by the past calls
-pub record AnsweredIn (cfg : StreamConfig) (W c q : ℕ) (memory : List ℕ) (calls : List Call) : Type 0 where
-  pub next : (call : Call) → Typed call → (let u = run cfg W c q memory calls in stepOf (u .stream) (u .ring) call .entry ≡ answerOf W c q (endsOf W calls) call)
-  pub whole : run cfg W c q memory calls .log ≡ saidFrom W c q uncalled [] calls
+pub record AnsweredIn (cfg : StreamConfig) (W c q : ℕ) (ring₀ : List ℕ) (calls : List Call) : Type 0 where
+  pub next : (call : Call) → Typed call → (let u = run cfg W c q ring₀ calls in stepOf (u .stream) (u .ring) call .entry ≡ answerOf W c q (endsOf W calls) call)
+  pub whole : run cfg W c q ring₀ calls .log ≡ saidFrom W c q uncalled [] calls
 
 abbrev pub Answered : Type 0
 Answered =
-    (cfg : StreamConfig) (W c q : ℕ) (memory : List ℕ) → Started cfg W c q memory → (calls : List Call) → AllTyped calls → AnsweredIn cfg W c q memory calls
+    (cfg : StreamConfig) (W c q : ℕ) (ring₀ : List ℕ) → Started cfg W c q ring₀ → (calls : List Call) → AllTyped calls → AnsweredIn cfg W c q ring₀ calls
 
 -- ---- "more"
 
@@ -114,18 +114,18 @@ nextOf W c q e cfg = requestWanted W (logOf W (e .received)) cfg ++ nextIn (book
 
 -- A write answers "more" exactly when a command is left that doesn't fit; without it nothing is left.
 pub record MoreRight (W c q : ℕ) (s : DataStream) (ring : List ℕ) (e : Ends) : Type 0 where
-  pub more : (cfg : StreamConfig) → TypedConfig cfg → (now : ℕ) (p : PayloadWriter) (b : List ℕ) (n : ℕ)
-      → (let w = writeAnswer s cfg now p b ring in w .0 .answer ≡ Written record { commands = n; more = true }
-      → NoRoom (w .0 .payload) (w .1) (nextOf W c q (endsAfter W e (write-data cfg now p b)) cfg))
-  pub no-more : (cfg : StreamConfig) → TypedConfig cfg → (now : ℕ) (p : PayloadWriter) (b : List ℕ) (n : ℕ)
-      → writeAnswer s cfg now p b ring .0 .answer ≡ Written record { commands = n; more = false }
-      → (let e′ = endsAfter W e (write-data cfg now p b) in
+  pub more : (cfg : StreamConfig) → TypedConfig cfg → (time : ℕ) (p : PayloadWriter) (b : List ℕ) (n : ℕ)
+      → (let w = writeAnswer s cfg time p b ring in w .0 .answer ≡ Written record { commands = n; more = true }
+      → NoRoom (w .0 .payload) (w .1) (nextOf W c q (endsAfter W e (write-data cfg time p b)) cfg))
+  pub no-more : (cfg : StreamConfig) → TypedConfig cfg → (time : ℕ) (p : PayloadWriter) (b : List ℕ) (n : ℕ)
+      → writeAnswer s cfg time p b ring .0 .answer ≡ Written record { commands = n; more = false }
+      → (let e′ = endsAfter W e (write-data cfg time p b) in
       (dueIn W (logOf W (e′ .received)) ≡ false) × (bookOf c q (e′ .sent) .waiting ≡ []) × (bookOf c q (e′ .sent) .unwritten ≡ []))
 
 abbrev pub More : Type 0
 More =
-    (cfg : StreamConfig) (W c q : ℕ) (memory : List ℕ) → Started cfg W c q memory → (calls : List Call) → AllTyped calls
-    → (let u = run cfg W c q memory calls in MoreRight W c q (u .stream) (u .ring) (endsOf W calls))
+    (cfg : StreamConfig) (W c q : ℕ) (ring₀ : List ℕ) → Started cfg W c q ring₀ → (calls : List Call) → AllTyped calls
+    → (let u = run cfg W c q ring₀ calls in MoreRight W c q (u .stream) (u .ring) (endsOf W calls))
 
 -- ---- demand 3, second sentence
 
@@ -137,5 +137,5 @@ pub record Accounted (W : ℕ) (s : DataStream) (e : Ends) : Type 0 where
 
 abbrev pub StreamPromise : Type 0
 StreamPromise =
-    (cfg : StreamConfig) (W c q : ℕ) (memory : List ℕ) → Started cfg W c q memory → (calls : List Call) → AllTyped calls
-    → Accounted W (run cfg W c q memory calls .stream) (endsOf W calls)
+    (cfg : StreamConfig) (W c q : ℕ) (ring₀ : List ℕ) → Started cfg W c q ring₀ → (calls : List Call) → AllTyped calls
+    → Accounted W (run cfg W c q ring₀ calls .stream) (endsOf W calls)

@@ -18,7 +18,7 @@ use Rattle.stream_log.specs.Console.{End, runOf}
 
 -- the logs of an end: of its sender with the payloads, and of its receiver
 abbrev pub sentBy : End → List Entry
-sentBy e = logFrom (freshConsole (e .words) (e .places) (e .memory)) [] (runOf e .sent)
+sentBy e = logFrom (freshConsole (e .words) (e .places) (e .ring₀)) [] (runOf e .sent)
 
 abbrev pub heardBy : End → List Receiver.Entry
 heardBy e = logOf (e .window) (endsOf (e .window) (runOf e .called) .received)

@@ -12,7 +12,7 @@ use Rattle.window.specs.Window.{processed}
 use Rattle.window.specs.Arrival.{reach, newOf, lateAt, unchanged, acceptOf}
 use Rattle.window.specs.declared.set.Bits.{Bits}
 use Rattle.window.specs.declared.window.ReceiveWindow.{ReceiveWindow}
-use Rattle.window.specs.declared.window.Taken.{Taken}
+use Rattle.window.specs.declared.window.Arrival.{Arrival}
 use Rattle.window.specs.declared.window.Class.{Class}
 use Rattle.window.specs.declared.window.Class.the-variants.{Late}
 use Rattle.window.specs.declared.window.Span.{Span}
@@ -43,7 +43,7 @@ module _ (w : ReceiveWindow) (seq : ℕ) where
         more = omega (arith, near)
 
     pub processed-after-new : (b : ℕ) → processed (acceptOf w seq .window) b ≡ cond (leb b (w .size)) (shifted w d b) true
-    processed-after-new b = ap (λ (t : Taken). processed (t .window) b) accept-as-new ∙ processed-new w seq d b near
+    processed-after-new b = ap (λ (t : Arrival). processed (t .window) b) accept-as-new ∙ processed-new w seq d b near
 
   module _ (e : within 1 reach d ≡ false) where
     -- ---- Late
@@ -55,7 +55,7 @@ module _ (w : ReceiveWindow) (seq : ℕ) where
       pub processed-after-late : (b : ℕ) → processed (acceptOf w seq .window) b ≡ (processed w b || eqb b back)
       processed-after-late b =
           let i = unprocessed-in w back f in
-          ap (λ (t : Taken). processed (t .window) b) accept-as-late ∙ processed-late w back b (i .0) (i .1)
+          ap (λ (t : Arrival). processed (t .window) b) accept-as-late ∙ processed-late w back b (i .0) (i .1)
 
     -- ---- Duplicate
 
@@ -64,8 +64,8 @@ module _ (w : ReceiveWindow) (seq : ℕ) where
 
 -- ---- by what the code has at hand
 
-pub taken-is : (t : Taken) {n : ReceiveWindow} {k : Class} {l : Span} → n ≡ t .window → k ≡ t .class → l ≡ t .lost
-    → _≡_ {A = Taken} (record { window = n; class = k; lost = l }) t
+pub taken-is : (t : Arrival) {n : ReceiveWindow} {k : Class} {l : Span} → n ≡ t .window → k ≡ t .class → l ≡ t .lost
+    → _≡_ {A = Arrival} (record { window = n; class = k; lost = l }) t
 taken-is t en ek el = rw (en, ek, el)
 
 module _ (w : ReceiveWindow) (seq : ℕ) {dist : ℕ} (ed : dist ≡ ahead (w .highest) seq) (e : within 1 reach (ahead (w .highest) seq) ≡ true) where
@@ -75,7 +75,7 @@ module _ (w : ReceiveWindow) (seq : ℕ) {dist : ℕ} (ed : dist ≡ ahead (w .h
   pub accept-new-is : newOf w seq dist ≡ acceptOf w seq
   accept-new-is = ap (newOf w seq) ed ∙ sym (accept-as-new w seq e)
 
-abbrev late : ReceiveWindow → Bits → Taken
+abbrev late : ReceiveWindow → Bits → Arrival
 late w s = record { window = record { size = w .size; highest = w .highest; bits = s }; class = Late; lost = Nothing }
 
 module _ (w : ReceiveWindow) (seq : ℕ) {b : ℕ} (eb : b ≡ ahead seq (w .highest)) (e : within 1 reach (ahead (w .highest) seq) ≡ false) where

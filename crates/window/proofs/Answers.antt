@@ -11,7 +11,7 @@ use Rattle.window.specs.Answers.{startAnswer, changed, classAnswer, hear
 use Rattle.window.specs.declared.window.ReceiveWindow.{ReceiveWindow}
 use Rattle.window.specs.declared.window.Class.{Class}
 use Rattle.window.specs.declared.window.Span.{Span}
-use Rattle.window.specs.declared.window.Taken.{Taken}
+use Rattle.window.specs.declared.window.Arrival.{Arrival}
 use Rattle.window.specs.declared.window.Started.the-variants as started
 use Rattle.window.specs.declared.window.Changed.{Changed}
 use Rattle.config.specs.declared.answer.Outcome.the-variants as outcome
@@ -68,7 +68,7 @@ module _ (w : ReceiveWindow) where
     unfolding classAnswer
     class-found seq is = ap {B = Classified} (λ (x : Class). record { window = w; answer = classification.Found x }) is ∙ rw e
 
-    pub accept-heard : (seq : ℕ) {r : Taken} → r ≡ acceptOf w seq → heard r ≡ acceptAnswer w seq
+    pub accept-heard : (seq : ℕ) {r : Arrival} → r ≡ acceptOf w seq → heard r ≡ acceptAnswer w seq
     unfolding acceptAnswer
     accept-heard seq is = ap heard is ∙ rw e
 

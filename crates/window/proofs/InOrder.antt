@@ -13,7 +13,7 @@ use Rattle.window.specs.Set.{val, setOf}
 use Rattle.window.specs.Window.{Valid, missingOf}
 use Rattle.window.specs.Arrival.{reach, movedOf, newOf, inOrder, acceptOf}
 use Rattle.window.specs.declared.window.ReceiveWindow.{ReceiveWindow}
-use Rattle.window.specs.declared.window.Taken.{Taken}
+use Rattle.window.specs.declared.window.Arrival.{Arrival}
 use Rattle.window.specs.declared.window.Class.the-variants.{New}
 use Rattle.window.specs.declared.window.Span.the-variants.{Nothing}
 use Rattle.window.proofs.Words.{of-words, val-of}
@@ -62,7 +62,7 @@ module _ (w : ReceiveWindow) (v : Valid w) (seq : ℕ) (e : inOrder w seq ≡ tr
   accept-as-next : acceptOf w seq ≡ newOf w seq 1
   accept-as-next = accept-as-new w seq (within-yes 1 reach (ahead (w .highest) seq) (omega (arith, next)) (omega (arith, next))) ∙ ap (newOf w seq) next
 
-  pub accept-in-order : w .bits .low < 2 ^ 64 → _≡_ {A = Taken} (record { window = record { size = w .size; highest = seq; bits = w .bits }; class = New 0; lost = Nothing }) (acceptOf w seq)
+  pub accept-in-order : w .bits .low < 2 ^ 64 → _≡_ {A = Arrival} (record { window = record { size = w .size; highest = seq; bits = w .bits }; class = New 0; lost = Nothing }) (acceptOf w seq)
   unfolding val newOf
   accept-in-order b =
       taken-is (newOf w seq 1) (new-window-is w seq 1 (of-words (w .bits .high) (w .bits .low) b _ (all ∙ sym moved))) refl
@@ -72,7 +72,7 @@ module _ (w : ReceiveWindow) (v : Valid w) (seq : ℕ) (e : inOrder w seq ≡ tr
   pub in-order-complete : eqb (missingOf (acceptOf w seq .window)) 0 ≡ true
   unfolding newOf missingOf
   in-order-complete =
-      eq-eqb _ _ (ap (λ (t : Taken). missingOf (t .window)) accept-as-next ∙ ap (λ (x : ℕ). (2 ^ w .size - 1) - x) (val-of _ ∙ moved) ∙ self (2 ^ w .size - 1))
+      eq-eqb _ _ (ap (λ (t : Arrival). missingOf (t .window)) accept-as-next ∙ ap (λ (x : ℕ). (2 ^ w .size - 1) - x) (val-of _ ∙ moved) ∙ self (2 ^ w .size - 1))
     where
       self : (n : ℕ) → n - n ≡ 0
       self n = omega arith

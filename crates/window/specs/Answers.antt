@@ -14,7 +14,7 @@ use Rattle.window.specs.Marking.{markOf}
 use Rattle.window.specs.declared.window.ReceiveWindow.{ReceiveWindow}
 use Rattle.window.specs.declared.window.SeqRange.{SeqRange}
 use Rattle.window.specs.declared.window.Span.{Span}
-use Rattle.window.specs.declared.window.Taken.{Taken}
+use Rattle.window.specs.declared.window.Arrival.{Arrival}
 use Rattle.window.specs.declared.window.Started.{Started}
 use Rattle.window.specs.declared.window.Started.the-variants as started
 use Rattle.window.specs.declared.window.Changed.{Changed}
@@ -54,7 +54,7 @@ classAnswer w seq =
     onState (validOf w) (λ (why : Refusal). record { window = w; answer = classification.Refused why })
     record { window = w; answer = classification.Found (classOf w seq) }
 
-abbrev pub heard : Taken → Accepted
+abbrev pub heard : Arrival → Accepted
 heard t = record { window = t .window; answer = acceptance.Heard (t .class) (t .lost) }
 
 unfoldable pub acceptAnswer : ReceiveWindow → ℕ → Accepted

@@ -8,7 +8,7 @@ use Rattle.config.specs.Sequence.{ahead}
 use Rattle.window.specs.Set.{val, setOf}
 use Rattle.window.specs.Window.{processed, missingOf, spanOf}
 use Rattle.window.specs.declared.window.ReceiveWindow.{ReceiveWindow}
-use Rattle.window.specs.declared.window.Taken.{Taken}
+use Rattle.window.specs.declared.window.Arrival.{Arrival}
 use Rattle.window.specs.declared.window.Class.{Class}
 use Rattle.window.specs.declared.window.Class.the-variants.{New, Late, Duplicate}
 use Rattle.window.specs.declared.window.Span.the-variants.{Nothing}
@@ -35,7 +35,7 @@ unfoldable pub lostOf : ℕ → ℕ → ℕ → ℕ
 lostOf size m d = (m * 2 ^ d + (2 ^ (d - 1) - 1)) / 2 ^ size
 
 -- a number d ahead
-unfoldable pub newOf : ReceiveWindow → ℕ → ℕ → Taken
+unfoldable pub newOf : ReceiveWindow → ℕ → ℕ → Arrival
 newOf w seq d = record {
   window = record { size = w .size; highest = seq; bits = setOf (movedOf (w .size) (val (w .bits)) d) };
   class = New (d - 1);
@@ -47,7 +47,7 @@ unfoldable pub inOrder : ReceiveWindow → ℕ → Bool
 inOrder w seq = eqb (ahead (w .highest) seq) 1 && eqb (missingOf w) 0
 
 -- a number at position k of the window
-abbrev pub lateAt : ReceiveWindow → ℕ → Taken
+abbrev pub lateAt : ReceiveWindow → ℕ → Arrival
 lateAt w k = record {
   window = record { size = w .size; highest = w .highest; bits = setOf (bitOr (val (w .bits)) (2 ^ k)) };
   class = Late;
@@ -55,13 +55,13 @@ lateAt w k = record {
 }
 
 -- a Duplicate changes nothing
-abbrev pub unchanged : ReceiveWindow → Taken
+abbrev pub unchanged : ReceiveWindow → Arrival
 unchanged w = record { window = w; class = Duplicate; lost = Nothing }
 
-abbrev pub takenOf : ReceiveWindow → ℕ → Class → Taken
+abbrev pub takenOf : ReceiveWindow → ℕ → Class → Arrival
 takenOf w seq (New gap) = newOf w seq (gap + 1)
 takenOf w seq Late = lateAt w (ahead seq (w .highest) - 1)
 takenOf w seq Duplicate = unchanged w
 
-unfoldable pub acceptOf : ReceiveWindow → ℕ → Taken
+unfoldable pub acceptOf : ReceiveWindow → ℕ → Arrival
 acceptOf w seq = takenOf w seq (classOf w seq)

@@ -15,7 +15,7 @@ pub record Valid (w : ReceiveWindow) : Type 0 where
   pub most : w .size ≤ maxWindow
   pub inside : val (w .bits) < 2 ^ w .size
 
--- the same as a test
+-- whether a window is `Valid`
 unfoldable pub validOf : ReceiveWindow → Bool
 validOf w = within 1 maxWindow (w .size) && ltb (val (w .bits)) (2 ^ w .size)
 

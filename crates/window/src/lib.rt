@@ -7,7 +7,7 @@
 //
 //   window   the state `ReceiveWindow`, and every operation on it: `new`, `starting_at`, `reset`, `classify`,
 //            `accept`, `is_processed`, `missing`, `request`, `mark_all`, `mark_range`
-//   valid    the same over a state that was tested, for the layers above
+//   tested   the same over a state that was tested, for the layers above
 //   span     from positions to numbers
 //   set      the processed positions, as two 64-bit words
 //
@@ -15,5 +15,5 @@
 // its size is not one that starting takes, or a position outside the size is set. A refused call changes nothing.
 pub mod set;
 mod span;
-pub mod valid;
+pub mod tested;
 pub mod window;

@@ -4,7 +4,7 @@ ghost use Rattle.window.specs.Marking.{inRange};
 ghost use Rattle.window.specs.Answers.{startAnswer, newAnswer, resetAnswer, classAnswer, heard as heardOf, acceptAnswer, processedAnswer, missingAnswer, requestAnswer, markAllAnswer, markAnswer};
 use super::set;
 use super::set::Bits;
-use super::valid;
+use super::tested;
 use config::answer::Answered;
 use config::answer::Outcome;
 use config::range;
@@ -52,14 +52,14 @@ pub enum Class {
 }
 
 // What the arrival of a number leaves and answers.
-pub struct Taken {
+pub struct Arrival {
     pub window: ReceiveWindow,
     pub class: Class,
     // From the oldest to the newest number that left the window unprocessed.
     pub lost: Span,
 }
 
-// What `valid::mark_range` leaves and answers.
+// What `tested::mark_range` leaves and answers.
 pub struct Marked {
     pub window: ReceiveWindow,
     // From the oldest to the newest number that it marked.
@@ -115,7 +115,7 @@ pub struct Extended {
 }
 
 // The answer to a number that was taken.
-fn heard(taken: Taken) -> Accepted
+fn heard(taken: Arrival) -> Accepted
     ensures { λ r. ⌜ r ≡ heardOf taken ⌝ }
 {
     let window = taken.window;
@@ -153,16 +153,16 @@ impl ReceiveWindow {
         if range::outside(1, set::MAX_WINDOW as usize, size as usize) {
             return Started::Refused(Refusal::SizeNotAllowed);
         }
-        Started::Window(valid::starting_at(size, highest))
+        Started::Window(tested::starting_at(size, highest))
     }
 
     // Back to the fresh window of the same size.
     pub fn reset(self) -> Changed
         ensures { λ r. ⌜ r ≡ resetAnswer self ⌝ }
     {
-        if valid::is_valid(self) {
+        if tested::is_valid(self) {
             let size = self.size;
-            let fresh = valid::starting_at(size, FRESH);
+            let fresh = tested::starting_at(size, FRESH);
             return Changed {
                 window: fresh,
                 answer: Outcome::Done,
@@ -178,10 +178,10 @@ impl ReceiveWindow {
     pub fn classify(self, seq: SeqNum) -> Classified
         ensures { λ r. ⌜ r ≡ classAnswer self seq ⌝ }
     {
-        if valid::is_valid(self) {
+        if tested::is_valid(self) {
             return Classified {
                 window: self,
-                answer: Classification::Found(valid::classify(self, seq)),
+                answer: Classification::Found(tested::classify(self, seq)),
             };
         }
         Classified {
@@ -194,21 +194,21 @@ impl ReceiveWindow {
     pub fn accept(self, seq: SeqNum) -> Accepted
         ensures { λ r. ⌜ r ≡ acceptAnswer self seq ⌝ }
     {
-        if valid::is_valid(self) {
-            if valid::in_order(self, seq) {
-                return heard(valid::accept_next(self, seq));
+        if tested::is_valid(self) {
+            if tested::in_order(self, seq) {
+                return heard(tested::accept_next(self, seq));
             }
-            if valid::is_ahead(self, seq) {
-                let lost = valid::lost_to(self, seq);
+            if tested::is_ahead(self, seq) {
+                let lost = tested::lost_to(self, seq);
                 return Accepted {
-                    window: valid::moved_to(self, seq),
+                    window: tested::moved_to(self, seq),
                     answer: Acceptance::Heard {
-                        class: valid::class_ahead(self, seq),
+                        class: tested::class_ahead(self, seq),
                         lost,
                     },
                 };
             }
-            return heard(valid::accept_behind(self, seq));
+            return heard(tested::accept_behind(self, seq));
         }
         Accepted {
             window: self,
@@ -220,10 +220,10 @@ impl ReceiveWindow {
     pub fn is_processed(self, seq: SeqNum) -> Known
         ensures { λ r. ⌜ r ≡ processedAnswer self seq ⌝ }
     {
-        if valid::is_valid(self) {
+        if tested::is_valid(self) {
             return Known {
                 window: self,
-                answer: Answered::Is(valid::is_processed(self, seq)),
+                answer: Answered::Is(tested::is_processed(self, seq)),
             };
         }
         Known {
@@ -236,10 +236,10 @@ impl ReceiveWindow {
     pub fn missing(self) -> Extended
         ensures { λ r. ⌜ r ≡ missingAnswer self ⌝ }
     {
-        if valid::is_valid(self) {
+        if tested::is_valid(self) {
             return Extended {
                 window: self,
-                answer: Extent::Numbers(valid::missing(self)),
+                answer: Extent::Numbers(tested::missing(self)),
             };
         }
         Extended {
@@ -252,10 +252,10 @@ impl ReceiveWindow {
     pub fn request(self) -> Extended
         ensures { λ r. ⌜ r ≡ requestAnswer self ⌝ }
     {
-        if valid::is_valid(self) {
+        if tested::is_valid(self) {
             return Extended {
                 window: self,
-                answer: Extent::Numbers(valid::request(self)),
+                answer: Extent::Numbers(tested::request(self)),
             };
         }
         Extended {
@@ -268,9 +268,9 @@ impl ReceiveWindow {
     pub fn mark_all(self) -> Changed
         ensures { λ r. ⌜ r ≡ markAllAnswer self ⌝ }
     {
-        if valid::is_valid(self) {
+        if tested::is_valid(self) {
             return Changed {
-                window: valid::mark_all(self),
+                window: tested::mark_all(self),
                 answer: Outcome::Done,
             };
         }
@@ -284,8 +284,8 @@ impl ReceiveWindow {
     pub fn mark_range(self, range: SeqRange) -> Extended
         ensures { λ r. ⌜ r ≡ markAnswer self range ⌝ }
     {
-        if valid::is_valid(self) {
-            let marked = valid::mark_range(self, range);
+        if tested::is_valid(self) {
+            let marked = tested::mark_range(self, range);
             let window = marked.window;
             let span = marked.span;
             return Extended {

@@ -8,7 +8,7 @@ use native.Mathlib.Omega.{arith}
 use borrow.Author.Needs.{needs}
 use Rattle.packet.specs.Bytes.{spliced}
 use Rattle.packet.proofs.Splice.{spliced-nil}
-use Rattle.reading.proofs.Stores.{put-turn}
+use Rattle.read_command.proofs.Stores.{put-turn}
 use Rattle.c_words.proofs.lent.put.Statement.{statement}
 use Rattle.c_words.proofs.lent.put.Tie as tie
 

@@ -10,15 +10,15 @@ use Rattle.history.proofs.headers.walk.Statement.{statement}
 use Rattle.history.proofs.headers.walk.Tie as tie
 
 abbrev Inv-loop : tie.InvT-loop
-Inv-loop buf k at₀ seq₀ prev₀ words₀ left₀ guess₀ at seq prev words left guess =
+Inv-loop ring k at₀ seq₀ prev₀ words₀ left₀ guess₀ at seq prev words left guess =
     (left ≤ k)
-    × (at < length buf)
+    × (at < length ring)
     × (seq < 65536)
     × (words ≤ words₀)
-    × Past buf at₀ seq₀ prev₀ (k - left) at seq prev (words₀ - words)
+    × Past ring at₀ seq₀ prev₀ (k - left) at seq prev (words₀ - words)
 
 abbrev μ-loop : tie.MeasureT-loop
-μ-loop buf k at₀ seq₀ prev₀ words₀ left₀ guess₀ at seq prev words left guess = left
+μ-loop ring k at₀ seq₀ prev₀ words₀ left₀ guess₀ at seq prev words left guess = left
 
 loop-holds : tie.Need-loop-holds Inv-loop μ-loop
 loop-holds c = (omega arith, omega arith, omega arith, omega arith, past-here _ _ _ _ _ _)
@@ -46,8 +46,8 @@ returns-2 c =
 slot-requires : tie.Need-slot-requires Inv-loop μ-loop
 slot-requires c κs = search needs
 
-enough-requires : tie.Need-enough-requires Inv-loop μ-loop
-enough-requires c κs = search needs
+next-kind-requires : tie.Need-next-kind-requires Inv-loop μ-loop
+next-kind-requires c κs = search needs
 
 sub-left : tie.Need-sub-left Inv-loop μ-loop
 sub-left c =
@@ -91,7 +91,7 @@ walk-spec =
     lost-requires-2
     returns-2
     slot-requires
-    enough-requires
+    next-kind-requires
     sub-left
     loop-less
     loop-again

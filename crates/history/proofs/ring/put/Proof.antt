@@ -30,8 +30,8 @@ returns c =
     let at-end = at-run .before .before in
     let a = at-end .before .before .before .args in
     let r = at-end .run-end .result in
-    let e : length (now (a .buf)) ≡ a .at + r = omega arith in
-    run-two _ _ _ (now (a .words)) (length (now (a .buf))) (a .at) r (length (now (a .words)) - r) e (omega arith) _
+    let e : length (now (a .ring)) ≡ a .at + r = omega arith in
+    run-two _ _ _ (now (a .words)) (length (now (a .ring))) (a .at) r (length (now (a .words)) - r) e (omega arith) _
     (at-run .put-run .ensures .1)
     (c .before .before .put-run2 .ensures .1)
 

@@ -11,36 +11,36 @@ use Rattle.history.proofs.ring.put_run.Statement.{statement}
 use Rattle.history.proofs.ring.put_run.Tie as tie
 
 abbrev Inv-loop : tie.InvT-loop
-Inv-loop buf₀ at words from n k₀ buf k =
+Inv-loop ring₀ at words from n k₀ ring k =
     (k ≤ n)
-    × (length buf ≡ length buf₀)
-    × (ringStored buf (slotOf (length buf₀) at k) (drop (from + k) words) ≡ ringStored buf₀ at (drop from words))
+    × (length ring ≡ length ring₀)
+    × (ringStored ring (slotOf (length ring₀) at k) (drop (from + k) words) ≡ ringStored ring₀ at (drop from words))
 
 abbrev μ-loop : tie.MeasureT-loop
-μ-loop buf₀ at words from n k₀ buf k = n - k
+μ-loop ring₀ at words from n k₀ ring k = n - k
 
 loop-holds : tie.Need-loop-holds Inv-loop μ-loop
 loop-holds c =
     let a = c .args in
-    (omega arith, refl, run-start (a .buf .now) (a .words .now) (a .at) (a .from) (omega arith))
+    (omega arith, refl, run-start (a .ring .now) (a .words .now) (a .at) (a .from) (omega arith))
 
-add-buf : tie.Need-add-buf Inv-loop μ-loop
-add-buf c = search needs
+add-ring : tie.Need-add-ring Inv-loop μ-loop
+add-ring c = search needs
 
-mul-buf : tie.Need-mul-buf Inv-loop μ-loop
-mul-buf c = search needs
+mul-ring : tie.Need-mul-ring Inv-loop μ-loop
+mul-ring c = search needs
 
-shared-slice-read-buf : tie.Need-shared-slice-read-buf Inv-loop μ-loop
-shared-slice-read-buf c = search needs
+shared-slice-read-ring : tie.Need-shared-slice-read-ring Inv-loop μ-loop
+shared-slice-read-ring c = search needs
 
-add-buf-2 : tie.Need-add-buf-2 Inv-loop μ-loop
-add-buf-2 c = search needs
+add-ring-2 : tie.Need-add-ring-2 Inv-loop μ-loop
+add-ring-2 c = search needs
 
-mul-buf-2 : tie.Need-mul-buf-2 Inv-loop μ-loop
-mul-buf-2 c = search needs
+mul-ring-2 : tie.Need-mul-ring-2 Inv-loop μ-loop
+mul-ring-2 c = search needs
 
-slice-write-buf : tie.Need-slice-write-buf Inv-loop μ-loop
-slice-write-buf c = search needs
+slice-write-ring : tie.Need-slice-write-ring Inv-loop μ-loop
+slice-write-ring c = search needs
 
 add-k : tie.Need-add-k Inv-loop μ-loop
 add-k c = search needs
@@ -54,7 +54,7 @@ loop-again c =
     let l = c .before .before .loop in (
       omega arith,
       simp length-set (omega arith),
-      run-turn (l .buf) (a .words .now) _ (length (a .buf .now)) (a .at) (a .from) (l .k) (l .inv .1) (omega arith) (omega arith) (l .inv .2),
+      run-turn (l .ring) (a .words .now) _ (length (a .ring .now)) (a .at) (a .from) (l .k) (l .inv .1) (omega arith) (omega arith) (l .inv .2),
     )
 
 same-length : tie.Need-same-length Inv-loop μ-loop
@@ -74,12 +74,12 @@ put-run-spec =
     Inv-loop
     μ-loop
     loop-holds
-    add-buf
-    mul-buf
-    shared-slice-read-buf
-    add-buf-2
-    mul-buf-2
-    slice-write-buf
+    add-ring
+    mul-ring
+    shared-slice-read-ring
+    add-ring-2
+    mul-ring-2
+    slice-write-ring
     add-k
     loop-less
     loop-again

@@ -11,19 +11,19 @@ use Rattle.history.proofs.ring.zero.Statement.{statement}
 use Rattle.history.proofs.ring.zero.Tie as tie
 
 abbrev Inv-loop : tie.InvT-loop
-Inv-loop buf₀ k₀ buf k = (k ≤ length buf₀) × (length buf ≡ length buf₀) × (buf ≡ replicate k 0 ++ drop k buf₀)
+Inv-loop ring₀ k₀ ring k = (k ≤ length ring₀) × (length ring ≡ length ring₀) × (ring ≡ replicate k 0 ++ drop k ring₀)
 
 abbrev μ-loop : tie.MeasureT-loop
-μ-loop buf₀ k₀ buf k = length buf₀ - k
+μ-loop ring₀ k₀ ring k = length ring₀ - k
 
 loop-holds : tie.Need-loop-holds Inv-loop μ-loop
 loop-holds c = (omega arith, refl, refl)
 
-mul-buf : tie.Need-mul-buf Inv-loop μ-loop
-mul-buf c = search needs
+mul-ring : tie.Need-mul-ring Inv-loop μ-loop
+mul-ring c = search needs
 
-slice-write-buf : tie.Need-slice-write-buf Inv-loop μ-loop
-slice-write-buf c = search needs
+slice-write-ring : tie.Need-slice-write-ring Inv-loop μ-loop
+slice-write-ring c = search needs
 
 add-k : tie.Need-add-k Inv-loop μ-loop
 add-k c = search needs
@@ -49,8 +49,8 @@ zero-spec =
     Inv-loop
     μ-loop
     loop-holds
-    mul-buf
-    slice-write-buf
+    mul-ring
+    slice-write-ring
     add-k
     loop-less
     loop-again

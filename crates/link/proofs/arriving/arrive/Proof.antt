@@ -7,7 +7,7 @@ use Rattle.link.proofs.arriving.arrive.Tie as tie
 use Rattle.link.proofs.arriving.arrive.Reads as reads
 use Rattle.link.proofs.arriving.arrive.Lts as lts
 use Rattle.link.proofs.arriving.walk.Reads as walk-reads
-use Rattle.packet.proofs.reader.command_packets.Reads as command-packets-reads
+use Rattle.packet.proofs.cursor.command_packets.Reads as command-packets-reads
 
 command-packets-requires : tie.Need-command-packets-requires
 command-packets-requires c κs = search needs

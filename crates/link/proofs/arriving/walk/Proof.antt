@@ -11,8 +11,8 @@ use Rattle.link.proofs.arriving.walk.Reads as reads
 use Rattle.link.proofs.arriving.walk.Lts as lts
 use Rattle.command.proofs.parse.parse.Reads as parse-reads
 use Rattle.link.proofs.arriving.command.Reads as command-reads
-use Rattle.packet.proofs.reader.Cursor.next.Reads as next-reads
-use Rattle.packet.proofs.reader.body.Reads as body-reads
+use Rattle.packet.proofs.cursor.Cursor.next.Reads as next-reads
+use Rattle.packet.proofs.cursor.body.Reads as body-reads
 
 abbrev Inv-loop : tie.InvT-loop
 Inv-loop cfg time ring payload a₀ at₀ a at = (a .handed + 4 ≤ at) × (a .losses + 4 ≤ at) × (at ≤ 1404) × (length payload ≤ 1400) × (ended cfg time ring payload a at ≡ ended cfg time ring payload a₀ 4)

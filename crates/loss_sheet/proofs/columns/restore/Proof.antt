@@ -1,4 +1,4 @@
--- The same with rows and columns exchanged.
+-- A block is stored by column with rows and columns exchanged.
 use Rattle.loss_sheet.proofs.Blocks.{restored-fit}
 use Rattle.loss_sheet.proofs.Stored.{restored-not, restored-done}
 use borrow.Author.Needs.{needs}

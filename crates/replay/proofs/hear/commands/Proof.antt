@@ -6,11 +6,11 @@ use Rattle.replay.proofs.hear.commands.Statement.{statement}
 use Rattle.replay.proofs.hear.commands.Tie as tie
 
 abbrev Inv-loop : tie.InvT-loop
-Inv-loop now bytes words₀ lens₀ stream₀ settings memory out₀ session₀ at₀ turns₀ words lens stream out session at turns =
+Inv-loop time bytes words₀ lens₀ stream₀ settings memory out₀ session₀ at₀ turns₀ words lens stream out session at turns =
     (length words ≡ length words₀) × (length lens ≡ length lens₀) × (length stream ≡ length stream₀) × (length out ≡ length out₀)
 
 abbrev μ-loop : tie.MeasureT-loop
-μ-loop now bytes words₀ lens₀ stream₀ settings memory out₀ session₀ at₀ turns₀ words lens stream out session at turns = turns
+μ-loop time bytes words₀ lens₀ stream₀ settings memory out₀ session₀ at₀ turns₀ words lens stream out session at turns = turns
 
 loop-holds : tie.Need-loop-holds Inv-loop μ-loop
 loop-holds c = search needs

@@ -8,8 +8,8 @@ use Rattle.sender.proofs.writing.rest.Statement.{statement}
 use Rattle.sender.proofs.writing.rest.Tie as tie
 
 -- the sender with the ring
-abbrev with-ring : tie.Start → Sender
-with-ring start = withQueue (start .args .s) (start .args .waiting)
+abbrev with-queue : tie.Start → Sender
+with-queue start = withQueue (start .args .s) (start .args .queue)
 
 sub-written : tie.Need-sub-written
 sub-written c = search needs
@@ -23,7 +23,7 @@ cast-k c = search needs
 returns : tie.Need-returns
 returns c =
     let start = c .before .before .before .before .before in
-    rest-error (with-ring start) (start .args .req) _ (c .before .distance .ensures) (c .if1 .taken) _
+    rest-error (with-queue start) (start .args .req) _ (c .before .distance .ensures) (c .if1 .taken) _
 
 cast-reach : tie.Need-cast-reach
 cast-reach c = search needs
@@ -37,7 +37,7 @@ reach-requires c κs = search needs
 cast-add : tie.Need-cast-add
 cast-add c =
     let start = c .before .before .before .before .before .before .before in
-    omega (arith, rest-fits (with-ring start) (start .args .req) _ (c .before .before .before .distance .ensures) (c .before .before .if1 .left) _ (c .reach .ensures) _ (start .pre .3) (start .pre .4))
+    omega (arith, rest-fits (with-queue start) (start .args .req) _ (c .before .before .before .distance .ensures) (c .before .before .if1 .left) _ (c .reach .ensures) _ (start .pre .3) (start .pre .4))
 
 add-requires : tie.Need-add-requires
 add-requires c κs = search needs
@@ -45,12 +45,12 @@ add-requires c κs = search needs
 sub-t12 : tie.Need-sub-t12
 sub-t12 c =
     let start = c .before .before .before .before .before .before .before .before in
-    rest-fits (with-ring start) (start .args .req) _ (c .before .before .before .before .distance .ensures) (c .before .before .before .if1 .left) _ (c .before .reach .ensures) _ (start .pre .3) (start .pre .4) .0
+    rest-fits (with-queue start) (start .args .req) _ (c .before .before .before .before .distance .ensures) (c .before .before .before .if1 .left) _ (c .before .reach .ensures) _ (start .pre .3) (start .pre .4) .0
 
 cast-t14 : tie.Need-cast-t14
 cast-t14 c =
     let start = c .before .before .before .before .before .before .before .before in
-    omega (arith, rest-fits (with-ring start) (start .args .req) _ (c .before .before .before .before .distance .ensures) (c .before .before .before .if1 .left) _ (c .before .reach .ensures) _ (start .pre .3) (start .pre .4))
+    omega (arith, rest-fits (with-queue start) (start .args .req) _ (c .before .before .before .before .distance .ensures) (c .before .before .before .if1 .left) _ (c .before .reach .ensures) _ (start .pre .3) (start .pre .4))
 
 set-front-requires : tie.Need-set-front-requires
 set-front-requires c κs = search needs
@@ -58,7 +58,7 @@ set-front-requires c κs = search needs
 returns-2 : tie.Need-returns-2
 returns-2 c =
     let start = c .before .before .before .before .before .before .before .before .before in
-    rest-left (with-ring start) (start .args .req) _ (c .before .before .before .before .before .distance .ensures) (c .before .before .before .before .if1 .left) _ (c .before .before .reach .ensures) _ _ _ (start .pre .1) (c .before .add .ensures) (c .set-front .ensures)
+    rest-left (with-queue start) (start .args .req) _ (c .before .before .before .before .before .distance .ensures) (c .before .before .before .before .if1 .left) _ (c .before .before .reach .ensures) _ _ _ (start .pre .1) (c .before .add .ensures) (c .set-front .ensures)
 
 pub rest-spec : {M : Type 1} → statement M
 rest-spec =

@@ -22,16 +22,16 @@ abbrev front : RetransmitQueue → RetransmitRequest
 front q = getD (q .items) (q .head) blank
 
 abbrev Inv-loop : tie.InvT-loop
-Inv-loop s buf₀ ring waiting₀ left₀ q₀ n₀ buf waiting left q n =
-    (left ≡ waiting .len)
-    × Fit waiting
+Inv-loop s buf₀ ring queue₀ left₀ q₀ n₀ buf queue left q n =
+    (left ≡ queue .len)
+    × Fit queue
     × (payloadValid q (length buf) ≡ true)
     × (length buf ≡ length buf₀)
     × (startOf q₀ + 4 * n ≤ startOf q)
-    × (servedAlso n (servedIn left (withQueue s waiting) ring q buf) ≡ servedOf s ring q₀ buf₀)
+    × (servedAlso n (servedIn left (withQueue s queue) ring q buf) ≡ servedOf s ring q₀ buf₀)
 
 abbrev μ-loop : tie.MeasureT-loop
-μ-loop s buf₀ ring waiting₀ left₀ q₀ n₀ buf waiting left q n = left
+μ-loop s buf₀ ring queue₀ left₀ q₀ n₀ buf queue left q n = left
 
 loop-holds : tie.Need-loop-holds Inv-loop μ-loop
 loop-holds c = let p = c .before .before .before .pre in (refl, valid-fit _ _ (p .0), p .1, refl, omega arith, served-start _ _ _ _)
@@ -75,14 +75,14 @@ loop-again c =
       out-valid _ _ _ _ _ _ _ out (l .inv .2),
       out-length _ _ _ _ _ _ _ out ∙ l .inv .3,
       omega (arith, out-grows _ _ _ _ _ _ _ out, l .inv .4),
-      served-popped (withQueue (start .args .s) (l .waiting)) (start .args .ring .now) _ _ (front (l .waiting)) _ _ _ _ out (front-request _ _ (l .inv .1) refl) _ _ some _ (l .inv .5) _ _ (c .before .before .before .leaves .ensures) (c .before .before .if1 .taken) next,
+      served-popped (withQueue (start .args .s) (l .queue)) (start .args .ring .now) _ _ (front (l .queue)) _ _ _ _ out (front-request _ _ (l .inv .1) refl) _ _ some _ (l .inv .5) _ _ (c .before .before .before .leaves .ensures) (c .before .before .if1 .taken) next,
     )
 
 rest-requires : tie.Need-rest-requires Inv-loop μ-loop
 rest-requires c κs =
     let start = c .before .before .before .before .before .before .before .before .before .before .before .before .before .before in
     let l = c .before .before .before .before .before .before .before .before .before .before .loop in
-    (l .inv .1, rw (l .inv .0) at (c .before .before .before .before .before .before .before .before .before .loop-test .taken), valid-unsent _ _ (start .pre .0), valid-few _ _ (start .pre .0), served-few (start .args .s) (start .args .ring .now) _ _ (front (l .waiting)) _ _ _ _ (c .before .before .before .before .before .before .answer .ensures))
+    (l .inv .1, rw (l .inv .0) at (c .before .before .before .before .before .before .before .before .before .loop-test .taken), valid-unsent _ _ (start .pre .0), valid-few _ _ (start .pre .0), served-few (start .args .s) (start .args .ring .now) _ _ (front (l .queue)) _ _ _ _ (c .before .before .before .before .before .before .answer .ensures))
 
 same-length : tie.Need-same-length Inv-loop μ-loop
 same-length c = out-length _ _ _ _ _ _ _ (c .before .before .before .before .before .before .before .answer .ensures) ∙ c .before .before .before .before .before .before .before .before .before .before .before .loop .inv .3
@@ -91,7 +91,7 @@ returns : tie.Need-returns Inv-loop μ-loop
 returns c =
     let start = c .before .before .before .before .before .before .before .before .before .before .before .before .before .before .before in
     let l = c .before .before .before .before .before .before .before .before .before .before .before .loop in
-    served-stays (withQueue (start .args .s) (l .waiting)) (start .args .ring .now) _ _ (front (l .waiting)) _ _ _ _ (c .before .before .before .before .before .before .before .answer .ensures) (front-request _ _ (l .inv .1) refl) _ _ (c .before .before .before .before .before .before .before .before .before .before .loop-test .taken) _ (l .inv .5) _ _ (c .before .before .leaves .ensures) (c .before .if1 .left) (c .rest .ensures)
+    served-stays (withQueue (start .args .s) (l .queue)) (start .args .ring .now) _ _ (front (l .queue)) _ _ _ _ (c .before .before .before .before .before .before .before .answer .ensures) (front-request _ _ (l .inv .1) refl) _ _ (c .before .before .before .before .before .before .before .before .before .before .loop-test .taken) _ (l .inv .5) _ _ (c .before .before .leaves .ensures) (c .before .if1 .left) (c .rest .ensures)
 
 same-length-2 : tie.Need-same-length-2 Inv-loop μ-loop
 same-length-2 c = c .before .loop .inv .3

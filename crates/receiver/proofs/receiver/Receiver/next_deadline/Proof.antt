@@ -1,4 +1,4 @@
--- The state is tested, and the rest is `valid::next_deadline`.
+-- The state is tested, and the rest is `tested::next_deadline`.
 use mathlib.Core.Path.{sym, _∙_}
 use Rattle.config.specs.inner.Entries.{state-refused, state-made}
 use Rattle.config.specs.declared.answer.Deadline.the-variants.{Refused}

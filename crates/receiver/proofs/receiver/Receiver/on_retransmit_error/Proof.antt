@@ -1,4 +1,4 @@
--- The state is tested, and the rest is `valid::on_retransmit_error`.
+-- The state is tested, and the rest is `tested::on_retransmit_error`.
 use mathlib.Core.Path.{sym, _∙_}
 use Rattle.config.specs.inner.Entries.{state-refused, state-made}
 use Rattle.receiver.specs.Answers.{errorAnswer, eventRefused}

@@ -1,4 +1,4 @@
--- Settings and state are tested, and the rest is `valid::poll`.
+-- Settings and state are tested, and the rest is `tested::poll`.
 use mathlib.Core.Path.{sym, _∙_}
 use Rattle.config.specs.inner.Entries.{settings-refused, entry-refused, entry-made}
 use Rattle.receiver.specs.Receiver.{validOf, polledOf}

@@ -1,4 +1,4 @@
--- The state is tested, and the rest is `valid::reset`.
+-- The state is tested, and the rest is `tested::reset`.
 use mathlib.Core.Path.{sym, _∙_}
 use Rattle.config.specs.inner.Entries.{state-refused}
 use Rattle.receiver.specs.Answers.{resetAnswer, resetRefused}

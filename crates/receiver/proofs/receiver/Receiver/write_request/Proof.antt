@@ -1,4 +1,4 @@
--- Settings, receiver and payload are tested, and the rest is `valid::write_request`.
+-- Settings, receiver and payload are tested, and the rest is `tested::write_request`.
 use mathlib.Core.Path.{sym, _∙_}
 use Rattle.config.specs.inner.Entries.{entry-refused, entry-made}
 use Rattle.config.specs.inner.Choices.{and-both, and-not-left, and-not-right}

@@ -1,4 +1,4 @@
--- The state is tested, and the rest is `valid::next_seq`.
+-- The state is tested, and the rest is `tested::next_seq`.
 use mathlib.Core.Path.{sym, ap, _∙_}
 use Rattle.config.specs.inner.Entries.{state-refused, state-made}
 use Rattle.sender.specs.Answers.{nextAnswer}

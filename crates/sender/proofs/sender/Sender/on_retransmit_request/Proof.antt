@@ -1,4 +1,4 @@
--- Settings and state are tested, and the rest is `valid::on_retransmit_request`.
+-- Settings and state are tested, and the rest is `tested::on_retransmit_request`.
 use mathlib.Core.Path.{sym, _∙_}
 use Rattle.config.specs.inner.Entries.{settings-refused, entry-refused, entry-made}
 use Rattle.sender.specs.Requests.{requestedOf}

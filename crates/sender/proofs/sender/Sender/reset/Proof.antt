@@ -1,4 +1,4 @@
--- The state is tested, and the rest is `valid::reset`.
+-- The state is tested, and the rest is `tested::reset`.
 use mathlib.Core.Path.{sym, _∙_}
 use Rattle.sender.proofs.Answers.{reset-refused, reset-done}
 use borrow.Author.Needs.{needs}

@@ -1,4 +1,4 @@
--- Settings and state are tested, and the rest is `valid::send_ump`.
+-- Settings and state are tested, and the rest is `tested::send_ump`.
 use mathlib.Core.Path.{sym, _∙_}
 use Rattle.config.specs.inner.Entries.{settings-refused, entry-refused, entry-made}
 use Rattle.sender.specs.State.{validOf}

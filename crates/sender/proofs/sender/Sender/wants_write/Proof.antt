@@ -1,4 +1,4 @@
--- The state is tested, and the rest is `valid::wants_write`.
+-- The state is tested, and the rest is `tested::wants_write`.
 use mathlib.Core.Path.{sym, ap, _∙_}
 use Rattle.config.specs.inner.Entries.{state-refused, state-made}
 use Rattle.config.specs.declared.answer.Answered.the-variants.{Is, Refused}

@@ -1,4 +1,4 @@
--- The state is tested, and the rest is `valid::is_processed`.
+-- The state is tested, and the rest is `tested::is_processed`.
 use mathlib.Core.Path.{sym, _∙_}
 use Rattle.window.proofs.Validity.{valid-of}
 use Rattle.window.proofs.Answers.{processed-refused, processed-known}

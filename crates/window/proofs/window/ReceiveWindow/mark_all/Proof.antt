@@ -1,4 +1,4 @@
--- The state is tested, and the rest is `valid::mark_all`.
+-- The state is tested, and the rest is `tested::mark_all`.
 use mathlib.Core.Path.{sym, _∙_}
 use Rattle.window.proofs.Validity.{valid-of}
 use Rattle.window.proofs.Answers.{changed-refused, changed-done}

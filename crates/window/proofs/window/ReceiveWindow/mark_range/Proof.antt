@@ -1,4 +1,4 @@
--- The state is tested, and the rest is `valid::mark_range`.
+-- The state is tested, and the rest is `tested::mark_range`.
 use mathlib.Core.Path.{ap, sym, _∙_}
 use Rattle.window.specs.declared.window.Marked.{Marked}
 use Rattle.window.proofs.Validity.{valid-of}

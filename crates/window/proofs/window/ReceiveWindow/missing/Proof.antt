@@ -1,4 +1,4 @@
--- The state is tested, and the rest is `valid::missing`.
+-- The state is tested, and the rest is `tested::missing`.
 use mathlib.Core.Path.{refl, sym, _∙_}
 use Rattle.window.proofs.Validity.{valid-of}
 use Rattle.window.proofs.Answers.{extended-refused, extended-numbers}

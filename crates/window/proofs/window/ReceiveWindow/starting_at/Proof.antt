@@ -1,4 +1,4 @@
--- The size is tested, and the rest is `valid::starting_at`.
+-- The size is tested, and the rest is `tested::starting_at`.
 use mathlib.Core.Path.{sym, _∙_}
 use Rattle.window.specs.Set.{maxWindow}
 use Rattle.config.specs.inner.Ranges.{outside-not, within-range}

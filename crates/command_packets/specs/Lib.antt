@@ -1,0 +1,3 @@
+-- The definitions that the contracts of `command_packets` cite.
+pub mod Held
+pub mod Theorems

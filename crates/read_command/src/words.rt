@@ -1,0 +1,61 @@
+// The words of a command's bytes, and how they divide into messages.
+ghost use mathlib.Core.Path.{_≡_};
+ghost use Prim.Native.Nat.{_≤_};
+ghost use lib.ListN.{length, getD};
+ghost use Rattle.packet.specs.Bytes.{wordsOf, spliced};
+ghost use Rattle.read_command.specs.Words.{wholeCount, lengthsOf};
+use command::message::message_words;
+use packet::cursor::Lookup;
+use packet::cursor::word;
+
+// The word at `index`, 0 past the last.
+fn word_at(body: &[u8], index: usize) -> u32
+    ensures { λ r. ⌜ r ≡ getD (wordsOf (now (body .entry))) index 0 ⌝ }
+{
+    match word(body, index) {
+        Lookup::Word(w) => w,
+        Lookup::Absent => 0,
+    }
+}
+
+// Stores the words at the front of `out`, and tells how many they are.
+pub fn put(body: &[u8], out: &mut [u32]) -> usize
+    requires { ⌜ length (wordsOf (now body)) ≤ length (now out) ⌝ }
+    ensures { λ r. ⌜ (r ≡ length (wordsOf (now (body .entry)))) × (now (out .exit) ≡ spliced (now (out .entry)) 0 (wordsOf (now (body .entry)))) ⌝ }
+{
+    let n = body.len() / 4;
+    let mut j = 0;
+    while j < n {
+        out[j] = word_at(body, j);
+        j += 1;
+    }
+    n
+}
+
+// Stores the lengths of the whole messages at the front of `out`, and tells how many words these have.
+pub fn lengths(words: &[u32], out: &mut [u8]) -> usize
+    requires { ⌜ length (now words) ≤ length (now out) ⌝ }
+    ensures { λ r. ⌜ (r ≡ wholeCount (now (words .entry))) × (r ≤ length (now (words .entry))) × (now (out .exit) ≡ spliced (now (out .entry)) 0 (lengthsOf (now (words .entry)))) ⌝ }
+{
+    let mut i = 0;
+    let mut k = 0;
+    // The length of the message before, as in `command::message::whole_messages`.
+    let mut same = 1;
+    while i < words.len() {
+        let n = message_words(words[i]);
+        if n != same {
+            if words.len() - i < n {
+                return i;
+            }
+            same = n;
+        } else {
+            if words.len() - i < same {
+                return i;
+            }
+        }
+        out[k] = same as u8;
+        i += same;
+        k += 1;
+    }
+    i
+}

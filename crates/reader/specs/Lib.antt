@@ -1,3 +1,0 @@
--- The definitions that the contracts of `reader` cite.
-pub mod Held
-pub mod Theorems

@@ -1,3 +1,0 @@
--- The definitions that the contracts of `reading` cite.
-pub mod Words
-pub mod Next

@@ -1,0 +1,92 @@
+-- A due request is taken; where it does not end the write, the payload is still valid and the sender writes behind it, after 0 or 1 commands.
+use mathlib.Core.Path.{refl, ap, _∙_}
+use mathlib.Core.Logic.{⊎-elim}
+use native.Mathlib.Omega.{arith}
+use lib.ListN.{length}
+use Rattle.receiver.proofs.Taken.{taken-not-due}
+use Rattle.stream.proofs.Validity.{valid-receiver, valid-sender}
+use Rattle.stream.proofs.Taking.{taken-valid}
+use Rattle.stream.proofs.Writing.{after-taken}
+use borrow.Author.Needs.{needs}
+use Rattle.stream.proofs.tested.write_data.Statement.{statement}
+use Rattle.stream.proofs.tested.write_data.Tie as tie
+
+write-request-requires : tie.Need-write-request-requires
+write-request-requires c κs = let pre = c .before .before .before .before .before .before .pre in (valid-receiver _ _ (pre .1), pre .2)
+
+enum-known-answer : tie.Need-enum-known-answer
+enum-known-answer c = search needs
+
+same-length : tie.Need-same-length
+same-length c = search needs
+
+returns : tie.Need-returns
+returns c = after-taken _ _ _ _ _ _ _ _ (c .before .before .before .before .before .before .before .write-request .ensures) _ (c .before .answer .given .1)
+
+enum-told : tie.Need-enum-told
+enum-told c = search needs
+
+same-length-2 : tie.Need-same-length-2
+same-length-2 c = search needs
+
+returns-2 : tie.Need-returns-2
+returns-2 c = after-taken _ _ _ _ _ _ _ _ (c .before .before .before .before .before .before .write-request .ensures) _ (c .enum-told .given .1)
+
+enum-told-2 : tie.Need-enum-told-2
+enum-told-2 c = search needs
+
+enum-told-3 : tie.Need-enum-told-3
+enum-told-3 c = search needs
+
+write-after-requires : tie.Need-write-after-requires
+write-after-requires c κs =
+    let pre = c .before .before .before .before .before .before .before .pre in
+    let came = c .before .before .if1 .came in (
+      ⊎-elim (λ w. omega arith) (⊎-elim (λ w. omega arith) (λ w. omega arith)) came,
+      pre .0,
+      valid-sender _ _ (pre .1),
+      ⊎-elim
+          (λ w. rw (w .9, w .11) (taken-valid _ _ _ _ (pre .2) _ _ (w .2 .ensures)))
+          (⊎-elim (λ w. rw (w .9, w .11) (taken-valid _ _ _ _ (pre .2) _ _ (w .2 .ensures))) (λ w. rw (w .1, w .3) (pre .2)))
+          came,
+      pre .3,
+    )
+
+same-length-3 : tie.Need-same-length-3
+same-length-3 c =
+    let behind = c .before .before .before .buf2 .given in
+    ⊎-elim
+    (λ w. omega (arith, behind, w .3 .given, ap length (w .9)))
+    (⊎-elim (λ w. omega (arith, behind, w .3 .given, ap length (w .9))) (λ w. omega (arith, behind, ap length (w .1))))
+    (c .before .before .before .before .before .before .before .if1 .came)
+
+same-length-4 : tie.Need-same-length-4
+same-length-4 c = search needs
+
+returns-3 : tie.Need-returns-3
+returns-3 c =
+    let wrote = c .before .before .before .before .write-after .ensures in
+    ⊎-elim
+    (λ w. (rw (w .9, w .10, w .11, w .12) at wrote) ∙ after-taken _ _ _ _ _ _ _ _ (w .2 .ensures) _ (w .8 .given .1))
+    (⊎-elim
+    (λ w. (rw (w .9, w .10, w .11, w .12) at wrote) ∙ after-taken _ _ _ _ _ _ _ _ (w .2 .ensures) _ (w .8 .given .1))
+    (λ w. (rw (w .1, w .2, w .3, w .4) at wrote) ∙ after-taken _ _ _ _ _ _ _ _ (taken-not-due _ _ _ _ _ refl (w .0 .left)) _ refl))
+    (c .before .before .before .before .before .before .before .if1 .came)
+
+pub write-data-spec : {M : Type 1} → statement M
+write-data-spec =
+    tie.close
+    (tie.spec
+    write-request-requires
+    enum-known-answer
+    same-length
+    returns
+    enum-told
+    same-length-2
+    returns-2
+    enum-told-2
+    enum-told-3
+    write-after-requires
+    same-length-3
+    same-length-4
+    returns-3)
