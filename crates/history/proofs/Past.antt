@@ -13,11 +13,13 @@ use Rattle.config.specs.inner.Tests.{split, tests, lifts}
 use Rattle.history.specs.Ring.{slotOf}
 use Rattle.history.specs.Headers.{lengthAt, entrySize, nextAt, headerAt, wordsFrom, headerOk, numbered}
 use Rattle.history.specs.Walk.{newestFrom, passes, Past, Ran, Walked}
-use Rattle.history.specs.State.{Good}
+use Rattle.history.specs.State.{Good, Marks, oldestMark}
+use Rattle.history.specs.declared.history.Mark.{Mark}
 use Rattle.history.specs.declared.history.SendHistory.{SendHistory}
 use Rattle.history.specs.declared.headers.Stop.{Stop}
 use Rattle.history.specs.declared.headers.Leg.{Leg}
 use Rattle.history.proofs.Slots.{slot-from}
+use Rattle.history.proofs.Walk.{header-add, numbered-add, words-add}
 
 pub past-none : (b : List ℕ) (i n p : ℕ) → Past b i n p 0 i n p 0
 past-none b i n p =
@@ -204,18 +206,37 @@ module _ (b : List ℕ) (w : Stop) (k : ℕ) (r : Stop) where
       let f : k - left ≡ k = omega arith in
       rw e (record { stops = λ g. no-yes g refl; goes = λ _. (o, l, rw f at x) })
 
--- a walk from the oldest of a state that was tested is not lost
-pub walked-good : (h : SendHistory) (b : List ℕ) (k : ℕ) (r : Stop) → Good h b → k ≤ h .count
-    → Walked b (record { lost = false; at = h .head; seq = h .oldest; prev = h .last; words = h .used }) k r → (r .at ≡ headerAt k b (h .head)) × (r .at < length b)
+-- ---- from a mark on
+
+pub mark-here : (h : SendHistory) (b : List ℕ) (m : Mark) (k : ℕ) → Marks h b m → m .entry ≡ k → (m .at ≡ headerAt k b (h .head)) × (m .at < length b)
+mark-here h b m k a e = (rw (← e) (a .0), a .1)
+
+pub mark-oldest : (h : SendHistory) (b : List ℕ) → Good h b → Marks h b (oldestMark h)
 unfolding headerAt
-walked-good h b k r g l w =
-    ⊎-elim
-    (λ (e : r .lost ≡ true).
-    let f : k + (h .count - k) ≡ h .count = omega arith in
-    let all : passes (h .count) b (h .head) (h .oldest) (h .used) ≡ true = rw (g .headers, g .words) (le-leb (h .used) (h .used) (omega arith)) in
-    no-yes all (rw f at (w .stops e (h .count - k))))
-    (λ (e : r .lost ≡ false).
-    let f : k + 0 ≡ k = omega arith in
-    let p = w .goes e in
-    (sym (rw f at (p .2 .place 0)), p .0))
-    (split (r .lost))
+mark-oldest h b g = (refl, omega (arith, g .ring, g .inside))
+
+-- a walk from a mark, in a state that was tested, is not lost
+module _ (h : SendHistory) (b : List ℕ) (m : Mark) (g : Good h b) (o : h .oldest < turn) (a : Marks h b m) where
+  -- the entries from the mark on
+  passes-from : m .entry ≤ h .count → passes (h .count - m .entry) b (m .at) (after (h .oldest) (m .entry)) (h .used) ≡ true
+  passes-from l =
+      let e : m .entry + (h .count - m .entry) ≡ h .count = omega arith in
+      let n = rw (← a .0) at (numbered-add (m .entry) (h .count - m .entry) b (h .head) (h .oldest) o (rw e (g .headers))) in
+      let w = rw (e, ← a .0) at (words-add (m .entry) (h .count - m .entry) b (h .head)) in
+      rw n (le-leb (wordsFrom (h .count - m .entry) b (m .at)) (h .used) (omega (arith, w, g .words)))
+
+  pub walked-good : (k : ℕ) (r : Stop) → m .entry ≤ k → k ≤ h .count
+      → Walked b (record { lost = false; at = m .at; seq = after (h .oldest) (m .entry); prev = h .last; words = h .used }) (k - m .entry) r
+      → (r .at ≡ headerAt k b (h .head)) × (r .at < length b)
+  unfolding headerAt
+  walked-good k r l few w =
+      ⊎-elim
+      (λ (e : r .lost ≡ true).
+      let f : k - m .entry + (h .count - k) ≡ h .count - m .entry = omega arith in
+      no-yes (passes-from (omega arith)) (rw f at (w .stops e (h .count - k))))
+      (λ (e : r .lost ≡ false).
+      let f : k - m .entry + 0 ≡ k - m .entry = omega arith in
+      let d : m .entry + (k - m .entry) ≡ k = omega arith in
+      let p = w .goes e in
+      (sym (rw f at (p .2 .place 0)) ∙ rw (← a .0) at (sym (rw d at (header-add (m .entry) (k - m .entry) b (h .head)))), p .0))
+      (split (r .lost))

@@ -12,7 +12,7 @@ use Rattle.config.specs.Range.{within, outside}
 use Rattle.config.specs.inner.Tests.{split, tests}
 use Rattle.history.specs.Headers.{nextAt, headerAt, wordsFrom, numbered}
 use Rattle.history.specs.Walk.{newestFrom, passes, Past, Walked}
-use Rattle.history.specs.State.{newestAt, unsentTake, walkOk, stateOk, backAt, Answers}
+use Rattle.history.specs.State.{newestAt, unsentTake, walkOk, stateOk, backOf, Marks, Answers}
 use Rattle.history.specs.declared.history.SendHistory.{SendHistory}
 use Rattle.history.specs.declared.history.Tested.{Tested}
 use Rattle.history.specs.declared.headers.Stop.{Stop}
@@ -131,7 +131,7 @@ module _ (h : SendHistory) (b : List ℕ) (unsent words : ℕ) where
 -- ---- the answer
 
 pub answers-no : (t : Bool) (h : SendHistory) (b : List ℕ) (unsent back : ℕ) (r : Tested) → r .ok ≡ false → false ≡ t → Answers t h b unsent back r
-answers-no t h b unsent back r e f = record { answer = e ∙ f; place = λ g. no-yes g e }
+answers-no t h b unsent back r e f = record { answer = e ∙ f; entry = λ g. no-yes g e; place = λ g. no-yes g e }
 
 -- ---- the walk in three parts: up to the last `again` written entries, these, and the unwritten ones
 
@@ -148,11 +148,11 @@ module _ (h : SendHistory) (b : List ℕ) (unsent words back : ℕ) (few : unsen
       walk-lost b (h .last) unsent words (h .count) (h .head) (h .oldest) (h .used) 0 (h .head) (h .oldest) (h .last) (h .used) (h .count - unsent - again) (rw z (past-none b (h .head) (h .oldest) (h .last))) (omega arith) (omega arith) (x .stops e)
 
   module _ (p : f .lost ≡ false) where
-    pub back-place : (f .at ≡ backAt h b unsent back) × (f .at < length b)
+    pub back-place : Marks h b record { entry = h .count - unsent - again; at = f .at }
     unfolding headerAt
     back-place =
         let g = x .goes p in
-        let e : h .count - unsent - again + 0 ≡ h .count - unsent - min back (h .count - unsent) = omega arith in
+        let e : h .count - unsent - again + 0 ≡ h .count - unsent - again = omega arith in
         (sym (rw e at (g .2 .place 0)), g .0)
 
     module _ (s : Stop) (y : Walked b f again s) where

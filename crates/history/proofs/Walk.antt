@@ -46,6 +46,23 @@ pub header-none : (b : List ℕ) (i : ℕ) → headerAt 0 b i ≡ i
 unfolding headerAt
 header-none b i = refl
 
+pub header-add : (j k : ℕ) (b : List ℕ) (i : ℕ) → headerAt (j + k) b i ≡ headerAt k b (headerAt j b i)
+unfolding headerAt
+header-add zero k b i = let e : 0 + k ≡ k = omega arith in rw e
+header-add (suc j) k b i = let e : suc j + k ≡ suc (j + k) = omega arith in rw e (header-add j k b (nextAt b i))
+
+-- the numbers of the entries after the first j
+pub numbered-add : (j k : ℕ) (b : List ℕ) (i n : ℕ) → n < turn → numbered (j + k) b i n ≡ true → numbered k b (headerAt j b i) (after n j) ≡ true
+unfolding numbered headerAt
+numbered-add zero k b i n o e =
+    let z : 0 + k ≡ k = omega arith in
+    let m : after n 0 ≡ n = omega arith in
+    rw m (rw z at e)
+numbered-add (suc j) k b i n o e =
+    let z : suc j + k ≡ suc (j + k) = omega arith in
+    let m : after n (suc j) ≡ after (after n 1) j = omega arith in
+    rw m (numbered-add j k b (nextAt b i) (after n 1) (omega arith) (and-right (headerOk b i n) _ (rw z at e)))
+
 -- ---- lengths
 
 -- each entry takes a word

@@ -8,6 +8,7 @@ use lib.Dec.{ltb, leb, eqb}
 use Rattle.config.specs.Range.{within}
 use Rattle.history.specs.Headers.{headerAt, wordsFrom, numbered}
 use Rattle.history.specs.declared.history.SendHistory.{SendHistory}
+use Rattle.history.specs.declared.history.Mark.{Mark}
 use Rattle.history.specs.declared.history.Tested.{Tested}
 
 -- a start: nothing held, and the next number is 0
@@ -41,14 +42,22 @@ stateOk h b unsent words =
     && (leb unsent (h .count)
     && walkOk b (h .last) unsent words (h .count) (h .head) (h .oldest) (h .used)))))
 
--- the place of the header `back` before the unwritten ones, or of the oldest where fewer are written
-abbrev pub backAt : SendHistory → List ℕ → ℕ → ℕ → ℕ
-backAt h b unsent back = headerAt (h .count - unsent - min back (h .count - unsent)) b (h .head)
+-- the entry `back` before the unwritten ones, or the oldest where fewer are written
+abbrev pub backOf : SendHistory → ℕ → ℕ → ℕ
+backOf h unsent back = h .count - unsent - min back (h .count - unsent)
 
--- the answer of a test, and where it is yes the place that its walk came by
+-- the header of the mark's entry stands at its place
+abbrev pub Marks : SendHistory → List ℕ → Mark → Type 0
+Marks h b m = (m .at ≡ headerAt (m .entry) b (h .head)) × (m .at < length b)
+
+abbrev pub oldestMark : SendHistory → Mark
+oldestMark h = record { entry = 0; at = h .head }
+
+-- the answer of a test, and where it is yes the header that its walk came by
 pub record Answers (t : Bool) (h : SendHistory) (b : List ℕ) (unsent back : ℕ) (r : Tested) : Type 0 where
   pub answer : r .ok ≡ t
-  pub place : r .ok ≡ true → (r .at ≡ backAt h b unsent back) × (r .at < length b)
+  pub entry : r .ok ≡ true → r .mark .entry ≡ backOf h unsent back
+  pub place : r .ok ≡ true → Marks h b (r .mark)
 
 -- a state that passes the test, whatever of it is unwritten
 pub record Good (h : SendHistory) (b : List ℕ) : Type 0 where

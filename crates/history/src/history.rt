@@ -31,10 +31,17 @@ pub struct SendHistory {
     pub last: usize,
 }
 
-// What the state test answers, and a place that its walk came by.
+// The header of an entry: which entry, 0 the oldest, and the header's place. The end of all entries where
+// the entry is their count.
+pub struct Mark {
+    pub entry: usize,
+    pub at: usize,
+}
+
+// What the state test answers, and a header that its walk came by.
 pub struct Tested {
     pub ok: bool,
-    pub at: usize,
+    pub mark: Mark,
 }
 
 impl SendHistory {
@@ -47,8 +54,8 @@ impl SendHistory {
         tested.ok
     }
 
-    // The state test, and from its walk the place of the header `back` before the unwritten ones, or of
-    // the oldest where fewer are written.
+    // The state test, and from its walk the header `back` before the unwritten ones, or the oldest where
+    // fewer are written.
     pub fn state_walk(self, ring: &[u32], unsent: usize, unsent_words: usize, back: usize) -> Tested
         ensures { λ r. ⌜ Answers (stateOk self (now (ring .entry)) unsent «unsent_words») self (now (ring .entry)) unsent back r ⌝ }
     {
@@ -74,7 +81,10 @@ impl SendHistory {
 fn refused() -> Tested
     ensures { λ r. ⌜ r .ok ≡ false ⌝ }
 {
-    Tested { ok: false, at: 0 }
+    Tested {
+        ok: false,
+        mark: Mark { entry: 0, at: 0 },
+    }
 }
 
 // One walk over the headers, from the oldest on, with a stop before the last `back` written entries and
@@ -85,6 +95,7 @@ fn walks(h: SendHistory, ring: &[u32], unsent: usize, unsent_words: usize, back:
 {
     let written = h.count - unsent;
     let again = least(back, written);
+    let entry = written - again;
     let start = Stop {
         lost: false,
         at: h.head,
@@ -92,7 +103,7 @@ fn walks(h: SendHistory, ring: &[u32], unsent: usize, unsent_words: usize, back:
         prev: h.last,
         words: h.used,
     };
-    let first = headers::walk(ring, start, written - again);
+    let first = headers::walk(ring, start, entry);
     if first.lost {
         return refused();
     }
@@ -112,6 +123,9 @@ fn walks(h: SendHistory, ring: &[u32], unsent: usize, unsent_words: usize, back:
     }
     Tested {
         ok: all.prev == h.last,
-        at: first.at,
+        mark: Mark {
+            entry,
+            at: first.at,
+        },
     }
 }

@@ -3,7 +3,7 @@ ghost use mathlib.Core.Path.{_≡_};
 ghost use Prim.Native.Nat.{_+_, _-_, _≤_, _<_};
 ghost use lib.ListN.{length};
 ghost use Rattle.config.specs.Sequence.{after};
-ghost use Rattle.history.specs.State.{Good, cleared};
+ghost use Rattle.history.specs.State.{Good, Marks, oldestMark, cleared};
 ghost use Rattle.history.specs.Headers.{numberAt, lengthAt, nextAt, headerAt, wordsFrom};
 ghost use Rattle.history.specs.Push.{popOne, Freed, pushed, appended};
 ghost use Rattle.history.specs.Queue.{Fit, noneWait, waiting, asks, oldestOf, pushAnswer, setFrontOf, popOf};
@@ -12,6 +12,7 @@ ghost use Rattle.packet.specs.Write.{validOf, writtenOf};
 ghost use Rattle.history.specs.Written.{entryPacket};
 use super::headers;
 use super::headers::Stop;
+use super::history::Mark;
 use super::history::SendHistory;
 use super::queue::Ignored;
 use super::queue::Oldest;
@@ -66,20 +67,45 @@ pub fn next_index(ring: &[u32], at: usize) -> usize
     ring::slot(ring.len(), at, 1 + pl(ring, at))
 }
 
-// The place of the header of entry `k`, 0 the oldest; of the end of all entries where `k` is their count.
-pub fn index_of(h: SendHistory, ring: &[u32], k: usize) -> usize
-    requires { ⌜ Good h (now ring) × (k ≤ h .count) ⌝ }
+// The oldest entry's header.
+pub fn oldest(h: SendHistory) -> Mark
+    ensures { λ r. ⌜ r ≡ oldestMark h ⌝ }
+{
+    Mark {
+        entry: 0,
+        at: h.head,
+    }
+}
+
+// The place of the header of entry `k`, which is not before the mark's.
+fn index_from(h: SendHistory, ring: &[u32], from: Mark, k: usize) -> usize
+    requires { ⌜ Good h (now ring) × (k ≤ h .count) × Marks h (now ring) from × (from .entry ≤ k) ⌝ }
     ensures { λ r. ⌜ (r ≡ headerAt k (now (ring .entry)) (h .head)) × (r < length (now (ring .entry))) ⌝ }
 {
     let start = Stop {
         lost: false,
-        at: h.head,
-        seq: h.oldest,
+        at: from.at,
+        seq: sequence::add(h.oldest, from.entry as u16),
         prev: h.last,
         words: h.used,
     };
-    let out = headers::walk(ring, start, k);
+    let out = headers::walk(ring, start, k - from.entry);
     out.at
+}
+
+// The place of the header of entry `k`, 0 the oldest; of the end of all entries where `k` is their count.
+// It is walked to from the mark, or from the oldest where the mark is behind it.
+pub fn index_of(h: SendHistory, ring: &[u32], from: Mark, k: usize) -> usize
+    requires { ⌜ Good h (now ring) × (k ≤ h .count) × Marks h (now ring) from ⌝ }
+    ensures { λ r. ⌜ (r ≡ headerAt k (now (ring .entry)) (h .head)) × (r < length (now (ring .entry))) ⌝ }
+{
+    if from.entry == k {
+        return from.at;
+    }
+    if from.entry < k {
+        return index_from(h, ring, from, k);
+    }
+    index_from(h, ring, oldest(h), k)
 }
 
 // The oldest entry leaves.

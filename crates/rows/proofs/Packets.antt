@@ -17,7 +17,7 @@ use Rattle.history.specs.declared.history.SendHistory.{SendHistory}
 use Rattle.history.proofs.Entries.{length-read, short-entries}
 use Rattle.rows.specs.Rows.{sizesOf, anyWords, packetsFrom, Standing}
 use Rattle.history.proofs.Room.{good-header}
-use Rattle.history.proofs.Walk.{words-none, words-count}
+use Rattle.history.proofs.Walk.{words-none, words-count, header-add}
 
 -- ---- the first entry, and the first j of them
 module _ (k : ℕ) (ring : List ℕ) (i : ℕ) (some : 0 < k) where
@@ -53,11 +53,6 @@ packets-add zero k ring i = let e : 0 + k ≡ k = omega arith in rw e
 packets-add (suc j) k ring i =
     let e : suc j + k ≡ suc (j + k) = omega arith in
     rw e (ap (λ (cs : List Packet). entryPacket ring i ∷ cs) (packets-add j k ring (nextAt ring i)))
-
-pub header-add : (j k : ℕ) (ring : List ℕ) (i : ℕ) → headerAt (j + k) ring i ≡ headerAt k ring (headerAt j ring i)
-unfolding headerAt
-header-add zero k ring i = let e : 0 + k ≡ k = omega arith in rw e
-header-add (suc j) k ring i = let e : suc j + k ≡ suc (j + k) = omega arith in rw e (header-add j k ring (nextAt ring i))
 
 -- the header after the one that is k - n after the start
 pub header-next : (k n : ℕ) (ring : List ℕ) (start i at : ℕ) → 0 < n → n ≤ k → i ≡ headerAt (k - n) ring start → at ≡ nextAt ring i → at ≡ headerAt (k - (n - 1)) ring start

@@ -13,9 +13,12 @@ use Rattle.config.specs.inner.Tests.{split, tests}
 use Rattle.config.specs.Sequence.{turn}
 use Rattle.config.specs.declared.settings.StreamConfig.{StreamConfig}
 use Rattle.config.specs.inner.Choices.{or-left}
+use Rattle.history.specs.State.{Marks, oldestMark}
 use Rattle.history.specs.Push.{pushed}
 use Rattle.history.specs.Entries.{size, entriesOf}
+use Rattle.history.specs.declared.history.Mark.{Mark}
 use Rattle.history.specs.declared.history.SendHistory.{SendHistory}
+use Rattle.history.proofs.Past.{mark-oldest}
 use Rattle.history.proofs.Reached.{pushed-state}
 use Rattle.history.proofs.States.{state-unwritten}
 use Rattle.idle.specs.Schedule.{idleNext}
@@ -25,7 +28,7 @@ use Rattle.idle.specs.declared.idle.IdleTimer.the-variants.{Off, Waiting}
 use Rattle.idle.proofs.Steps.{next-ok}
 use Rattle.sender.specs.State.{validOf}
 use Rattle.sender.specs.Queueing.{holding}
-use Rattle.sender.specs.Writing.{withIdle, idledBy, idledOf, AgainAt}
+use Rattle.sender.specs.Writing.{withIdle, idledBy, idledOf, markAfter}
 use Rattle.sender.specs.declared.sender.Sender.{Sender}
 use Rattle.sender.proofs.Queued.{pushed-good}
 use Rattle.sender.proofs.Validity.{passes, valid-history, valid-queue, valid-good}
@@ -97,10 +100,16 @@ module _ (s : Sender) (cfg : StreamConfig) (time : ℕ) (ring : List ℕ) (v : v
         | inr a ↦ rw a (pushed-good (s .history) ring [] (valid-good s ring v) o (omega arith) .1)
       ]
 
--- where a command was unwritten, the first one to repeat stands where it stood
-pub again-kept : (s : Sender) (cfg : StreamConfig) (time : ℕ) (ring : List ℕ) (r place : ℕ) → AgainAt s ring r place
-    → (next : Sender) (words : List ℕ) → (next, words) ≡ idledOf s cfg time ring → ltb 0 (s .unsent) ≡ true → AgainAt next words r place
-again-kept s cfg time ring r place a next words e k =
-    let some : 0 < s .unsent = omega (arith, tests) in
-    let f : _≡_ {A = Sender × List ℕ} (next, words) (s, ring) = e ∙ sym (idled-unsent s cfg time ring some) in
-    subst (λ (z : Sender × List ℕ). AgainAt (z .0) (z .1) r place) (sym f) a
+-- where a command was unwritten, the mark stands where it stood
+pub mark-kept : (s : Sender) (cfg : StreamConfig) (time : ℕ) (ring : List ℕ) (m : Mark) → Marks (s .history) ring m
+    → (next : Sender) (words : List ℕ) → (next, words) ≡ idledOf s cfg time ring → validOf next words ≡ true → (r : Mark) → r ≡ markAfter (s .unsent) (next .history) m → Marks (next .history) words r
+mark-kept s cfg time ring m a next words e v r t = elim (split (ltb 0 (s .unsent))) [
+  | inl k ↦
+      let some : 0 < s .unsent = omega (arith, tests) in
+      let f : _≡_ {A = Sender × List ℕ} (next, words) (s, ring) = e ∙ sym (idled-unsent s cfg time ring some) in
+      let u : r ≡ m = rw k at t in
+      rw u (subst (λ (z : Sender × List ℕ). Marks (z .0 .history) (z .1) m) (sym f) a)
+  | inr k ↦
+      let u : r ≡ oldestMark (next .history) = rw k at t in
+      rw u (mark-oldest (next .history) words (valid-good next words v))
+]

@@ -33,7 +33,8 @@ use Rattle.history.proofs.States.{state-good}
 use Rattle.idle.specs.Schedule.{idleOk, idleStart}
 use Rattle.rows.specs.Rows.{rowOf, packetsFrom, fitAll, anyWords}
 use Rattle.rows.specs.Choice.{repeatsOf}
-use Rattle.rows.proofs.Packets.{length-packets, header-add}
+use Rattle.history.proofs.Walk.{header-add}
+use Rattle.rows.proofs.Packets.{length-packets}
 use Rattle.rows.proofs.Filling.{row-few, row-length, row-valid}
 use Rattle.sender.specs.State.{validOf, fresh, startOf, resetOf}
 use Rattle.sender.specs.Requests.{writtenCount, notWritten, withQueue, told, notInBuffer, queuedBy, requestedOf}

@@ -15,13 +15,13 @@ use Rattle.history.specs.Entries.{size, entriesOf}
 use Rattle.history.specs.Written.{entryPacket}
 use Rattle.history.proofs.Entries.{length-entries, drop-entries, size-entries}
 use Rattle.history.proofs.States.{state-unwritten}
-use Rattle.history.proofs.Walk.{words-add, words-prefix}
+use Rattle.history.proofs.Walk.{words-add, words-prefix, header-add}
 use Rattle.idle.specs.Schedule.{idleStart}
 use Rattle.idle.specs.declared.idle.IdleTimer.{IdleTimer}
 use Rattle.rows.specs.Rows.{rowOf, packetsFrom, Standing}
 use Rattle.rows.specs.Choice.{repeatsOf}
 use Rattle.rows.proofs.Filling.{rowWith}
-use Rattle.rows.proofs.Packets.{packets-first, length-packets, packets-add, header-add, short-prefix, good-standing, any-words}
+use Rattle.rows.proofs.Packets.{packets-first, length-packets, packets-add, short-prefix, good-standing, any-words}
 use Rattle.rows.proofs.Choice.{first-fits, first-none, entries-all, took-few, took-less, took-words}
 use Rattle.sender.specs.State.{validOf}
 use Rattle.sender.specs.Requests.{writtenCount}

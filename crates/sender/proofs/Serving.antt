@@ -2,11 +2,11 @@
 use mathlib.Core.Path.{_≡_, refl, sym, ap, _∙_}
 use mathlib.Core.Bool.{Bool, true, false, cond, _||_}
 use mathlib.Core.List.{List, [], _∷_}
-use Prim.Native.Nat.{ℕ, zero, suc, _+_, _-_, _*_, _≤_, _<_}
+use Prim.Native.Nat.{ℕ, zero, suc, _+_, _-_, _*_, _≤_, _<_, max}
 use native.Mathlib.Omega.{arith}
 use lib.ListN.{length, getD}
 use lib.Dec.{eqb}
-use borrow.Author.Tests.{le-leb, lt-leb, ne-eqb}
+use borrow.Author.Tests.{le-leb, lt-leb, eq-eqb, ne-eqb}
 use Rattle.config.specs.Sequence.{after}
 use Rattle.config.specs.declared.settings.StreamConfig.{StreamConfig}
 use Rattle.packet.specs.Write.{validOf as payloadValid, startOf}
@@ -26,7 +26,7 @@ use Rattle.rows.proofs.Filling.{rowWith, row-length, row-valid, row-grows, out-
 use Rattle.rows.proofs.Choice.{reach-most}
 use Rattle.sender.specs.State.{validOf}
 use Rattle.sender.specs.Requests.{writtenCount, indexOf, notWritten, notInBuffer, withQueue}
-use Rattle.sender.specs.Writing.{reachOf, answerTo, restOf, Served, servedAlso, servedIn, servedOf, idledOf, wrote, newOf, writtenBy}
+use Rattle.sender.specs.Writing.{reachOf, answerTo, restOf, Served, servedAlso, servedIn, servedOf, idledOf, beginsOf, wrote, newOf, writtenBy}
 use Rattle.sender.specs.declared.sender.Sender.{Sender}
 use Rattle.sender.specs.declared.sender.Wrote.{Wrote}
 use Rattle.sender.proofs.Validity.{passes, valid-history, valid-queue, valid-idle, valid-good, valid-fit}
@@ -70,6 +70,24 @@ pub front-request : (q : RetransmitQueue) (r : RetransmitRequest) → Fit q → 
 unfolding request
 front-request q r f e = rw (slot-zero (q .size) (q .head) (f .inside)) e
 
+-- ---- where a write begins
+module _ (s : Sender) (back : ℕ) where
+  pub begins-none : s .queue .len ≡ 0 → back ≡ beginsOf s back
+  unfolding beginsOf
+  begins-none e = rw (eq-eqb _ _ e)
+
+  module _ (some : s .queue .len ≡ 0 → ⊥) where
+    pub begins-new : s .history .count < s .unsent → back ≡ beginsOf s back
+    unfolding beginsOf
+    begins-new l = rw (ne-eqb _ _ some) (omega arith)
+
+    pub begins-far : Fit (s .queue) → (k : ℕ) → k ≡ indexOf s (getD (s .queue .items) (s .queue .head) blank .seq) → (r : ℕ) → r ≡ max back (writtenCount s - k) → r ≡ beginsOf s back
+    unfolding beginsOf
+    begins-far f k e r g =
+        let z : k ≡ indexOf s (request (s .queue) 0 .seq) = e ∙ ap (λ (x : RetransmitRequest). indexOf s (x .seq)) (front-request (s .queue) _ f refl) in
+        rw (ne-eqb _ _ some, ← z) g
+
+-- ---- a turn of the loop
 pub pop-made : (q : RetransmitQueue) (out : Popped) → 0 < q .len → out ≡ popOf q → out .queue ≡ popped q
 unfolding popOf
 pop-made q out some e = let z : q .len ≡ 0 → ⊥ = λ x. omega arith in rw (e, ne-eqb _ _ z)

@@ -1,6 +1,6 @@
 -- The state test: its ways out, and what a state that passes is.
 use mathlib.Core.Path.{_≡_, refl, sym, ap, _∙_}
-use mathlib.Core.Bool.{Bool, true, false, _&&_}
+use mathlib.Core.Bool.{Bool, true, false, _&&_, and-false}
 use mathlib.Core.List.{List, _++_}
 use Prim.Native.Nat.{ℕ, _+_, _-_, _≤_, _<_}
 use native.Mathlib.Omega.{arith}
@@ -27,9 +27,9 @@ module _ (s : Sender) (ring : List ℕ) where
   unfolding validOf
   test-history h = rw h
 
-  pub test-queue : historyOk ≡ true → queueOk (s .queue) ≡ false → false ≡ validOf s ring
+  pub test-queue : queueOk (s .queue) ≡ false → false ≡ validOf s ring
   unfolding validOf
-  test-queue h q = rw (h, q)
+  test-queue q = rw (q, and-false)
 
   pub test-idle : historyOk ≡ true → queueOk (s .queue) ≡ true → (b : Bool) → b ≡ idleOk (s .idle) → b ≡ validOf s ring
   unfolding validOf

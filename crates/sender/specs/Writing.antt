@@ -1,6 +1,6 @@
 -- 01, "History, repeats, idle" and "Write the stream": a write, over settings, a state and a payload that were tested.
 -- Waiting retransmits come first, then a due idle command is queued, then up to R of the last written commands, then new ones.
-use Prim.Native.Nat.{ℕ, zero, suc, _+_, _-_, _≤_, _<_, min}
+use Prim.Native.Nat.{ℕ, zero, suc, _+_, _-_, _≤_, _<_, min, max}
 use mathlib.Core.Path.{_≡_}
 use mathlib.Core.Bool.{Bool, true, false, cond, not, _||_}
 use mathlib.Core.List.{List, [], _∷_, _++_}
@@ -15,8 +15,11 @@ use Rattle.packet.specs.declared.writer.PayloadWriter.{PayloadWriter}
 use Rattle.command.specs.Write.{errorPacket}
 use Rattle.command.specs.declared.retransmit.RetransmitRequest.{RetransmitRequest}
 use Rattle.history.specs.Headers.{headerAt, wordsFrom}
+use Rattle.history.specs.State.{oldestMark}
 use Rattle.history.specs.Push.{pushed}
 use Rattle.history.specs.Queue.{request, popped, inFront}
+use Rattle.history.specs.declared.history.Mark.{Mark}
+use Rattle.history.specs.declared.history.SendHistory.{SendHistory}
 use Rattle.idle.specs.Schedule.{idleStart, idleNext}
 use Rattle.idle.specs.declared.idle.IdleTimer.{IdleTimer}
 use Rattle.idle.specs.declared.idle.IdleTimer.the-variants.{Off, Waiting}
@@ -94,11 +97,18 @@ idledBy s cfg time ring (Waiting i) =
 unfoldable pub idledOf : Sender → StreamConfig → ℕ → List ℕ → Sender × List ℕ
 idledOf s cfg time ring = idledBy s cfg time ring (s .idle)
 
--- ---- repeats and new commands
--- the first of up to r written commands to repeat stands at the place
-abbrev pub AgainAt : Sender → List ℕ → ℕ → ℕ → Type 0
-AgainAt s ring r place = (place ≡ headerAt (writtenCount s - min r (writtenCount s)) ring (s .history .head)) × (place < length ring)
+-- ---- where a write begins
+-- how far before the unwritten commands: `back`, or further where the oldest request asks for an earlier command
+unfoldable pub beginsOf : Sender → ℕ → ℕ
+beginsOf s back =
+    cond (eqb (s .queue .len) 0) back
+    (max back (writtenCount s - indexOf s (request (s .queue) 0 .seq)))
 
+-- the mark from which new commands are walked to
+abbrev pub markAfter : ℕ → SendHistory → Mark → Mark
+markAfter unsent h m = cond (ltb 0 unsent) m (oldestMark h)
+
+-- ---- repeats and new commands
 -- the last written commands that are repeated, their words counted, for which there is space
 pub record Again (s : Sender) (ring : List ℕ) (p : PayloadWriter) (b : List ℕ) (r : Repeated) : Type 0 where
   pub few : r .count ≤ writtenCount s

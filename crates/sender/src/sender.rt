@@ -193,7 +193,8 @@ impl Sender {
                 let found = tested::test(self, &ring[..], cfg.fec_repeats as usize);
                 if found.ok {
                     if packet::tested::is_valid(p, buf.len()) {
-                        return writing::write(self, cfg, time, p, buf, ring, found.at);
+                        let mark = found.mark;
+                        return writing::write(self, cfg, time, p, buf, ring, mark);
                     }
                     return Wrote {
                         sender: self,

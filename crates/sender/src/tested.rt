@@ -15,6 +15,7 @@ ghost use Rattle.sender.specs.State.{validOf, startOf, resetOf};
 ghost use Rattle.sender.specs.Commands.{commandsOf, above};
 ghost use Rattle.sender.specs.Queueing.{roomOf, joinedTo, pushedAll, wordsCheck, placedOf, sentOf};
 ghost use Rattle.sender.specs.Requests.{outcomeOf, requestedOf, dueAt, deadlineOf, wantsOf, nextOf};
+ghost use Rattle.sender.specs.Writing.{beginsOf};
 ghost use Rattle.sender.specs.Answers.{notStarted};
 use super::messages;
 use super::sender::RequestHeard;
@@ -32,6 +33,7 @@ use config::refusal::Refusal;
 use config::sequence;
 use config::sequence::SeqNum;
 use config::settings::StreamConfig;
+use history::history::Mark;
 use history::history::SendHistory;
 use history::history::Tested;
 use history::queue::Push;
@@ -54,25 +56,57 @@ pub fn is_valid(s: Sender, ring: &[u32]) -> bool
     false
 }
 
-// The state test, and from its walk the place of the header `back` before the unwritten ones, or of the
-// oldest where fewer are written.
-pub fn test(s: Sender, ring: &[u32], back: usize) -> Tested
-    ensures { λ r. ⌜ Answers (validOf s (now (ring .entry))) (s .history) (now (ring .entry)) (s .unsent) back r ⌝ }
+// How far before the unwritten commands a write begins: `back`, or further where the oldest request that
+// waits asks for an earlier command.
+fn begins(s: Sender, back: usize) -> usize
+    requires { ⌜ Fit (s .queue) ⌝ }
+    ensures { λ r. ⌜ r ≡ beginsOf s back ⌝ }
 {
     let history = s.history;
     let queue = s.queue;
-    let tested = history.state_walk(ring, s.unsent, s.unsent_words, back);
-    if tested.ok {
-        if queue.state_ok() {
+    if queue.len == 0 {
+        return back;
+    }
+    if history.count < s.unsent {
+        return back;
+    }
+    let written = history.count - s.unsent;
+    let head = queue.head;
+    let req = queue.items[head];
+    let k = sequence::distance(history.oldest, req.seq) as usize;
+    if written <= k {
+        return back;
+    }
+    let far = written - k;
+    if far <= back {
+        return back;
+    }
+    far
+}
+
+// The state test, and from its walk the header where a write begins that repeats the last `back` written
+// commands, or the oldest where fewer are written.
+pub fn test(s: Sender, ring: &[u32], back: usize) -> Tested
+    ensures { λ r. ⌜ Answers (validOf s (now (ring .entry))) (s .history) (now (ring .entry)) (s .unsent) (beginsOf s back) r ⌝ }
+{
+    let history = s.history;
+    let queue = s.queue;
+    if queue.state_ok() {
+        let tested = history.state_walk(ring, s.unsent, s.unsent_words, begins(s, back));
+        if tested.ok {
             let idle = s.idle;
+            let mark = tested.mark;
             return Tested {
                 ok: idle.state_ok(),
-                at: tested.at,
+                mark,
             };
         }
-        return Tested { ok: false, at: 0 };
+        return tested;
     }
-    tested
+    Tested {
+        ok: false,
+        mark: Mark { entry: 0, at: 0 },
+    }
 }
 
 // A sender of sizes 0, which the state test refuses.

@@ -6,20 +6,19 @@
 // command is queued, and up to R of the last written commands are repeated before the new ones.
 ghost use mathlib.Core.Path.{_≡_};
 ghost use mathlib.Core.Bool.{true, false, cond, _||_};
-ghost use Prim.Native.Nat.{_+_, _-_, _≤_, _<_};
+ghost use Prim.Native.Nat.{_+_, _≤_, _<_};
 ghost use lib.ListN.{length};
 ghost use lib.Dec.{eqb, ltb};
 ghost use Rattle.config.specs.Settings.{checkOf};
 ghost use Rattle.config.specs.declared.answer.Outcome.the-variants.{Done};
 ghost use Rattle.packet.specs.Write.{validOf as payloadValid};
-ghost use Rattle.history.specs.Headers.{headerAt};
-ghost use Rattle.history.specs.State.{Good};
+ghost use Rattle.history.specs.State.{Marks};
 ghost use Rattle.history.specs.Queue.{Fit};
 ghost use Rattle.idle.specs.Schedule.{idleStart};
 ghost use Rattle.rows.specs.Rows.{rowOf, leaving, packetsFrom};
 ghost use Rattle.sender.specs.State.{validOf};
 ghost use Rattle.sender.specs.Requests.{notWritten, withQueue};
-ghost use Rattle.sender.specs.Writing.{reachOf, answerTo, restOf, servedBy, servedOf, idledOf, AgainAt, Again, takenOff, newRow, newOf, writtenBy};
+ghost use Rattle.sender.specs.Writing.{reachOf, answerTo, restOf, servedBy, servedOf, idledOf, markAfter, Again, takenOff, newRow, newOf, writtenBy};
 use super::sender::Sender;
 use super::sender::Writing;
 use super::sender::Written;
@@ -31,6 +30,7 @@ use config::range::least;
 use config::refusal::Refusal;
 use config::sequence;
 use config::settings::StreamConfig;
+use history::history::Mark;
 use history::history::SendHistory;
 use history::queue::RetransmitQueue;
 use idle::idle::IdleTimer;
@@ -40,8 +40,15 @@ use rows::rows::Row;
 use rows::rows::reach;
 
 // Answers a request with its commands, or with the error if its number left while it waited.
-fn answer(s: Sender, req: RetransmitRequest, p: PayloadWriter, buf: &mut [u8], ring: &[u32]) -> Row
-    requires { ⌜ (validOf s (now ring) ≡ true) × (payloadValid p (length (now buf)) ≡ true) ⌝ }
+fn answer(
+    s: Sender,
+    req: RetransmitRequest,
+    p: PayloadWriter,
+    buf: &mut [u8],
+    ring: &[u32],
+    from: Mark,
+) -> Row
+    requires { ⌜ (validOf s (now ring) ≡ true) × (payloadValid p (length (now buf)) ≡ true) × Marks (s .history) (now ring) from ⌝ }
     ensures { λ r. ⌜ rowOf p (now (buf .entry)) (answerTo s (now (ring .entry)) req) ≡ leaving r (now (buf .exit)) ⌝ }
 {
     let history = s.history;
@@ -57,7 +64,7 @@ fn answer(s: Sender, req: RetransmitRequest, p: PayloadWriter, buf: &mut [u8], r
             buf,
         );
     }
-    let at = history::tested::index_of(history, ring, k);
+    let at = history::tested::index_of(history, ring, from, k);
     rows::tested::write_entries(p, buf, ring, at, reach(req.count as usize, written - k))
 }
 
@@ -105,8 +112,8 @@ struct Served {
 }
 
 // Serves the waiting requests, the oldest first.
-fn serve(s: Sender, p: PayloadWriter, buf: &mut [u8], ring: &[u32]) -> Served
-    requires { ⌜ (validOf s (now ring) ≡ true) × (payloadValid p (length (now buf)) ≡ true) ⌝ }
+fn serve(s: Sender, p: PayloadWriter, buf: &mut [u8], ring: &[u32], from: Mark) -> Served
+    requires { ⌜ (validOf s (now ring) ≡ true) × (payloadValid p (length (now buf)) ≡ true) × Marks (s .history) (now ring) from ⌝ }
     ensures { λ r. ⌜ servedOf s (now (ring .entry)) p (now (buf .entry)) ≡ servedBy s r (now (buf .exit)) ⌝ }
 {
     let mut queue = s.queue;
@@ -116,7 +123,7 @@ fn serve(s: Sender, p: PayloadWriter, buf: &mut [u8], ring: &[u32]) -> Served
     while 0 < left {
         let head = queue.head;
         let req = queue.items[head];
-        let out = answer(s, req, q, buf, ring);
+        let out = answer(s, req, q, buf, ring, from);
         q = out.payload;
         n += out.written;
         if leaves(out) {
@@ -227,20 +234,19 @@ fn write_row(
     }
 }
 
-// The place of the header of entry `k`: `place` where it is known, else found by a walk.
-fn place_of(h: SendHistory, ring: &[u32], k: usize, known: bool, place: usize) -> usize
-    requires { ⌜ Good h (now ring) × (k ≤ h .count) × (known ≡ true → (place ≡ headerAt k (now ring) (h .head)) × (place < length (now ring))) ⌝ }
-    ensures { λ r. ⌜ (r ≡ headerAt k (now (ring .entry)) (h .head)) × (r < length (now (ring .entry))) ⌝ }
+// The mark after an idle command was queued where one is due: none is while commands are unwritten; else
+// the oldest may have left, and the mark is the oldest that is held.
+fn mark_after(unsent: usize, h: SendHistory, from: Mark) -> Mark
+    ensures { λ r. ⌜ r ≡ markAfter unsent h from ⌝ }
 {
-    if known {
-        return place;
+    if 0 < unsent {
+        return from;
     }
-    history::tested::index_of(h, ring, k)
+    history::tested::oldest(h)
 }
 
 // Writes up to R of the last written commands, and the new ones; `before` commands were written
-// before, and where `known` the first to repeat stands at `place`. 3 when the first new one is too
-// large for an empty payload.
+// before. 3 when the first new one is too large for an empty payload.
 fn write_new(
     s: Sender,
     cfg: StreamConfig,
@@ -249,10 +255,9 @@ fn write_new(
     p: PayloadWriter,
     buf: &mut [u8],
     ring: &[u32],
-    known: bool,
-    place: usize,
+    from: Mark,
 ) -> Wrote
-    requires { ⌜ (validOf s (now ring) ≡ true) × (payloadValid p (length (now buf)) ≡ true) × (before ≤ 350) × (known ≡ true → AgainAt s (now ring) (cfg .«fec_repeats») place) ⌝ }
+    requires { ⌜ (validOf s (now ring) ≡ true) × (payloadValid p (length (now buf)) ≡ true) × (before ≤ 350) × Marks (s .history) (now ring) from ⌝ }
     ensures { λ r. ⌜ (r, now (buf .exit)) ≡ newOf s cfg time before p (now (buf .entry)) (now (ring .entry)) ⌝ }
 {
     if s.unsent == 0 {
@@ -268,7 +273,7 @@ fn write_new(
     let history = s.history;
     let written = history.count - s.unsent;
     let k = least(cfg.fec_repeats as usize, written);
-    let at = place_of(history, ring, written - k, known, place);
+    let at = history::tested::index_of(history, ring, from, written - k);
     let last = rows::tested::walk(ring, at, k);
     let first = last.at;
     if packet::tested::free_words(p, buf.len()) <= history::tested::pl(ring, first) {
@@ -292,9 +297,8 @@ fn write_new(
     write_row(s, cfg, time, before, p, buf, ring, again)
 }
 
-// The whole write: serving, the idle command, then repeats and new commands. The first command to
-// repeat stands at `place`, and still does where a command was unwritten at the start: then no idle
-// command is queued.
+// The whole write: serving, the idle command, then repeats and new commands. Entries are walked to from the
+// mark, which a test has set where the first of them is.
 pub fn write(
     s: Sender,
     cfg: StreamConfig,
@@ -302,14 +306,14 @@ pub fn write(
     p: PayloadWriter,
     buf: &mut [u8],
     ring: &mut [u32],
-    place: usize,
+    from: Mark,
 ) -> Wrote
-    requires { ⌜ (checkOf cfg ≡ Done) × (validOf s (now ring) ≡ true) × (payloadValid p (length (now buf)) ≡ true) × AgainAt s (now ring) (cfg .«fec_repeats») place ⌝ }
+    requires { ⌜ (checkOf cfg ≡ Done) × (validOf s (now ring) ≡ true) × (payloadValid p (length (now buf)) ≡ true) × Marks (s .history) (now ring) from ⌝ }
     ensures { λ r. ⌜ (r, now (buf .exit), now (ring .exit)) ≡ writtenBy s cfg time p (now (buf .entry)) (now (ring .entry)) ⌝ }
 {
     let history = s.history;
     let idle = s.idle;
-    let served = serve(s, p, buf, &ring[..]);
+    let served = serve(s, p, buf, &ring[..], from);
     let queue = served.queue;
     let payload = served.payload;
     let next = Sender {
@@ -330,6 +334,8 @@ pub fn write(
         };
     }
     let idled = queue_idle(next, cfg, time, ring);
+    let held = idled.history;
+    let mark = mark_after(s.unsent, held, from);
     write_new(
         idled,
         cfg,
@@ -338,7 +344,6 @@ pub fn write(
         payload,
         buf,
         &ring[..],
-        0 < s.unsent,
-        place,
+        mark,
     )
 }

@@ -315,7 +315,8 @@ impl DataStream {
                 let found = tested::test(self, &ring[..], cfg.fec_repeats as usize);
                 if found.ok {
                     if packet::tested::is_valid(p, buf.len()) {
-                        return tested::write_data(self, cfg, time, p, buf, ring, found.at);
+                        let mark = found.mark;
+                        return tested::write_data(self, cfg, time, p, buf, ring, mark);
                     }
                 }
                 Wrote {

@@ -6,9 +6,9 @@ ghost use lib.ListN.{length};
 ghost use Rattle.config.specs.Settings.{checkOf};
 ghost use Rattle.config.specs.declared.answer.Outcome.the-variants.{Done};
 ghost use Rattle.packet.specs.Write.{validOf as payloadValid};
-ghost use Rattle.history.specs.State.{Answers};
+ghost use Rattle.history.specs.State.{Marks, Answers};
 ghost use Rattle.sender.specs.State.{validOf as senderValid};
-ghost use Rattle.sender.specs.Writing.{AgainAt};
+ghost use Rattle.sender.specs.Writing.{beginsOf};
 ghost use Rattle.stream.specs.State.{validOf};
 ghost use Rattle.stream.specs.Answers.{earlier as earlierOf};
 ghost use Rattle.stream.specs.Writing.{sentAfter, dataWritten};
@@ -16,6 +16,7 @@ use super::stream::DataStream;
 use super::stream::Wrote;
 use config::answer::Deadline;
 use config::settings::StreamConfig;
+use history::history::Mark;
 use history::history::Tested;
 use packet::writer::PayloadWriter;
 use receiver::receiver::Request;
@@ -34,17 +35,20 @@ pub fn is_valid(s: DataStream, ring: &[u32]) -> bool
     false
 }
 
-// The state test, and from the sender's walk the place of the header `back` before the unwritten ones,
-// or of the oldest where fewer are written.
+// The state test, and from the sender's walk the header where a write begins that repeats the last `back`
+// written commands, or the oldest where fewer are written.
 pub fn test(s: DataStream, ring: &[u32], back: usize) -> Tested
-    ensures { λ r. ⌜ Answers (validOf s (now (ring .entry))) (s .sender .history) (now (ring .entry)) (s .sender .unsent) back r ⌝ }
+    ensures { λ r. ⌜ Answers (validOf s (now (ring .entry))) (s .sender .history) (now (ring .entry)) (s .sender .unsent) (beginsOf (s .sender) back) r ⌝ }
 {
     let receiver = s.receiver;
     let sender = s.sender;
     if receiver::tested::is_valid(receiver) {
         return sender::tested::test(sender, ring, back);
     }
-    Tested { ok: false, at: 0 }
+    Tested {
+        ok: false,
+        mark: Mark { entry: 0, at: 0 },
+    }
 }
 
 // The earlier of the two ends' due times.
@@ -80,14 +84,14 @@ fn write_after(
     p: PayloadWriter,
     buf: &mut [u8],
     ring: &mut [u32],
-    place: usize,
+    from: Mark,
 ) -> Wrote
-    requires { ⌜ (n ≤ 1) × (checkOf cfg ≡ Done) × (senderValid (s .sender) (now ring) ≡ true) × (payloadValid p (length (now buf)) ≡ true) × AgainAt (s .sender) (now ring) (cfg .«fec_repeats») place ⌝ }
+    requires { ⌜ (n ≤ 1) × (checkOf cfg ≡ Done) × (senderValid (s .sender) (now ring) ≡ true) × (payloadValid p (length (now buf)) ≡ true) × Marks (s .sender .history) (now ring) from ⌝ }
     ensures { λ r. ⌜ (r, now (buf .exit), now (ring .exit)) ≡ sentAfter n s cfg time p (now (buf .entry)) (now (ring .entry)) ⌝ }
 {
     let before = s.sender;
     let receiver = s.receiver;
-    let wrote = sender::writing::write(before, cfg, time, p, buf, ring, place);
+    let wrote = sender::writing::write(before, cfg, time, p, buf, ring, from);
     let sender = wrote.sender;
     let payload = wrote.payload;
     let answer = wrote.answer;
@@ -109,7 +113,7 @@ fn write_after(
     }
 }
 
-// A due request, then the sender's commands, of which the first to repeat stands at `place`.
+// A due request, then the sender's commands, which are walked to from the mark.
 pub fn write_data(
     s: DataStream,
     cfg: StreamConfig,
@@ -117,9 +121,9 @@ pub fn write_data(
     p: PayloadWriter,
     buf: &mut [u8],
     ring: &mut [u32],
-    place: usize,
+    from: Mark,
 ) -> Wrote
-    requires { ⌜ (checkOf cfg ≡ Done) × (validOf s (now ring) ≡ true) × (payloadValid p (length (now buf)) ≡ true) × AgainAt (s .sender) (now ring) (cfg .«fec_repeats») place ⌝ }
+    requires { ⌜ (checkOf cfg ≡ Done) × (validOf s (now ring) ≡ true) × (payloadValid p (length (now buf)) ≡ true) × Marks (s .sender .history) (now ring) from ⌝ }
     ensures { λ r. ⌜ (r, now (buf .exit), now (ring .exit)) ≡ dataWritten s cfg time p (now (buf .entry)) (now (ring .entry)) ⌝ }
 {
     let sender = s.sender;
@@ -165,6 +169,6 @@ pub fn write_data(
         payload,
         buf,
         ring,
-        place,
+        from,
     )
 }

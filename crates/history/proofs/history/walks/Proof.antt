@@ -11,8 +11,8 @@ sub-written c = search needs
 least-requires : tie.Need-least-requires
 least-requires c κs = search needs
 
-sub-walk : tie.Need-sub-walk
-sub-walk c = search needs
+sub-entry : tie.Need-sub-entry
+sub-entry c = search needs
 
 walk-requires : tie.Need-walk-requires
 walk-requires c κs = search needs
@@ -66,6 +66,7 @@ returns-6 : tie.Need-returns-6
 returns-6 c =
     record {
       answer = newest-told (c .before .before .before .before .before .before .before .before .before .before .before .before .before .before .before .args .h) _ _ _ _ (c .before .before .before .before .before .before .before .before .before .before .before .before .before .before .before .pre .3) _ (c .before .before .before .before .before .before .before .before .before .before .before .before .least .ensures) _ (c .before .before .before .before .before .before .before .before .before .before .before .walk .ensures) (c .before .before .before .before .before .before .before .before .before .before .if1 .left) _ (c .before .before .before .before .before .before .before .before .before .walk2 .ensures) (c .before .before .before .before .before .before .before .before .if2 .left) _ (c .before .before .before .before .before .walk3 .ensures) (c .before .before .before .before .if4 .left) (c .before .before .before .before .before .before .if3 .left) (c .before .before .if5 .left);
+      entry = λ _. omega (arith, c .before .before .before .before .before .before .before .before .before .before .before .before .least .ensures);
       place = λ _. back-place (c .before .before .before .before .before .before .before .before .before .before .before .before .before .before .before .args .h) _ _ 0 _ (c .before .before .before .before .before .before .before .before .before .before .before .before .before .before .before .pre .3) _ (c .before .before .before .before .before .before .before .before .before .before .before .before .least .ensures) _ (c .before .before .before .before .before .before .before .before .before .before .before .walk .ensures) (c .before .before .before .before .before .before .before .before .before .before .if1 .left);
     }
 
@@ -75,7 +76,7 @@ walks-spec =
     (tie.spec
     sub-written
     least-requires
-    sub-walk
+    sub-entry
     walk-requires
     refused-requires
     returns

@@ -20,7 +20,7 @@ returns c =
 
 returns-2 : tie.Need-returns-2
 returns-2 c =
-    test-queue _ _ (sym (c .before .before .before .state-ok .ensures) ∙ c .before .before .if1 .taken) (sym (c .before .state-ok2 .ensures) ∙ c .if2 .left)
+    test-queue (c .before .before .before .before .before .before .before .args .s) _ (sym (c .before .state-ok2 .ensures) ∙ c .if2 .left)
 
 returns-3 : tie.Need-returns-3
 returns-3 c = test-history _ _ (sym (c .before .state-ok .ensures) ∙ c .if1 .left)

@@ -29,7 +29,7 @@ returns c =
     ap (rowOf _ _) (answer-error (start .args .s) (start .args .req) _ (c .before .before .before .before .before .distance .ensures) (c .before .before .before .before .if1 .taken) (start .args .ring .now)) ∙ c .before .before .write-error .ensures
 
 index-of-requires : tie.Need-index-of-requires
-index-of-requires c κs = (valid-good _ _ (c .before .before .before .before .before .before .before .pre .0), omega (arith, c .if1 .left))
+index-of-requires c κs = let p = c .before .before .before .before .before .before .before .pre in (valid-good _ _ (p .0), omega (arith, c .if1 .left), p .2)
 
 cast-reach : tie.Need-cast-reach
 cast-reach c = search needs

@@ -22,7 +22,7 @@ abbrev front : RetransmitQueue → RetransmitRequest
 front q = getD (q .items) (q .head) blank
 
 abbrev Inv-loop : tie.InvT-loop
-Inv-loop s buf₀ ring queue₀ left₀ q₀ n₀ buf queue left q n =
+Inv-loop s buf₀ ring from queue₀ left₀ q₀ n₀ buf queue left q n =
     (left ≡ queue .len)
     × Fit queue
     × (payloadValid q (length buf) ≡ true)
@@ -31,7 +31,7 @@ Inv-loop s buf₀ ring queue₀ left₀ q₀ n₀ buf queue left q n =
     × (servedAlso n (servedIn left (withQueue s queue) ring q buf) ≡ servedOf s ring q₀ buf₀)
 
 abbrev μ-loop : tie.MeasureT-loop
-μ-loop s buf₀ ring queue₀ left₀ q₀ n₀ buf queue left q n = left
+μ-loop s buf₀ ring from queue₀ left₀ q₀ n₀ buf queue left q n = left
 
 loop-holds : tie.Need-loop-holds Inv-loop μ-loop
 loop-holds c = let p = c .before .before .before .pre in (refl, valid-fit _ _ (p .0), p .1, refl, omega arith, served-start _ _ _ _)
@@ -43,7 +43,7 @@ element-copy-out-req : tie.Need-element-copy-out-req Inv-loop μ-loop
 element-copy-out-req c = let f = c .before .loop .inv .1 in search needs
 
 answer-requires : tie.Need-answer-requires Inv-loop μ-loop
-answer-requires c κs = (c .before .before .before .before .before .before .before .pre .0, c .before .before .before .loop .inv .2)
+answer-requires c κs = let p = c .before .before .before .before .before .before .before .pre in (p .0, c .before .before .before .loop .inv .2, p .2)
 
 add-n : tie.Need-add-n Inv-loop μ-loop
 add-n c =

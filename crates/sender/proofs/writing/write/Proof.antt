@@ -3,7 +3,7 @@ use native.Mathlib.Omega.{arith}
 use Prim.Native.Nat.{_≤_, _<_}
 use Rattle.config.specs.Sequence.{turn}
 use Rattle.sender.proofs.Serving.{out-sound, written-more, written-new}
-use Rattle.sender.proofs.Idling.{idled-next, again-kept}
+use Rattle.sender.proofs.Idling.{idled-next, mark-kept}
 use borrow.Author.Needs.{needs}
 use Rattle.rows.proofs.Filling.{start-most}
 use Rattle.sender.proofs.writing.write.Statement.{statement}
@@ -30,27 +30,31 @@ queue-idle-requires c κs =
     let p = start .pre in
     (p .0, out-sound (start .args .s) (start .args .cfg) (start .args .time) _ _ _ _ _ _ _ _ (c .before .before .before .before .before .before .serve .ensures) (p .1) (p .2) .state)
 
+mark-after-requires : tie.Need-mark-after-requires
+mark-after-requires c κs = search needs
+
 write-new-requires : tie.Need-write-new-requires
 write-new-requires c κs =
-    let start = c .before .before .before .before .before .before .before .before .before .before .before .before .before .before .before .before .before .before in
+    let start = c .before .before .before .before .before .before .before .before .before .before .before .before .before .before .before .before .before .before .before in
     let p = start .pre in
-    let o = out-sound (start .args .s) (start .args .cfg) (start .args .time) _ _ _ _ _ _ _ _ (c .before .before .before .before .before .before .before .before .before .before .before .before .serve .ensures) (p .1) (p .2) in
-    let idled = c .before .before .before .before .before .queue-idle .ensures in (
-      idled-next _ _ _ _ (o .state) (bounds start .0) (bounds start .1) (bounds start .2) _ _ idled,
+    let o = out-sound (start .args .s) (start .args .cfg) (start .args .time) _ _ _ _ _ _ _ _ (c .before .before .before .before .before .before .before .before .before .before .before .before .before .serve .ensures) (p .1) (p .2) in
+    let idled = c .before .before .before .before .before .before .queue-idle .ensures in
+    let held = idled-next _ _ _ _ (o .state) (bounds start .0) (bounds start .1) (bounds start .2) _ _ idled in (
+      held,
       o .payload,
       omega (arith, o .grows, start-most _ _ (o .payload)),
-      again-kept _ _ _ _ _ _ (p .3) _ _ idled,
+      mark-kept _ _ _ _ _ (p .3) _ _ idled held _ (c .before .before .mark-after .ensures),
     )
 
 same-length-3 : tie.Need-same-length-3
-same-length-3 c = omega (arith, c .before .buf2 .given, c .before .before .before .before .before .before .before .before .before .before .before .before .before .before .buf .given)
+same-length-3 c = omega (arith, c .before .buf2 .given, c .before .before .before .before .before .before .before .before .before .before .before .before .before .before .before .buf .given)
 
 same-length-4 : tie.Need-same-length-4
 same-length-4 c = search needs
 
 returns-2 : tie.Need-returns-2
 returns-2 c =
-    written-new _ _ _ _ _ _ _ _ _ _ _ (c .before .before .before .before .before .before .before .before .before .before .before .before .before .before .before .serve .ensures) (c .before .before .before .before .before .before .before .before .before .before .if1 .left) _ _ _ _ (c .before .before .before .before .before .before .before .before .queue-idle .ensures) (c .before .before .write-new .ensures)
+    written-new _ _ _ _ _ _ _ _ _ _ _ (c .before .before .before .before .before .before .before .before .before .before .before .before .before .before .before .before .serve .ensures) (c .before .before .before .before .before .before .before .before .before .before .before .if1 .left) _ _ _ _ (c .before .before .before .before .before .before .before .before .before .queue-idle .ensures) (c .before .before .write-new .ensures)
 
 pub write-spec : {M : Type 1} → statement M
 write-spec =
@@ -61,6 +65,7 @@ write-spec =
     same-length-2
     returns
     queue-idle-requires
+    mark-after-requires
     write-new-requires
     same-length-3
     same-length-4

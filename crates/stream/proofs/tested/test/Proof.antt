@@ -16,6 +16,7 @@ returns : tie.Need-returns
 returns c =
     record {
       answer = test-sender _ _ (sym (c .before .before .is-valid .ensures) ∙ c .before .if1 .taken) _ (c .test .ensures .answer);
+      entry = c .test .ensures .entry;
       place = c .test .ensures .place;
     }
 

@@ -50,6 +50,7 @@ returns-6 : tie.Need-returns-6
 returns-6 c =
     record {
       answer = test-walk _ _ _ _ (cc) (c .before .before .before .before .before .before .before .if2 .left) (c .before .before .before .before .before .if3 .left) (c .before .before .before .if4 .left) _ (c .walks .ensures .answer) (c .before .if5 .left);
+      entry = c .walks .ensures .entry;
       place = c .walks .ensures .place;
     }
 

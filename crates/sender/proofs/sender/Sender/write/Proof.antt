@@ -28,10 +28,10 @@ is-valid-requires c κs = search needs
 
 write-requires : tie.Need-write-requires
 write-requires c κs = (
-  sym (c .before .before .before .before .before .before .before .before .before .before .check .ensures) ∙ c .before .before .before .before .before .before .before .before .enum-told .given .1,
-  sym (c .before .before .before .before .before .test .ensures .answer) ∙ c .before .before .before .before .if1 .taken,
-  sym (c .before .before .before .is-valid .ensures) ∙ c .before .before .if2 .taken,
-  c .before .before .before .before .before .test .ensures .place (c .before .before .before .before .if1 .taken),
+  sym (c .before .before .before .before .before .before .before .before .before .before .before .check .ensures) ∙ c .before .before .before .before .before .before .before .before .before .enum-told .given .1,
+  sym (c .before .before .before .before .before .before .test .ensures .answer) ∙ c .before .before .before .before .before .if1 .taken,
+  sym (c .before .before .before .before .is-valid .ensures) ∙ c .before .before .before .if2 .taken,
+  c .before .before .before .before .before .before .test .ensures .place (c .before .before .before .before .before .if1 .taken),
 )
 
 same-length : tie.Need-same-length
@@ -43,7 +43,7 @@ same-length-2 c = search needs
 returns : tie.Need-returns
 unfolding writeAnswer
 returns c =
-    c .before .before .before .before .write .ensures ∙ entry-made (writeRefused _ _ _ _) _ (sym (c .before .before .before .before .before .before .before .before .before .before .before .before .before .before .before .check .ensures) ∙ c .before .before .before .before .before .before .before .before .before .before .before .before .before .enum-told .given .1) (and-both (sym (c .before .before .before .before .before .before .before .before .before .before .test .ensures .answer) ∙ c .before .before .before .before .before .before .before .before .before .if1 .taken) (sym (c .before .before .before .before .before .before .before .before .is-valid .ensures) ∙ c .before .before .before .before .before .before .before .if2 .taken))
+    c .before .before .before .before .write .ensures ∙ entry-made (writeRefused _ _ _ _) _ (sym (c .before .before .before .before .before .before .before .before .before .before .before .before .before .before .before .before .check .ensures) ∙ c .before .before .before .before .before .before .before .before .before .before .before .before .before .before .enum-told .given .1) (and-both (sym (c .before .before .before .before .before .before .before .before .before .before .before .test .ensures .answer) ∙ c .before .before .before .before .before .before .before .before .before .before .if1 .taken) (sym (c .before .before .before .before .before .before .before .before .before .is-valid .ensures) ∙ c .before .before .before .before .before .before .before .before .if2 .taken))
 
 same-length-3 : tie.Need-same-length-3
 same-length-3 c = search needs
