@@ -30,7 +30,7 @@ use Rattle.history.specs.Written.{entryPacket}
 use Rattle.idle.specs.Schedule.{idleNext}
 use Rattle.rows.specs.Rows.{rowOf, packetsFrom, sizesOf, anyWords}
 use Rattle.rows.specs.Choice.{repeatsOf}
-use Rattle.sender.specs.Commands.{fitting, front, behind, commandsIn, commandsOf, longer as longMessage, above}
+use Rattle.fronts.specs.Commands.{fitting, front, behind, commandsIn, commandsOf, longer as longMessage, above}
 use Rattle.sender.specs.State.{validOf as senderValid}
 use Rattle.sender.specs.Queueing.{roomOf, needOf, joinedTo, pushedAll, queuedTo, queuedOf, wordsCheck, placedOf, sentOf}
 use Rattle.sender.specs.Writing.{servedIn, servedOf, idledOf, writtenOff, newOf as newSent, writtenBy}

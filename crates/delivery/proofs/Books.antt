@@ -16,9 +16,9 @@ use Rattle.command.specs.declared.retransmit.RetransmitRequest.{RetransmitReque
 use Rattle.history.specs.Entries.{size, kept}
 use Rattle.history.specs.Queue.{asks}
 use Rattle.history.proofs.Flat.{size-append, size-one, size-first, kept-room}
-use Rattle.sender.specs.Commands.{front, behind, commandsOf}
+use Rattle.fronts.specs.Commands.{front, behind, commandsOf}
 use Rattle.sender.specs.Queueing.{wordsCheck}
-use Rattle.sender.proofs.Fronts.{Divides, part-of, divides-behind}
+use Rattle.fronts.proofs.Fronts.{Divides, part-of, divides-behind}
 use Rattle.sender.proofs.Parts.{front-behind, commands-parts}
 use Rattle.sender.proofs.Queued.{check-divides, settings-few}
 use Rattle.command.proofs.Messages.{words-append, words-one}

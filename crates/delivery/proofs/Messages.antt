@@ -12,8 +12,8 @@ use Rattle.config.specs.inner.Tests.{split, tests}
 use Rattle.command.specs.Messages.{messageWords, wholeOf, wordsIn}
 use Rattle.command.proofs.Messages.{messages-nil, messages-cons}
 use Rattle.receiver.specs.Messages.{wholeWords}
-use Rattle.sender.specs.Commands.{front}
-use Rattle.sender.proofs.Fronts.{First, first-of, front-nil, front-more, front-stop}
+use Rattle.fronts.specs.Commands.{front}
+use Rattle.fronts.proofs.Fronts.{First, first-of, front-nil, front-more, front-stop}
 
 -- what holds of no words, and of words if it holds behind their first message
 pub by-messages : (P : List ℕ → Type 0) → P [] → ((w : ℕ) (ws : List ℕ) → First (w ∷ ws) (messageWords w) → P (drop (messageWords w) (w ∷ ws)) → P (w ∷ ws))

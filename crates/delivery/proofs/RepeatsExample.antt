@@ -18,7 +18,7 @@ use Rattle.history.specs.Push.{popOne, popped, grown, pushed, longer, appended}
 use Rattle.history.specs.Queue.{request, requests, asks, pushAnswer}
 use Rattle.history.specs.Written.{entryPacket}
 use Rattle.sender.specs.Answers.{newAnswer, sendAnswer, requestAnswer, writeAnswer}
-use Rattle.sender.specs.Commands.{fitting, front, behind, commandsIn, commandsOf, longer as longMessage, above}
+use Rattle.fronts.specs.Commands.{fitting, front, behind, commandsIn, commandsOf, longer as longMessage, above}
 use Rattle.sender.specs.State.{validOf}
 use Rattle.sender.specs.Queueing.{roomOf, needOf, joinedTo, pushedAll, queuedTo, queuedOf, wordsCheck, placedOf, sentOf}
 use Rattle.sender.specs.Requests.{requestedOf}

@@ -19,9 +19,9 @@ use Rattle.history.specs.Entries.{size, kept}
 use Rattle.history.proofs.Flat.{size-one}
 use Rattle.idle.specs.declared.idle.IdleTimer.{IdleTimer}
 use Rattle.idle.specs.declared.idle.IdleTimer.the-variants.{Off, Waiting}
-use Rattle.sender.specs.Commands.{front, behind, commandsOf}
+use Rattle.fronts.specs.Commands.{front, behind, commandsOf}
 use Rattle.sender.specs.Queueing.{wordsCheck}
-use Rattle.sender.proofs.Fronts.{Divides, part-of, commands-nil, commands-cons}
+use Rattle.fronts.proofs.Fronts.{Divides, part-of, commands-nil, commands-cons}
 use Rattle.sender.proofs.Queued.{check-divides}
 use Rattle.sender_log.specs.Book.{Book, freed, pushedIn, pushedAllIn, joinedLast, joinedIn, roomIn, needIn, queuedIn, QueueIn, sentIn}
 use Rattle.sender_log.specs.Writes.{isEmpty, idledBy, idledIn, writtenOn}

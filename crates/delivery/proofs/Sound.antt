@@ -9,8 +9,8 @@ use lib.ListN.{length, take, drop, length-append}
 use Rattle.packet.specs.Layout.{Words32}
 use Rattle.command.specs.Messages.{wholeOf, wordsIn}
 use Rattle.history.specs.Entries.{size, kept}
-use Rattle.sender.specs.Commands.{front, behind, commandsIn, commandsOf}
-use Rattle.sender.proofs.Fronts.{Divides, part-of, divides-behind}
+use Rattle.fronts.specs.Commands.{front, behind, commandsIn, commandsOf}
+use Rattle.fronts.proofs.Fronts.{Divides, part-of, divides-behind}
 use Rattle.sender_log.proofs.Newest.{size-joined as size-newest}
 use Rattle.sender_log.specs.Book.{joinedLast, roomIn}
 use Rattle.delivery.proofs.Lists.{All, length-none}

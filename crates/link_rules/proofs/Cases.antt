@@ -24,7 +24,7 @@ use Rattle.rows.specs.Choice.{repeatsOf}
 use Rattle.receiver.specs.Receiver.{validOf as receiverValid, dueAfter, settledOf, heardOf, gaveUp, polledOf, errorOf, offeredOf, takenOf}
 use Rattle.receiver.specs.Answers as receiver
 use Rattle.sender.specs.Answers as sender
-use Rattle.sender.specs.Commands.{fitting, front, behind, commandsIn, commandsOf, longer as longMessage, above}
+use Rattle.fronts.specs.Commands.{fitting, front, behind, commandsIn, commandsOf, longer as longMessage, above}
 use Rattle.sender.specs.State.{validOf as senderValid}
 use Rattle.sender.specs.Queueing.{roomOf, needOf, joinedTo, pushedAll, queuedTo, queuedOf, wordsCheck, placedOf, sentOf}
 use Rattle.sender.specs.Requests.{requestedOf}

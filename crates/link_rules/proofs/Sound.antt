@@ -51,7 +51,7 @@ use Rattle.receiver.specs.declared.receiver.Timer.the-variants.{Stopped, Runnin
 use Rattle.receiver.specs.declared.receiver.Told.{Told}
 use Rattle.receiver_log.proofs.Follows.{passes}
 use Rattle.sender.specs.Answers as sender
-use Rattle.sender.specs.Commands.{front, behind, commandsIn, commandsOf, longer, above}
+use Rattle.fronts.specs.Commands.{front, behind, commandsIn, commandsOf, longer, above}
 use Rattle.sender.specs.Queueing.{roomOf, needOf, queuedOf, wordsCheck, placedOf as queuePlaced, sentOf}
 use Rattle.sender.specs.Requests.{notWritten, outcomeOf, requestedOf}
 use Rattle.sender.specs.State.{validOf as senderValid}

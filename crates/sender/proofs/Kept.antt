@@ -38,7 +38,7 @@ use Rattle.rows.proofs.Packets.{length-packets}
 use Rattle.rows.proofs.Filling.{row-few, row-length, row-valid}
 use Rattle.sender.specs.State.{validOf, fresh, startOf, resetOf}
 use Rattle.sender.specs.Requests.{writtenCount, notWritten, withQueue, told, notInBuffer, queuedBy, requestedOf}
-use Rattle.sender.specs.Commands.{front, behind}
+use Rattle.fronts.specs.Commands.{front, behind}
 use Rattle.sender.specs.Queueing.{roomOf, joining, further, needOf, joinedTo, pushedAll, queuedTo, sent, unsent, queuedOf, wordsCheck, placedOf, sentOf}
 use Rattle.sender.specs.Writing.{commandsAt, idledOf, writtenOff, wrote, refused, newRow, newBy, newOf, servedOf, writtenBy}
 use Rattle.sender.specs.declared.sender.Wrote.{Wrote}
@@ -46,7 +46,7 @@ use Rattle.sender.specs.declared.sender.Sender.{Sender}
 use Rattle.sender.specs.declared.sender.RequestOutcome.the-variants.{Error, NotSupported}
 use Rattle.sender.proofs.Validity.{passes, valid-history, valid-queue, valid-idle, valid-good, valid-fit, valid-unsent, valid-words}
 use Rattle.sender.proofs.Queued.{pushed-good, check-divides, join-some, joined-state, joined-number}
-use Rattle.sender.proofs.Fronts.{Divides, part-of, divides-behind}
+use Rattle.fronts.proofs.Fronts.{Divides, part-of, divides-behind}
 use Rattle.sender.proofs.Parts.{commands-parts}
 use Rattle.sender.proofs.Serving.{served-sound}
 use Rattle.sender.proofs.Idling.{idled-kept, idled-number}

@@ -1,5 +1,4 @@
 -- Laws of this crate that its proofs, and those of the crates above, cite.
-pub mod Fronts
 pub mod Validity
 pub mod Queued
 mod Questions

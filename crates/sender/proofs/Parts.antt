@@ -5,9 +5,9 @@ use Prim.Native.Nat.{ℕ, zero, suc, _+_, _-_, _≤_, _<_}
 use native.Mathlib.Omega.{arith}
 use lib.ListN.{length, take, drop, length-drop, take-append-drop}
 use Rattle.history.specs.Entries.{size, Short}
-use Rattle.sender.specs.Commands.{front, behind, commandsOf}
+use Rattle.fronts.specs.Commands.{front, behind, commandsOf}
 use Rattle.command.specs.Messages.{wordsIn}
-use Rattle.sender.proofs.Fronts.{Divides, part-of, divides-behind, behind-less, commands-nil, commands-cons}
+use Rattle.fronts.proofs.Fronts.{Divides, part-of, divides-behind, behind-less, commands-nil, commands-cons}
 
 -- a front and what is behind it
 pub front-behind : (max n : ℕ) (ws : List ℕ) → Divides max ws → front n ws ++ behind n ws ≡ ws

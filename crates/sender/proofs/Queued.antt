@@ -28,10 +28,10 @@ use Rattle.history.proofs.Effects.{holds-pushed}
 use Rattle.history.proofs.States.{state-good}
 use Rattle.history.proofs.Reached.{appended-state}
 use Rattle.history.proofs.Runs.{length-ringStored}
-use Rattle.sender.specs.Commands.{front, behind, commandsOf, above}
+use Rattle.fronts.specs.Commands.{front, behind, commandsOf, above}
 use Rattle.sender.specs.State.{validOf}
 use Rattle.sender.specs.Queueing.{roomOf, joining, further, needOf, joinedTo, pushedAll, queuedTo, holding, unsent, sent, wordsCheck, placedOf, queuedOf, sentOf}
-use Rattle.sender.proofs.Fronts.{Divides, part-of, divides-behind, command-fits, commands-turn, commands-end, commands-at}
+use Rattle.fronts.proofs.Fronts.{Divides, part-of, divides-behind, command-fits, commands-turn, commands-end, commands-at}
 use Rattle.sender.proofs.Validity.{valid-history, valid-unsent}
 use Rattle.sender.specs.declared.sender.Sender.{Sender}
 

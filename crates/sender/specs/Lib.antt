@@ -1,5 +1,4 @@
 -- The definitions that the contracts of `sender` cite.
-pub mod Commands
 pub mod State
 pub mod Queueing
 pub mod Requests

@@ -13,7 +13,7 @@ use Rattle.command.specs.Messages.{wholeOf}
 use Rattle.history.specs.Headers.{lengthAt}
 use Rattle.history.specs.Push.{pushed, appended}
 use Rattle.history.specs.declared.history.SendHistory.{SendHistory}
-use Rattle.sender.specs.Commands.{front, behind, commandsOf, above}
+use Rattle.fronts.specs.Commands.{front, behind, commandsOf, above}
 use Rattle.sender.specs.declared.sender.Sender.{Sender}
 use Rattle.sender.specs.declared.sender.Sent.{Sent}
 

@@ -8,16 +8,15 @@ ghost use Rattle.config.specs.Settings.{checkOf};
 ghost use Rattle.config.specs.declared.answer.Outcome.the-variants.{Done};
 ghost use Rattle.config.specs.Sequence.{turn};
 ghost use Rattle.command.specs.Messages.{wholeOf};
+ghost use Rattle.fronts.specs.Commands.{commandsOf, above};
 ghost use Rattle.history.specs.State.{Good, Answers};
 ghost use Rattle.history.specs.Headers.{lengthAt};
 ghost use Rattle.history.specs.Queue.{Fit};
 ghost use Rattle.sender.specs.State.{validOf, startOf, resetOf};
-ghost use Rattle.sender.specs.Commands.{commandsOf, above};
 ghost use Rattle.sender.specs.Queueing.{roomOf, joinedTo, pushedAll, wordsCheck, placedOf, sentOf};
 ghost use Rattle.sender.specs.Requests.{outcomeOf, requestedOf, dueAt, deadlineOf, wantsOf, nextOf};
 ghost use Rattle.sender.specs.Writing.{beginsOf};
 ghost use Rattle.sender.specs.Answers.{notStarted};
-use super::messages;
 use super::sender::RequestHeard;
 use super::sender::RequestOutcome;
 use super::sender::Sender;
@@ -165,7 +164,7 @@ fn check(words: &[u32], max: usize) -> Outcome
     ensures { λ r. ⌜ r ≡ wordsCheck max (now (words .entry)) ⌝ }
 {
     if whole_messages(words) {
-        if messages::fit(words, max) {
+        if fronts::tested::fit(words, max) {
             return Outcome::Done;
         }
         return Outcome::Refused(Refusal::TooLarge);
@@ -209,7 +208,7 @@ fn push_all(h: SendHistory, ring: &mut [u32], max: usize, words: &[u32]) -> Send
     let mut g = h;
     let mut at = 0;
     while at < words.len() {
-        let end = at + messages::front_words(&words[at..], max);
+        let end = at + fronts::tested::front_words(&words[at..], max);
         g = history::tested::push(g, ring, &words[at..end]);
         at = end;
     }
@@ -225,8 +224,8 @@ fn queue_words(s: Sender, ring: &mut [u32], max: usize, words: &[u32]) -> Sent
     let history = s.history;
     let queue = s.queue;
     let idle = s.idle;
-    let split = messages::front_words(words, room(s, &ring[..], max));
-    let commands = messages::commands(&words[split..], max);
+    let split = fronts::tested::front_words(words, room(s, &ring[..], max));
+    let commands = fronts::tested::commands(&words[split..], max);
     let need = words.len() + commands;
     if history.size - s.unsent_words < need {
         return Sent {

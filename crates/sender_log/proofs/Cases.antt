@@ -19,7 +19,7 @@ use Rattle.history.specs.Written.{dataPacket}
 use Rattle.idle.specs.declared.idle.IdleTimer.the-variants.{Off, Waiting}
 use Rattle.rows.specs.Rows.{rowOf, sizesOf, anyWords}
 use Rattle.rows.specs.Choice.{repeatsOf}
-use Rattle.sender.specs.Commands.{fitting, front, behind, commandsIn, commandsOf, longer, above}
+use Rattle.fronts.specs.Commands.{fitting, front, behind, commandsIn, commandsOf, longer, above}
 use Rattle.sender.specs.Queueing.{wordsCheck}
 use Rattle.sender.specs.declared.sender.RequestOutcome.the-variants.{Queued as Waits, Error}
 use Rattle.sender.specs.declared.sender.Writing.{Writing}

@@ -32,11 +32,11 @@ use Rattle.idle.specs.Schedule.{idleNext}
 use Rattle.idle.specs.declared.idle.IdleTimer.{IdleTimer}
 use Rattle.idle.specs.declared.idle.IdleTimer.the-variants.{Waiting}
 use Rattle.rows.specs.Rows.{rowOf, fitAll, anyWords}
-use Rattle.sender.specs.Commands.{front, behind, commandsOf}
+use Rattle.fronts.specs.Commands.{front, behind, commandsOf}
 use Rattle.sender.specs.Queueing.{wordsCheck}
 use Rattle.sender.specs.Answers.{newAnswer}
 use Rattle.sender.specs.declared.sender.Sender.{Sender}
-use Rattle.sender.proofs.Fronts.{Divides, part-of, divides-behind, front-nil, commands-nil}
+use Rattle.fronts.proofs.Fronts.{Divides, part-of, divides-behind, front-nil, commands-nil}
 use Rattle.sender.proofs.Parts.{front-behind, commands-parts}
 use Rattle.sender.proofs.Queued.{check-divides, settings-few}
 use Rattle.sender_log.specs.Book.{Book, nothing, oldestIn, freed, withUnwritten, pushedIn, pushedAllIn, joinedLast, joinedIn, roomIn, needIn, queuedIn, QueueIn, sentIn, absentIn, RequestIn, requestedIn, withWaiting}

@@ -19,13 +19,13 @@ use Rattle.history.specs.declared.history.SendHistory.{SendHistory}
 use Rattle.history.proofs.Entries.{holds-good, holds-length-at}
 use Rattle.history.proofs.Flat.{size-append}
 use Rattle.sender.specs.State.{validOf}
-use Rattle.sender.specs.Commands.{behind as rest}
+use Rattle.fronts.specs.Commands.{behind as rest}
 use Rattle.sender.specs.Queueing.{roomOf, joining, further, needOf, joinedTo, queuedTo, sent, unsent, queuedOf, wordsCheck, placedOf, sentOf}
 use Rattle.sender.specs.Answers.{sendAnswer}
 use Rattle.sender.specs.declared.sender.Sender.{Sender}
 use Rattle.sender.specs.declared.sender.Sent.{Sent}
 use Rattle.sender.proofs.Validity.{valid-words}
-use Rattle.sender.proofs.Fronts.{Divides, divides-behind}
+use Rattle.fronts.proofs.Fronts.{Divides, divides-behind}
 use Rattle.sender.proofs.Parts.{commands-parts}
 use Rattle.sender.proofs.Queued.{room-none, room-some, check-divides, settings-few}
 use Rattle.sender.proofs.Kept.{ready, need-parts}

@@ -19,9 +19,9 @@ use Rattle.history.specs.Queue.{asks}
 use Rattle.idle.specs.declared.idle.IdleTimer.{IdleTimer}
 use Rattle.idle.specs.declared.idle.IdleTimer.the-variants.{Off, Waiting}
 use Rattle.rows.specs.Rows.{fitAll}
-use Rattle.sender.specs.Commands.{front, behind, commandsIn, commandsOf}
+use Rattle.fronts.specs.Commands.{front, behind, commandsIn, commandsOf}
 use Rattle.sender.specs.Queueing.{wordsCheck}
-use Rattle.sender.proofs.Fronts.{Divides, part-of, divides-behind}
+use Rattle.fronts.proofs.Fronts.{Divides, part-of, divides-behind}
 use Rattle.sender.proofs.Queued.{check-divides}
 use Rattle.sender_log.specs.Book.{Book, nothing, freed, pushedIn, pushedAllIn, joinedLast, joinedIn, roomIn, needIn, queuedIn, QueueIn, sentIn, absentIn, RequestIn, requestedIn, withWaiting}
 use Rattle.sender_log.specs.Writes.{dataFrom, newIn, isEmpty, idledBy, idledIn, writtenOn, WriteIn, newBy, newWritten, servedIn, writtenIn, writeIn}

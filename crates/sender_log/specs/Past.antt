@@ -13,7 +13,7 @@ use Rattle.command.specs.Messages.{wordsIn}
 use Rattle.command.specs.declared.retransmit.RetransmitRequest.{RetransmitRequest}
 use Rattle.history.specs.Entries.{size, entriesOf}
 use Rattle.history.specs.Queue.{waiting}
-use Rattle.sender.specs.Commands.{front, behind, commandsOf}
+use Rattle.fronts.specs.Commands.{front, behind, commandsOf}
 use Rattle.config.specs.declared.answer.Outcome.{Outcome}
 use Rattle.config.specs.declared.answer.Outcome.the-variants.{Done, Refused}
 use Rattle.sender.specs.declared.sender.RequestOutcome.{RequestOutcome}

@@ -48,7 +48,7 @@ use Rattle.receiver_log.specs.Answers.{answerOf, saidOf}
 use Rattle.receiver_log.specs.Promise.{logOf}
 use Rattle.receiver_log.proofs.Runs.{run-said}
 use Rattle.sender.specs.Answers as sender
-use Rattle.sender.specs.Commands.{fitting, front, behind, commandsIn, commandsOf, longer as longMessage, above}
+use Rattle.fronts.specs.Commands.{fitting, front, behind, commandsIn, commandsOf, longer as longMessage, above}
 use Rattle.sender.specs.State.{validOf}
 use Rattle.sender.specs.Queueing.{roomOf, needOf, joinedTo, pushedAll, queuedTo, queuedOf, wordsCheck, placedOf, sentOf}
 use Rattle.sender.specs.Requests.{requestedOf}

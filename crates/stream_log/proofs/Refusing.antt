@@ -48,7 +48,7 @@ use Rattle.receiver_log.specs.Timing.{Tick, waits, asks, gives-up, tickAt, time
 use Rattle.receiver_log.specs.Calls as Receiver
 use Rattle.receiver_log.specs.Answers.{deliveryIn, pollEvent, errorIn, nakEvent, offered, takeIn, answerOf as receiverAnswer}
 use Rattle.receiver_log.specs.Promise.{logOf}
-use Rattle.sender.specs.Commands.{above}
+use Rattle.fronts.specs.Commands.{above}
 use Rattle.sender.specs.Queueing.{wordsCheck}
 use Rattle.sender.specs.Requests.{dueAt}
 use Rattle.sender.specs.declared.sender.RequestOutcome.the-variants.{Queued, Ignored, Error, NotSupported}

@@ -1,5 +1,5 @@
 -- From every command on, pushing those that are left gives what pushing all gives.
-use Rattle.sender.proofs.Fronts.{whole-at, front-at}
+use Rattle.fronts.proofs.Fronts.{whole-at, front-at}
 use Rattle.sender.proofs.Queued.{short-part, push-good, push-turn, push-length, push-end}
 use mathlib.Core.Path.{_∙_}
 use mathlib.Core.Path.{_≡_, refl}
@@ -9,9 +9,9 @@ use borrow.Author.Needs.{needs}
 use lib.ListN.{length, drop}
 use Rattle.config.specs.Sequence.{turn}
 use Rattle.history.specs.State.{Good}
-use Rattle.sender.specs.Commands.{commandsOf}
+use Rattle.fronts.specs.Commands.{commandsOf}
 use Rattle.sender.specs.Queueing.{pushedAll}
-use Rattle.sender.proofs.Fronts.{Divides, command-fits, command-rest}
+use Rattle.fronts.proofs.Fronts.{Divides, command-fits, command-rest}
 use Rattle.sender.proofs.tested.push_all.Statement.{statement}
 use Rattle.sender.proofs.tested.push_all.Tie as tie
 

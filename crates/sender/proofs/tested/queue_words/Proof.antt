@@ -2,7 +2,7 @@
 use mathlib.Core.Path.{sym, _∙_}
 use native.Mathlib.Omega.{arith}
 use lib.ListN.{length, length-take}
-use Rattle.sender.proofs.Fronts.{divides-at}
+use Rattle.fronts.proofs.Fronts.{divides-at}
 use Rattle.sender.proofs.Validity.{valid-good, valid-words, valid-small}
 use Rattle.sender.proofs.Queued.{check-divides, split-divides, join-ready, join-good, placed-full, placed-queued}
 use borrow.Author.Needs.{needs}

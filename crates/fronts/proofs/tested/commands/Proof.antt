@@ -1,14 +1,14 @@
 -- From every command on, those counted and those left make up all.
-use Rattle.sender.proofs.Fronts.{count-end, whole-at, front-at}
+use Rattle.fronts.proofs.Fronts.{count-end, whole-at, front-at}
 use mathlib.Core.Path.{_≡_, refl}
 use Prim.Native.Nat.{_+_, _-_, _≤_}
 use native.Mathlib.Omega.{arith}
 use borrow.Author.Needs.{needs}
 use lib.ListN.{length, drop}
-use Rattle.sender.specs.Commands.{commandsOf}
-use Rattle.sender.proofs.Fronts.{Divides, command-fits, command-rest, count-turn, commands-end}
-use Rattle.sender.proofs.messages.commands.Statement.{statement}
-use Rattle.sender.proofs.messages.commands.Tie as tie
+use Rattle.fronts.specs.Commands.{commandsOf}
+use Rattle.fronts.proofs.Fronts.{Divides, command-fits, command-rest, count-turn, commands-end}
+use Rattle.fronts.proofs.tested.commands.Statement.{statement}
+use Rattle.fronts.proofs.tested.commands.Tie as tie
 
 abbrev Inv-loop : tie.InvT-loop
 Inv-loop words max at₀ count₀ at count =

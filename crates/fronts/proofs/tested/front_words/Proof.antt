@@ -7,10 +7,10 @@ use native.Mathlib.Omega.{arith}
 use borrow.Author.Needs.{needs}
 use lib.ListN.{length, drop}
 use Rattle.command.specs.Messages.{wholeOf}
-use Rattle.sender.specs.Commands.{front}
-use Rattle.sender.proofs.Fronts.{front-start, turn-fits, turn-whole, front-turn, front-here, front-end, part-of}
-use Rattle.sender.proofs.messages.front_words.Statement.{statement}
-use Rattle.sender.proofs.messages.front_words.Tie as tie
+use Rattle.fronts.specs.Commands.{front}
+use Rattle.fronts.proofs.Fronts.{front-start, turn-fits, turn-whole, front-turn, front-here, front-end, part-of}
+use Rattle.fronts.proofs.tested.front_words.Statement.{statement}
+use Rattle.fronts.proofs.tested.front_words.Tie as tie
 
 abbrev Inv-loop : tie.InvT-loop
 Inv-loop words n at₀ same₀ at same =

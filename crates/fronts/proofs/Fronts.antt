@@ -12,7 +12,7 @@ use borrow.Author.Tests.{leb-true, leb-false, le-leb, lt-leb, lt-ltb, le-ltb, lt
 use Rattle.config.specs.inner.Tests.{split}
 use Rattle.command.specs.Messages.{messageWords, messagesOf, wholeOf}
 use Rattle.command.proofs.Messages.{typeWords-range, messages-nil, messages-cons, messages-cut}
-use Rattle.sender.specs.Commands.{fitting, front, behind, commandsIn, commandsOf, longer, above}
+use Rattle.fronts.specs.Commands.{fitting, front, behind, commandsIn, commandsOf, longer, above}
 
 -- ---- the first message of whole messages
 

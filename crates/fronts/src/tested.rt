@@ -1,4 +1,4 @@
-// How words divide into messages and commands.
+// Words that were tested to be whole messages, divided.
 //
 //   words:  | message | message | message | .. |
 //           |<- front of at most n ->|  behind: the next command's front, and so on
@@ -7,7 +7,7 @@ ghost use mathlib.Core.Bool.{true, false, not};
 ghost use Prim.Native.Nat.{_≤_};
 ghost use lib.ListN.{length};
 ghost use Rattle.command.specs.Messages.{wholeOf};
-ghost use Rattle.sender.specs.Commands.{front, commandsOf, above};
+ghost use Rattle.fronts.specs.Commands.{front, commandsOf, above};
 use command::message::message_words;
 
 // How many words the whole messages at the front have that have at most `n` together.

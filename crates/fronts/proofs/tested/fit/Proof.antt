@@ -6,10 +6,10 @@ use native.Mathlib.Omega.{arith}
 use borrow.Author.Needs.{needs}
 use lib.ListN.{length, drop}
 use Rattle.command.specs.Messages.{wholeOf}
-use Rattle.sender.specs.Commands.{above}
-use Rattle.sender.proofs.Fronts.{turn-fits, turn-whole, above-turn, above-found, above-none, four-enough}
-use Rattle.sender.proofs.messages.fit.Statement.{statement}
-use Rattle.sender.proofs.messages.fit.Tie as tie
+use Rattle.fronts.specs.Commands.{above}
+use Rattle.fronts.proofs.Fronts.{turn-fits, turn-whole, above-turn, above-found, above-none, four-enough}
+use Rattle.fronts.proofs.tested.fit.Statement.{statement}
+use Rattle.fronts.proofs.tested.fit.Tie as tie
 
 abbrev Inv-loop : tie.InvT-loop
 Inv-loop words max at₀ at =

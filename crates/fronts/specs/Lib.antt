@@ -1,0 +1,2 @@
+-- The definitions that the contracts of `fronts` cite.
+pub mod Commands
