@@ -1,12 +1,12 @@
 // The loss sheet as C functions, which include/sirmjold.h declares. A sheet is its three figures, by value, and a
 // ring of `n` words that the caller lends; answers are numbers.
 ghost use mathlib.Core.Path.{_≡_};
-ghost use Rattle.loss_sheet.specs.Columns.{storedOf, restoredOf};
+ghost use Rattle.sheet_blocks.specs.Columns.{storedOf, restoredOf};
 ghost use Rattle.loss_sheet.specs.Sheet.{startOf, blockOf};
-use loss_sheet::columns;
 use loss_sheet::sheet;
 use loss_sheet::sheet::Answered;
 use loss_sheet::sheet::Sheet;
+use sheet_blocks::columns;
 
 // Nothing held; 12 when `n` is not 1 to 4,096, or not the ring's length.
 #[no_mangle]

@@ -1,5 +1,5 @@
 // A file of records of 16 bytes, stored by column: `columns` reads it from standard input in blocks of 4,096
-// records, the last one shorter, and writes each block's first bytes, then its second (crate `loss_sheet`).
+// records, the last one shorter, and writes each block's first bytes, then its second (crate `sheet_blocks`).
 // `columns restore` is the inverse.
 //
 // It streams: two buffers, whatever the length of the input. A last block whose length is not a multiple of 16
@@ -29,9 +29,9 @@ fn refused(answer: u8) {
 
 fn stored(restore: bool, block: &[u8], to: &mut [u8]) -> u8 {
     if restore {
-        return loss_sheet::columns::restore(block, to);
+        return sheet_blocks::columns::restore(block, to);
     }
-    loss_sheet::columns::columns(block, to)
+    sheet_blocks::columns::columns(block, to)
 }
 
 // Writes a block, or why it is refused.

@@ -8,8 +8,8 @@ use native.Mathlib.Numerals.{add-one}
 use lib.ListN.{length, set, take, drop, getD, length-set}
 use lib.Seq.{drop-cons, drop-length, take-suc-set, take-all}
 use lib.Dec.{eqb}
-use Rattle.loss_sheet.specs.Bytes.{spliced, wordBytes}
-use Rattle.loss_sheet.proofs.Splice.{spliced-append}
+use Rattle.sheet_blocks.specs.Bytes.{spliced, wordBytes}
+use Rattle.sheet_blocks.proofs.Splice.{spliced-append}
 use Rattle.loss_sheet.specs.Figures.{classes, losses, figures, figureBytes, isOf, plus, minus, Few, Within}
 use Rattle.loss_sheet.specs.declared.figures.Figures.{Figures}
 

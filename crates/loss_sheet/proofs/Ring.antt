@@ -11,8 +11,8 @@ use lib.ListN.{length, set, take, drop, getD, replicate, drop-of-length-le, leng
 use lib.Seq.{drop-cons, drop-append-le, drop-drop, drop-set-lt, take-suc-set, take-all, take-take}
 use lib.Dec.{ltb}
 use Rattle.config.specs.inner.Tests.{split}
-use Rattle.loss_sheet.specs.Bytes.{spliced}
-use Rattle.loss_sheet.proofs.Splice.{spliced-append}
+use Rattle.sheet_blocks.specs.Bytes.{spliced}
+use Rattle.sheet_blocks.proofs.Splice.{spliced-append}
 use Rattle.loss_sheet.specs.Figures.{figures, figureBytes}
 use Rattle.loss_sheet.specs.Sheet.{allBelow, nextOf, pushed, held, lastOf, sheetBytes, Good}
 use Rattle.loss_sheet.specs.declared.sheet.Sheet.{Sheet}

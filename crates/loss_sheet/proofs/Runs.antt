@@ -4,14 +4,14 @@ use mathlib.Core.List.{List}
 use Prim.Native.Nat.{ℕ, _+_, _*_, _-_, _≤_, _<_}
 use native.Mathlib.Omega.{arith}
 use lib.ListN.{length, take}
-use Rattle.loss_sheet.specs.Bytes.{spliced}
-use Rattle.loss_sheet.proofs.Splice.{spliced-nil}
-use Rattle.loss_sheet.specs.Records.{entryAt, entries}
+use Rattle.sheet_blocks.specs.Bytes.{spliced}
+use Rattle.sheet_blocks.proofs.Splice.{spliced-nil}
+use Rattle.sheet_blocks.specs.Records.{entryAt, entries}
 use Rattle.loss_sheet.specs.Figures.{figures, figureBytes}
 use Rattle.loss_sheet.specs.Sheet.{pushed, pushedAll, held, sheetBytes, Good}
 use Rattle.loss_sheet.specs.declared.sheet.Sheet.{Sheet}
 use Rattle.loss_sheet.specs.declared.figures.Figures.{Figures}
-use Rattle.loss_sheet.proofs.Blocks.{entries-more, entries-none, length-entries}
+use Rattle.sheet_blocks.proofs.Blocks.{entries-more, entries-none, length-entries}
 use Rattle.loss_sheet.proofs.Ring.{good-push, push-n, sheet-turn}
 
 -- one record more, by its word

@@ -3,7 +3,7 @@ use Prim.Native.Nat.{ℕ, _+_, _-_, _/_, _%_, _≤_}
 use mathlib.Core.Bool.{cond}
 use mathlib.Core.List.{List, [], _∷_}
 use lib.Dec.{eqb}
-use Rattle.loss_sheet.specs.Bytes.{wordBytes}
+use Rattle.sheet_blocks.specs.Bytes.{wordBytes}
 use Rattle.loss_sheet.specs.declared.figures.Figures.{Figures}
 
 -- how many of the words have the class

@@ -1,6 +1,3 @@
 -- The definitions that the contracts cite.
-pub mod Bytes
-pub mod Records
-pub mod Columns
 pub mod Figures
 pub mod Sheet

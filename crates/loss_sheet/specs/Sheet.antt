@@ -8,8 +8,8 @@ use lib.Dec.{ltb, leb, eqb}
 use Rattle.config.specs.Range.{within, outside}
 use Rattle.config.specs.Refusals.{numberOf}
 use Rattle.config.specs.declared.refusal.Refusal.the-variants.{SizeNotAllowed, InvalidState, InvalidBlock, InvalidRecord}
-use Rattle.loss_sheet.specs.Bytes.{spliced}
-use Rattle.loss_sheet.specs.Records.{entries, allRecords, isBlock, rows}
+use Rattle.sheet_blocks.specs.Bytes.{spliced}
+use Rattle.sheet_blocks.specs.Records.{entries, allRecords, isBlock, rows}
 use Rattle.loss_sheet.specs.Figures.{figures, figureBytes}
 use Rattle.loss_sheet.specs.declared.sheet.Sheet.{Sheet}
 use Rattle.loss_sheet.specs.declared.sheet.Answered.{Answered}

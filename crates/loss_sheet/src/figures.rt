@@ -3,9 +3,9 @@ ghost use mathlib.Core.Path.{_≡_};
 ghost use mathlib.Core.Bool.{cond};
 ghost use Prim.Native.Nat.{ℕ, _*_, _+_, _≤_, _<_};
 ghost use lib.ListN.{length};
-ghost use Rattle.loss_sheet.specs.Bytes.{spliced};
+ghost use Rattle.sheet_blocks.specs.Bytes.{spliced};
 ghost use Rattle.loss_sheet.specs.Figures.{figures, plus, minus, Few, Within, figureBytes};
-use super::bytes::put_word;
+use sheet_blocks::bytes::put_word;
 
 pub struct Figures {
     // How many are New, Late and Duplicate.

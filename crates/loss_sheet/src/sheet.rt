@@ -4,16 +4,16 @@ ghost use mathlib.Core.Bool.{_||_};
 ghost use lib.Dec.{eqb};
 ghost use Prim.Native.Nat.{ℕ, _*_, _+_, _≤_, _<_};
 ghost use lib.ListN.{length, take, replicate};
-ghost use Rattle.loss_sheet.specs.Bytes.{spliced};
+ghost use Rattle.sheet_blocks.specs.Bytes.{spliced};
 ghost use Rattle.loss_sheet.specs.Figures.{figures};
-ghost use Rattle.loss_sheet.specs.Records.{entries};
+ghost use Rattle.sheet_blocks.specs.Records.{entries};
 ghost use Rattle.loss_sheet.specs.Sheet.{allBelow, stateOk, answerOf, startOf, blockOf, Good, nextOf, pushed, pushedAll, held, sheetBytes};
 use super::figures;
 use super::figures::Figures;
-use super::records;
-use super::records::RECORD;
 use config::range::outside;
 use config::refusal::Refusal;
+use sheet_blocks::records;
+use sheet_blocks::records::RECORD;
 
 pub const MAX_ARRIVALS: usize = 4096;
 

@@ -10,11 +10,11 @@ use lib.ListN.{length, getD, drop, length-append}
 use lib.Dec.{eqb}
 use Rattle.config.specs.Range.{within}
 use Rattle.config.specs.inner.Tests.{split, and-left, and-right}
-use Rattle.loss_sheet.specs.Bytes.{spliced}
-use Rattle.loss_sheet.specs.Records.{classAt, lossAt, entryAt, entries, rows}
+use Rattle.sheet_blocks.specs.Bytes.{spliced}
+use Rattle.sheet_blocks.specs.Records.{classAt, lossAt, entryAt, entries, rows}
 use Rattle.loss_sheet.specs.Figures.{classes, losses, figures, figureBytes}
 use Rattle.loss_sheet.specs.Sheet.{allBelow, lastOf, sheetBytes, takenOf, arrivals, blockOf}
-use Rattle.loss_sheet.proofs.Blocks.{block-rows, length-entries}
+use Rattle.sheet_blocks.proofs.Blocks.{block-rows, length-entries}
 use Rattle.loss_sheet.proofs.States.{taken-both}
 use Rattle.sheet_log.specs.Afresh.{ofClass, lossSum, figuresFrom, figuresAt, figuresOf}
 use Rattle.sheet_log.specs.Calls.{Call, allBytes, started, file}

@@ -4,9 +4,9 @@ use mathlib.Core.Bool.{false}
 use mathlib.Core.List.{List, [], _∷_, _++_}
 use Prim.Native.Nat.{ℕ}
 use lib.ListN.{take, drop, replicate}
-use Rattle.loss_sheet.specs.Bytes.{spliced}
-use Rattle.loss_sheet.specs.Records.{entryAt, entries, allRecords, isBlock}
-use Rattle.loss_sheet.specs.Columns.{everyOf, byColumn, columnsOf}
+use Rattle.sheet_blocks.specs.Bytes.{spliced}
+use Rattle.sheet_blocks.specs.Records.{entryAt, entries, allRecords, isBlock}
+use Rattle.sheet_blocks.specs.Columns.{everyOf, byColumn, columnsOf}
 use Rattle.loss_sheet.specs.Figures.{classes, losses, figures, figureBytes}
 use Rattle.loss_sheet.specs.Sheet.{lastOf, sheetBytes, fresh, allBelow, stateOk, held, nextOf, pushed, pushedAll, takenOf, answerOf, blockOf}
 use Rattle.sheet_log.specs.Calls.{Call, after, started}

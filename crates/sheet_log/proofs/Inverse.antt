@@ -7,10 +7,10 @@ use native.Mathlib.Nat.{zero-mul, suc-mul, div-add-mod', mod-lt, div-lt-iff-lt-m
 use native.Mathlib.Omega.{arith}
 use lib.ListN.{length, getD, List·getD-append}
 use lib.Seq.{ext-getD, getD-append-add}
-use Rattle.loss_sheet.specs.Records.{isBlock, rows}
-use Rattle.loss_sheet.specs.Columns.{everyOf, byColumn, columnsOf, recordsOf}
-use Rattle.loss_sheet.proofs.Blocks.{block-rows}
-use Rattle.loss_sheet.proofs.Stored.{length-every, length-columns}
+use Rattle.sheet_blocks.specs.Records.{isBlock, rows}
+use Rattle.sheet_blocks.specs.Columns.{everyOf, byColumn, columnsOf, recordsOf}
+use Rattle.sheet_blocks.proofs.Blocks.{block-rows}
+use Rattle.sheet_blocks.proofs.Stored.{length-every, length-columns}
 
 -- ---- single bytes
 

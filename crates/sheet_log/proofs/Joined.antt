@@ -5,7 +5,7 @@ use Prim.Native.Nat.{ℕ, zero, suc, _+_, _*_, _≤_}
 use native.Mathlib.Omega.{arith}
 use lib.ListN.{length, getD, drop, length-append, List·getD-append}
 use lib.Seq.{getD-append-add}
-use Rattle.loss_sheet.specs.Records.{entryAt, entries, allRecords, rows}
+use Rattle.sheet_blocks.specs.Records.{entryAt, entries, allRecords, rows}
 use Rattle.loss_sheet.specs.Sheet.{arrivals}
 
 skip-at : (p q : List ℕ) (i j c : ℕ) → j ≡ length p + i → getD (p ++ q) (j + c) 0 ≡ getD q (i + c) 0

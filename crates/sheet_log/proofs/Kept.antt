@@ -12,8 +12,8 @@ use lib.Seq.{drop-cons, drop-set-lt, take-suc-set, take-all}
 use lib.Dec.{ltb, leb, eqb}
 use Rattle.config.specs.Range.{within, outside}
 use Rattle.config.specs.inner.Tests.{split, and-left, and-right}
-use Rattle.loss_sheet.specs.Bytes.{spliced}
-use Rattle.loss_sheet.specs.Records.{classAt, zeroAt, entryAt, entries, allRecords, rows}
+use Rattle.sheet_blocks.specs.Bytes.{spliced}
+use Rattle.sheet_blocks.specs.Records.{classAt, zeroAt, entryAt, entries, allRecords, rows}
 use Rattle.loss_sheet.specs.Sheet.{allBelow, stateOk, Good, fresh, pushed, pushedAll, held, lastOf, sheetBytes, takenOf, answerOf, arrivals, blockOf}
 use Rattle.sheet_log.specs.Calls.{Call, allBytes, after, started}
 use Rattle.loss_sheet.specs.declared.sheet.Sheet.{Sheet}

@@ -11,7 +11,7 @@ use lib.Seq.{set-append-seam, take-take, length-take-le}
 use lib.Dec.{ltb, leb, eqb}
 use Rattle.config.specs.Range.{within}
 use Rattle.config.specs.inner.Tests.{split, and-left, and-right}
-use Rattle.loss_sheet.specs.Records.{entryAt, entries, allRecords, isBlock, rows}
+use Rattle.sheet_blocks.specs.Records.{entryAt, entries, allRecords, isBlock, rows}
 use Rattle.loss_sheet.specs.Sheet.{allBelow, stateOk, Good, fresh, pushedAll, takenOf, arrivals}
 use Rattle.sheet_log.specs.Calls.{Call, allBytes, after, started, LeftBy}
 use Rattle.loss_sheet.specs.declared.sheet.Sheet.{Sheet}

@@ -3,8 +3,8 @@ use Prim.Native.Nat.{ℕ, zero, suc, _+_, _*_, _-_}
 use mathlib.Core.Bool.{cond}
 use mathlib.Core.List.{List, [], _++_}
 use lib.Dec.{eqb}
-use Rattle.loss_sheet.specs.Bytes.{wordBytes}
-use Rattle.loss_sheet.specs.Records.{classAt, lossAt}
+use Rattle.sheet_blocks.specs.Bytes.{wordBytes}
+use Rattle.sheet_blocks.specs.Records.{classAt, lossAt}
 
 -- how many of k records from index i on have the class
 unfoldable pub ofClass : ℕ → List ℕ → ℕ → ℕ → ℕ

@@ -4,8 +4,8 @@ use mathlib.Core.Path.{_≡_}
 use mathlib.Core.Bool.{true}
 use mathlib.Core.List.{List}
 use lib.ListN.{length}
-use Rattle.loss_sheet.specs.Records.{isBlock}
-use Rattle.loss_sheet.specs.Columns.{columnsOf, recordsOf}
+use Rattle.sheet_blocks.specs.Records.{isBlock}
+use Rattle.sheet_blocks.specs.Columns.{columnsOf, recordsOf}
 
 -- a block stored by column has its length, and the inverse restores it; the other way round too
 pub record Restores : Type 0 where

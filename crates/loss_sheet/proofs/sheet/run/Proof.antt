@@ -2,8 +2,8 @@
 use mathlib.Core.Path.{_≡_, refl}
 use Prim.Native.Nat.{_+_, _*_, _-_}
 use lib.ListN.{length, take, length-take}
-use Rattle.loss_sheet.specs.Bytes.{spliced}
-use Rattle.loss_sheet.specs.Records.{entries}
+use Rattle.sheet_blocks.specs.Bytes.{spliced}
+use Rattle.sheet_blocks.specs.Records.{entries}
 use Rattle.loss_sheet.specs.Figures.{figures}
 use Rattle.loss_sheet.specs.Sheet.{Good, pushedAll, held, sheetBytes}
 use Rattle.loss_sheet.proofs.Runs.{good-turn, n-turn, all-turn, out-turn, all-done, out-done}

@@ -1,5 +1,5 @@
 -- The tests, then the loop.
-use Rattle.loss_sheet.proofs.Blocks.{run-fit}
+use Rattle.sheet_blocks.proofs.Blocks.{run-fit}
 use Rattle.loss_sheet.proofs.States.{block-refused, block-done, done-good, done-block}
 use borrow.Author.Needs.{needs}
 use Rattle.loss_sheet.proofs.sheet.Sheet.block.Statement.{statement}

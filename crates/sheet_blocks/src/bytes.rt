@@ -3,7 +3,7 @@ ghost use mathlib.Core.Path.{_≡_};
 ghost use mathlib.Core.List.{[]};
 ghost use Prim.Native.Nat.{_+_, _≤_, _<_};
 ghost use lib.ListN.{length};
-ghost use Rattle.loss_sheet.specs.Bytes.{wordBytes, spliced};
+ghost use Rattle.sheet_blocks.specs.Bytes.{wordBytes, spliced};
 
 // Stores the word `w` from index `at`.
 pub fn put_word(buf: &mut [u8], at: usize, w: u32)

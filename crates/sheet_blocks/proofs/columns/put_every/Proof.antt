@@ -2,13 +2,13 @@
 use mathlib.Core.Path.{_≡_, refl}
 use Prim.Native.Nat.{_+_, _*_, _-_, _≤_}
 use lib.ListN.{length, length-set}
-use Rattle.loss_sheet.specs.Bytes.{spliced}
-use Rattle.loss_sheet.specs.Columns.{everyOf}
-use Rattle.loss_sheet.proofs.Stored.{pred-mul, every-turn, every-done}
+use Rattle.sheet_blocks.specs.Bytes.{spliced}
+use Rattle.sheet_blocks.specs.Columns.{everyOf}
+use Rattle.sheet_blocks.proofs.Stored.{pred-mul, every-turn, every-done}
 use borrow.Author.Needs.{needs}
 use native.Mathlib.Omega.{arith}
-use Rattle.loss_sheet.proofs.columns.put_every.Statement.{statement}
-use Rattle.loss_sheet.proofs.columns.put_every.Tie as tie
+use Rattle.sheet_blocks.proofs.columns.put_every.Statement.{statement}
+use Rattle.sheet_blocks.proofs.columns.put_every.Tie as tie
 
 abbrev Inv-loop : tie.InvT-loop
 Inv-loop out₀ at from first step k o₀ i₀ left₀ out o i left =

@@ -1,9 +1,9 @@
 -- The three bytes are the definition's.
-use Rattle.loss_sheet.specs.Records.{entryAt}
+use Rattle.sheet_blocks.specs.Records.{entryAt}
 use borrow.Author.Needs.{needs}
 use native.Mathlib.Omega.{arith}
-use Rattle.loss_sheet.proofs.records.entry.Statement.{statement}
-use Rattle.loss_sheet.proofs.records.entry.Tie as tie
+use Rattle.sheet_blocks.proofs.records.entry.Statement.{statement}
+use Rattle.sheet_blocks.proofs.records.entry.Tie as tie
 
 add-wide : tie.Need-add-wide
 add-wide c = search needs

@@ -1,9 +1,9 @@
 -- One test, then the columns.
-use Rattle.loss_sheet.proofs.Blocks.{stored-fit}
-use Rattle.loss_sheet.proofs.Stored.{stored-not, stored-done}
+use Rattle.sheet_blocks.proofs.Blocks.{stored-fit}
+use Rattle.sheet_blocks.proofs.Stored.{stored-not, stored-done}
 use borrow.Author.Needs.{needs}
-use Rattle.loss_sheet.proofs.columns.columns.Statement.{statement}
-use Rattle.loss_sheet.proofs.columns.columns.Tie as tie
+use Rattle.sheet_blocks.proofs.columns.columns.Statement.{statement}
+use Rattle.sheet_blocks.proofs.columns.columns.Tie as tie
 
 is-block-requires : tie.Need-is-block-requires
 is-block-requires c κs = search needs

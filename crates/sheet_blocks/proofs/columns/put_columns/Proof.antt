@@ -2,13 +2,13 @@
 use mathlib.Core.Path.{_≡_, refl}
 use Prim.Native.Nat.{_+_, _*_, _-_, _≤_}
 use lib.ListN.{length}
-use Rattle.loss_sheet.specs.Bytes.{spliced}
-use Rattle.loss_sheet.specs.Columns.{byColumn}
-use Rattle.loss_sheet.proofs.Stored.{step-mul, mul-start, columns-start, columns-turn, columns-done}
+use Rattle.sheet_blocks.specs.Bytes.{spliced}
+use Rattle.sheet_blocks.specs.Columns.{byColumn}
+use Rattle.sheet_blocks.proofs.Stored.{step-mul, mul-start, columns-start, columns-turn, columns-done}
 use borrow.Author.Needs.{needs}
 use native.Mathlib.Omega.{arith}
-use Rattle.loss_sheet.proofs.columns.put_columns.Statement.{statement}
-use Rattle.loss_sheet.proofs.columns.put_columns.Tie as tie
+use Rattle.sheet_blocks.proofs.columns.put_columns.Statement.{statement}
+use Rattle.sheet_blocks.proofs.columns.put_columns.Tie as tie
 
 abbrev Inv-loop : tie.InvT-loop
 Inv-loop out₀ from rows cols o₀ c₀ out o c =

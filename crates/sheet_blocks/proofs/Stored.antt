@@ -6,10 +6,10 @@ use Prim.Native.Nat.{ℕ, zero, suc, _+_, _*_, _-_, _≤_, _<_}
 use native.Mathlib.Nat.{zero-mul, suc-mul}
 use native.Mathlib.Omega.{arith}
 use lib.ListN.{length, set, getD, length-append}
-use Rattle.loss_sheet.specs.Bytes.{spliced}
-use Rattle.loss_sheet.specs.Records.{isBlock, rows}
-use Rattle.loss_sheet.specs.Columns.{everyOf, byColumn, columnsOf, recordsOf, storedOf, restoredOf}
-use Rattle.loss_sheet.proofs.Splice.{spliced-sets, spliced-append, spliced-nil}
+use Rattle.sheet_blocks.specs.Bytes.{spliced}
+use Rattle.sheet_blocks.specs.Records.{isBlock, rows}
+use Rattle.sheet_blocks.specs.Columns.{everyOf, byColumn, columnsOf, recordsOf, storedOf, restoredOf}
+use Rattle.sheet_blocks.proofs.Splice.{spliced-sets, spliced-append, spliced-nil}
 
 -- ---- products
 

@@ -1,8 +1,8 @@
 -- Each test is one of the definition's, in its order.
-use Rattle.loss_sheet.proofs.Blocks.{block-part, block-long, block-fits}
+use Rattle.sheet_blocks.proofs.Blocks.{block-part, block-long, block-fits}
 use native.Mathlib.Omega.{arith}
-use Rattle.loss_sheet.proofs.records.is_block.Statement.{statement}
-use Rattle.loss_sheet.proofs.records.is_block.Tie as tie
+use Rattle.sheet_blocks.proofs.records.is_block.Statement.{statement}
+use Rattle.sheet_blocks.proofs.records.is_block.Tie as tie
 
 returns : tie.Need-returns
 returns c = block-part _ _ (c .if1 .taken)

@@ -4,7 +4,7 @@
 ghost use mathlib.Core.Path.{_≡_};
 ghost use Prim.Native.Nat.{ℕ, _*_, _+_, _≤_, _<_};
 ghost use lib.ListN.{length};
-ghost use Rattle.loss_sheet.specs.Records.{isBlock, entryAt, allRecords};
+ghost use Rattle.sheet_blocks.specs.Records.{isBlock, entryAt, allRecords};
 use super::bytes::wide;
 
 pub const RECORD: usize = 16;

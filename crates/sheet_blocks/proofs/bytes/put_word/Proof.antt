@@ -1,10 +1,10 @@
 -- Four stores are one run of four bytes.
 use native.Mathlib.Omega.{arith}
 use lib.ListN.{length-set}
-use Rattle.loss_sheet.proofs.Splice.{spliced-four}
+use Rattle.sheet_blocks.proofs.Splice.{spliced-four}
 use borrow.Author.Needs.{needs}
-use Rattle.loss_sheet.proofs.bytes.put_word.Statement.{statement}
-use Rattle.loss_sheet.proofs.bytes.put_word.Tie as tie
+use Rattle.sheet_blocks.proofs.bytes.put_word.Statement.{statement}
+use Rattle.sheet_blocks.proofs.bytes.put_word.Tie as tie
 
 cast-buf : tie.Need-cast-buf
 cast-buf c = search needs

@@ -1,9 +1,9 @@
 -- A block is stored by column with rows and columns exchanged.
-use Rattle.loss_sheet.proofs.Blocks.{restored-fit}
-use Rattle.loss_sheet.proofs.Stored.{restored-not, restored-done}
+use Rattle.sheet_blocks.proofs.Blocks.{restored-fit}
+use Rattle.sheet_blocks.proofs.Stored.{restored-not, restored-done}
 use borrow.Author.Needs.{needs}
-use Rattle.loss_sheet.proofs.columns.restore.Statement.{statement}
-use Rattle.loss_sheet.proofs.columns.restore.Tie as tie
+use Rattle.sheet_blocks.proofs.columns.restore.Statement.{statement}
+use Rattle.sheet_blocks.proofs.columns.restore.Tie as tie
 
 is-block-requires : tie.Need-is-block-requires
 is-block-requires c κs = search needs

@@ -2,8 +2,8 @@
 ghost use mathlib.Core.Path.{_≡_};
 ghost use Prim.Native.Nat.{_*_, _+_, _≤_, _<_};
 ghost use lib.ListN.{length};
-ghost use Rattle.loss_sheet.specs.Bytes.{spliced};
-ghost use Rattle.loss_sheet.specs.Columns.{everyOf, byColumn, storedOf, restoredOf};
+ghost use Rattle.sheet_blocks.specs.Bytes.{spliced};
+ghost use Rattle.sheet_blocks.specs.Columns.{everyOf, byColumn, storedOf, restoredOf};
 use super::records::RECORD;
 use super::records::is_block;
 use config::refusal::Refusal;

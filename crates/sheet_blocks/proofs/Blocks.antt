@@ -8,7 +8,7 @@ use borrow.Author.Tests.{le-leb, lt-leb, eq-eqb, ne-eqb, leb-true, eqb-true}
 use lib.ListN.{length}
 use lib.Dec.{leb, eqb}
 use Rattle.config.specs.inner.Tests.{and-left, and-right}
-use Rattle.loss_sheet.specs.Records.{classAt, zeroAt, entryAt, entries, allRecords, isBlock}
+use Rattle.sheet_blocks.specs.Records.{classAt, zeroAt, entryAt, entries, allRecords, isBlock}
 
 -- ---- a block's length
 

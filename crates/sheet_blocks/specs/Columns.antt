@@ -5,8 +5,8 @@ use mathlib.Core.List.{List, [], _∷_, _++_}
 use lib.ListN.{length, getD}
 use Rattle.config.specs.Refusals.{numberOf}
 use Rattle.config.specs.declared.refusal.Refusal.the-variants.{InvalidBlock}
-use Rattle.loss_sheet.specs.Bytes.{spliced}
-use Rattle.loss_sheet.specs.Records.{isBlock, rows}
+use Rattle.sheet_blocks.specs.Bytes.{spliced}
+use Rattle.sheet_blocks.specs.Records.{isBlock, rows}
 
 -- k bytes, the first at index i, each d after the one before
 unfoldable pub everyOf : List ℕ → ℕ → ℕ → ℕ → List ℕ

@@ -1,12 +1,12 @@
 -- What is still to be tested from here decides, as long as every record passed is one.
 use mathlib.Core.Path.{_≡_, refl, _∙_}
 use Prim.Native.Nat.{_+_, _*_, _-_}
-use Rattle.loss_sheet.specs.Records.{allRecords}
-use Rattle.loss_sheet.proofs.Blocks.{bad-class, bad-zero, next-record, records-done}
+use Rattle.sheet_blocks.specs.Records.{allRecords}
+use Rattle.sheet_blocks.proofs.Blocks.{bad-class, bad-zero, next-record, records-done}
 use borrow.Author.Needs.{needs}
 use native.Mathlib.Omega.{arith}
-use Rattle.loss_sheet.proofs.records.are_records.Statement.{statement}
-use Rattle.loss_sheet.proofs.records.are_records.Tie as tie
+use Rattle.sheet_blocks.proofs.records.are_records.Statement.{statement}
+use Rattle.sheet_blocks.proofs.records.are_records.Tie as tie
 
 abbrev Inv-loop : tie.InvT-loop
 Inv-loop block k at₀ left₀ at left = (at + 16 * left ≡ 16 * k) × (allRecords block left at ≡ allRecords block k 0)

@@ -6,7 +6,7 @@ use native.Mathlib.Numerals.{add-one, add-two, add-three}
 use native.Mathlib.Omega.{arith}
 use lib.ListN.{length, set, length-append}
 use lib.Seq.{sets, sets-eq, length-sets}
-use Rattle.loss_sheet.specs.Bytes.{spliced}
+use Rattle.sheet_blocks.specs.Bytes.{spliced}
 
 sets-append : (b : List ℕ) (i k : ℕ) (xs ys : List ℕ) → i + length xs ≡ k → sets (sets b i xs) k ys ≡ sets b i (xs ++ ys)
 sets-append b i k [] ys e = let here : k ≡ i = omega arith in rw here
