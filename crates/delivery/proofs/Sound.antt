@@ -12,6 +12,8 @@ use Rattle.history.specs.Entries.{size, kept}
 use Rattle.fronts.specs.Commands.{front, behind, commandsIn, commandsOf}
 use Rattle.fronts.proofs.Fronts.{Divides, part-of, divides-behind}
 use Rattle.sender_log.proofs.Newest.{size-joined as size-newest}
+use Rattle.sender_log.proofs.Words.{words32-append}
+pub use Rattle.sender_log.proofs.Words.{words32-front, words32-behind}
 use Rattle.sender_log.specs.Book.{joinedLast, roomIn}
 use Rattle.delivery.proofs.Lists.{All, length-none}
 use Rattle.delivery.proofs.Messages.{whole-append, front-whole}
@@ -21,32 +23,6 @@ pub record Sound (ws : List ℕ) : Type 0 where
   pub short : length ws ≤ 64
   pub whole : wholeOf ws ≡ true
   pub words32 : Words32 ws
-
--- ---- words of 32 bits
-
-words32-take : (n : ℕ) (ws : List ℕ) → Words32 ws → Words32 (take n ws)
-unfolding Words32
-words32-take zero ws h = tt
-words32-take (suc n) [] h = tt
-words32-take (suc n) (w ∷ ws) h = (h .0, words32-take n ws (h .1))
-
-words32-drop : (n : ℕ) (ws : List ℕ) → Words32 ws → Words32 (drop n ws)
-unfolding Words32
-words32-drop zero ws h = h
-words32-drop (suc n) [] h = h
-words32-drop (suc n) (w ∷ ws) h = words32-drop n ws (h .1)
-
-words32-append : (xs ys : List ℕ) → Words32 xs → Words32 ys → Words32 (xs ++ ys)
-unfolding Words32
-words32-append [] ys h k = k
-words32-append (x ∷ xs) ys h k = (h .0, words32-append xs ys (h .1) k)
-
-pub words32-front : (n : ℕ) (ws : List ℕ) → wholeOf ws ≡ true → Words32 ws → Words32 (front n ws)
-words32-front n ws e h = rw (part-of n ws e .part) (words32-take (length (front n ws)) ws h)
-
-pub words32-behind : (n : ℕ) (ws : List ℕ) → Words32 ws → Words32 (behind n ws)
-unfolding behind
-words32-behind n ws h = words32-drop (length (front n ws)) ws h
 
 -- ---- words divided into commands
 

@@ -10,7 +10,8 @@ use lib.Seq.{drop-cons, drop-length, take-suc-set, take-all}
 use lib.Dec.{eqb}
 use Rattle.sheet_blocks.specs.Bytes.{spliced, wordBytes}
 use Rattle.sheet_blocks.proofs.Splice.{spliced-append}
-use Rattle.loss_sheet.specs.Figures.{classes, losses, figures, figureBytes, isOf, plus, minus, Few, Within}
+use Rattle.loss_sheet.specs.Figures.{classes, losses, figures, figureBytes, isOf, plus, minus}
+use Rattle.loss_sheet.specs.inner.Fits.{Few, Within}
 use Rattle.loss_sheet.specs.declared.figures.Figures.{Figures}
 
 same : (a b c d a′ b′ c′ d′ : ℕ) → a ≡ a′ → b ≡ b′ → c ≡ c′ → d ≡ d′

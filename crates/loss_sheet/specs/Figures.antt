@@ -1,5 +1,5 @@
 -- 02, 10/14: each record gives three class counts and the sum of loss counts, four bytes each, big-endian.
-use Prim.Native.Nat.{ℕ, _+_, _-_, _/_, _%_, _≤_}
+use Prim.Native.Nat.{ℕ, _+_, _-_, _/_, _%_}
 use mathlib.Core.Bool.{cond}
 use mathlib.Core.List.{List, [], _∷_}
 use lib.Dec.{eqb}
@@ -45,17 +45,3 @@ minus f w =
       duplicate = f .duplicate - isOf 2 w;
       lost = f .lost - w % 65536;
     }
-
--- no more than 4,096 words have
-pub record Few (f : Figures) : Type 0 where
-  pub new : f .new ≤ 4096
-  pub late : f .late ≤ 4096
-  pub duplicate : f .duplicate ≤ 4096
-  pub lost : f .lost ≤ 268431360
-
--- the word is among theirs
-pub record Within (f : Figures) (w : ℕ) : Type 0 where
-  pub new : isOf 0 w ≤ f .new
-  pub late : isOf 1 w ≤ f .late
-  pub duplicate : isOf 2 w ≤ f .duplicate
-  pub lost : w % 65536 ≤ f .lost

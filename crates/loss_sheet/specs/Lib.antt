@@ -1,3 +1,4 @@
 -- The definitions that the contracts cite.
+pub mod inner
 pub mod Figures
 pub mod Sheet

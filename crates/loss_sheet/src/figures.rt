@@ -4,7 +4,8 @@ ghost use mathlib.Core.Bool.{cond};
 ghost use Prim.Native.Nat.{ℕ, _*_, _+_, _≤_, _<_};
 ghost use lib.ListN.{length};
 ghost use Rattle.sheet_blocks.specs.Bytes.{spliced};
-ghost use Rattle.loss_sheet.specs.Figures.{figures, plus, minus, Few, Within, figureBytes};
+ghost use Rattle.loss_sheet.specs.Figures.{figures, plus, minus, figureBytes};
+ghost use Rattle.loss_sheet.specs.inner.Fits.{Few, Within};
 use sheet_blocks::bytes::put_word;
 
 pub struct Figures {
