@@ -1,32 +1,22 @@
--- Laws of message lengths and of words divided into messages.
+-- Laws of message lengths and of the walk over messages.
 use mathlib.Core.Path.{_≡_, refl, sym, ap, _∙_}
-use mathlib.Core.Bool.{Bool, true, false, cond, not, _&&_}
-use mathlib.Core.Logic.{_⊎_, inl, inr}
-use mathlib.Core.List.{List, [], _∷_, _++_, append-assoc, append-nil}
+use mathlib.Core.Bool.{Bool, true, false}
+use mathlib.Core.Logic.{inl, inr}
+use mathlib.Core.List.{List, [], _∷_}
 use Prim.Native.Nat.{ℕ, zero, suc, _+_, _-_, _*_, _/_, _%_, _^_, _≤_, _<_}
-use native.Mathlib.Numerals.{add-one}
 use native.Mathlib.Omega.{arith}
-use lib.Dec.{leb, ltb, eqb}
-use lib.ListN.{length, take, drop, getD, length-drop, drop-of-length-le}
+use lib.Dec.{leb, eqb}
+use lib.ListN.{length, drop, getD, length-drop, drop-of-length-le}
 use lib.Seq.{drop-cons, drop-drop}
-use borrow.Author.Tests.{leb-true, eqb-true, le-leb, lt-leb}
-use Rattle.config.specs.inner.Tests.{split, tests, lifts, and-left, and-right, below, below-at}
-use Rattle.command.specs.Messages.{among, typeWords, messageWords, Messages, none, also, divided, messagesOf, wholeOf, wordsIn, messageItem, messageAt, follow, walked, MessagesWalk}
+use borrow.Author.Tests.{leb-true, eqb-true}
+use Rattle.config.specs.inner.Tests.{split, lifts, below, below-at}
+use Rattle.command.specs.Messages.{typeWords, messageWords, divided, messagesOf, messageItem, messageAt, follow, walked, MessagesWalk}
+use Rattle.command.specs.inner.Messages.{typeWords-range}
 use Rattle.command.specs.declared.message.UmpMessages.{UmpMessages}
 use Rattle.command.specs.declared.message.MessageItem.the-variants.{Message, Truncated, End}
+pub use Rattle.command.specs.inner.Messages.{words-append, words-one}
 
 -- ---- message lengths
--- every message has 1 to 4 words
-pub typeWords-range : (t : ℕ) → (1 ≤ typeWords t) × (typeWords t ≤ 4)
-unfolding typeWords
-typeWords-range t = by (among (0 ∷ 1 ∷ 2 ∷ 6 ∷ 7 ∷ []) t) (among (3 ∷ 4 ∷ 8 ∷ 9 ∷ 0xA ∷ []) t) (among (0xB ∷ 0xC ∷ []) t)
-  where
-    by : (a b c : Bool) → (1 ≤ cond a 1 (cond b 2 (cond c 3 4))) × (cond a 1 (cond b 2 (cond c 3 4)) ≤ 4)
-    by true b c = (omega arith, omega arith)
-    by false true c = (omega arith, omega arith)
-    by false false true = (omega arith, omega arith)
-    by false false false = (omega arith, omega arith)
-
 -- the code's digits, by type
 abbrev digit : ℕ → ℕ
 digit t = 0x4443322211422111 / 2 ^ (4 * t) % 16
@@ -45,71 +35,6 @@ digit-right t h =
     let e : digit t ≡ typeWords t = eqb-true _ _ (below-at 16 right all-right t h) in
     let r = typeWords-range t in
     (e, omega arith, omega arith)
-
--- ---- words divided into messages
--- so many steps as there are words are enough
-pub divided-enough : (f g : ℕ) (ws : List ℕ) → length ws ≤ f → length ws ≤ g → divided f ws ≡ divided g ws
-unfolding divided
-divided-enough zero zero ws h k = refl
-divided-enough zero (suc g) [] h k = refl
-divided-enough zero (suc g) (w ∷ ws) h k = absurd (let z : ⊥ = omega arith in z)
-divided-enough (suc f) zero [] h k = refl
-divided-enough (suc f) zero (w ∷ ws) h k = absurd (let z : ⊥ = omega arith in z)
-divided-enough (suc f) (suc g) [] h k = refl
-divided-enough (suc f) (suc g) (w ∷ ws) h k =
-    let n = typeWords-range (w / 0x10000000) in
-    let l = length-drop (messageWords w) (w ∷ ws) in
-    rw (divided-enough f g (drop (messageWords w) (w ∷ ws)) (omega arith) (omega arith))
-
--- the first message, and the rest
-pub messages-cons : (w : ℕ) (ws : List ℕ) → messageWords w ≤ length (w ∷ ws)
-    → messagesOf (w ∷ ws) ≡ also (take (messageWords w) (w ∷ ws)) (messagesOf (drop (messageWords w) (w ∷ ws)))
-unfolding messagesOf divided
-messages-cons w ws h =
-    let n = typeWords-range (w / 0x10000000) in
-    let l = length-drop (messageWords w) (w ∷ ws) in
-    rw (le-leb _ _ h)
-    (ap (also (take (messageWords w) (w ∷ ws)))
-    (divided-enough (length ws) (length (drop (messageWords w) (w ∷ ws))) (drop (messageWords w) (w ∷ ws)) (omega arith) (omega arith)))
-
-pub messages-cut : (w : ℕ) (ws : List ℕ) → length (w ∷ ws) < messageWords w → messagesOf (w ∷ ws) ≡ none true
-unfolding messagesOf divided
-messages-cut w ws h = rw (lt-leb _ _ h)
-
--- a turn of a loop over messages, at index i: the message there and those from the next on, or words that end inside of it
-module _ (ws : List ℕ) (i : ℕ) (h : i < length ws) (n : ℕ) (e : n ≡ messageWords (getD ws i 0)) where
-  pub messages-turn : n ≤ length ws - i → messagesOf (drop i ws) ≡ also (take n (drop i ws)) (messagesOf (drop (i + n) ws))
-  messages-turn f =
-      let l = length-drop i ws in
-      let head = drop-cons ws i 0 h in
-      let l₂ : length (getD ws i 0 ∷ drop (suc i) ws) ≡ length ws - i = rw head at l in
-      rw (head, messages-cons (getD ws i 0) (drop (suc i) ws) (omega arith), ← head, ← e, drop-drop n i ws)
-
-  pub messages-stop : length ws - i < n → messagesOf (drop i ws) ≡ none true
-  messages-stop f =
-      let l = length-drop i ws in
-      let head = drop-cons ws i 0 h in
-      let l₂ : length (getD ws i 0 ∷ drop (suc i) ws) ≡ length ws - i = rw head at l in
-      rw (head, messages-cut (getD ws i 0) (drop (suc i) ws) (omega arith))
-
-  -- the words end inside a message if they do from the next one on
-  pub cut-turn : n ≤ length ws - i → messagesOf (drop i ws) .cut ≡ messagesOf (drop (i + n) ws) .cut
-  cut-turn f = ap (λ (m : Messages). m .cut) (messages-turn f)
-
-  pub cut-here : length ws - i < n → messagesOf (drop i ws) .cut ≡ true
-  cut-here f = ap (λ (m : Messages). m .cut) (messages-stop f)
-
-pub messages-nil : messagesOf [] ≡ none false
-unfolding messagesOf divided
-messages-nil = refl
-
-pub whole-not : (ws : List ℕ) → messagesOf ws .cut ≡ true → false ≡ wholeOf ws
-unfolding wholeOf
-whole-not ws e = rw e
-
-pub whole-end : (ws : List ℕ) (i : ℕ) → length ws ≤ i → messagesOf (drop i ws) .cut ≡ messagesOf ws .cut → true ≡ wholeOf ws
-unfolding wholeOf
-whole-end ws i h e = rw (← e, drop-of-length-le ws h, messages-nil)
 
 -- ---- the walk
 module _ (ws : List ℕ) (at : ℕ) where
@@ -180,14 +105,3 @@ walked-messages (suc f) ws at = step f at ws (drop at ws) refl (λ next. walked-
 pub messages-walk : MessagesWalk
 unfolding messagesOf
 messages-walk ws = walked-messages (length ws) ws 0
-
--- ---- words joined
-
-pub words-append : (xs ys : List (List ℕ)) → wordsIn (xs ++ ys) ≡ wordsIn xs ++ wordsIn ys
-unfolding wordsIn
-words-append [] ys = refl
-words-append (x ∷ xs) ys = rw (words-append xs ys, append-assoc)
-
-pub words-one : (ws : List ℕ) → wordsIn (ws ∷ []) ≡ ws
-unfolding wordsIn
-words-one ws = append-nil ws

@@ -54,6 +54,10 @@ unfoldable pub wordsIn : List (List ℕ) → List ℕ
 wordsIn [] = []
 wordsIn (ws ∷ wss) = ws ++ wordsIn wss
 
+-- the words of the whole messages at the front
+unfoldable pub wholeWords : List ℕ → List ℕ
+wholeWords ws = wordsIn (messagesOf ws .whole)
+
 -- what the words from index `at` on begin with
 abbrev pub messageItem : ℕ → List ℕ → MessageItem
 messageItem at [] = End
@@ -62,6 +66,12 @@ messageItem at (w ∷ ws) =
 
 unfoldable pub messageAt : List ℕ → ℕ → MessageItem
 messageAt ws at = messageItem at (drop at ws)
+
+-- the words of the message that it finds; 0 where it finds no whole one
+abbrev pub itemWords : MessageItem → ℕ
+itemWords (Message at n next) = n
+itemWords Truncated = 0
+itemWords End = 0
 
 -- what a caller of the walk collects, one step after the other
 abbrev pub follow : MessageItem → List ℕ → (ℕ → Messages) → Messages

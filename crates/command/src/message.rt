@@ -4,8 +4,9 @@
 //           ^ at
 ghost use mathlib.Core.Path.{_≡_};
 ghost use Prim.Native.Nat.{_≤_};
+ghost use lib.ListN.{length, getD};
 ghost use Rattle.packet.specs.Bytes.{wordsOf};
-ghost use Rattle.command.specs.Messages.{messageWords, wholeOf, messageAt};
+ghost use Rattle.command.specs.Messages.{messageWords, wholeOf, wholeWords, messageAt, itemWords};
 use packet::cursor::Lookup;
 use packet::cursor::word;
 
@@ -20,29 +21,46 @@ pub fn message_words(first: u32) -> usize
     ((WORDS >> (4 * kind)) % 0x10) as usize
 }
 
+// The words of the whole message at index `at`; 0 where there is none.
+pub fn message_at(words: &[u32], at: usize) -> usize
+    ensures { λ r. ⌜ r ≡ itemWords (messageAt (now (words .entry)) at) ⌝ }
+{
+    if at < words.len() {
+        let n = message_words(words[at]);
+        if words.len() - at < n {
+            return 0;
+        }
+        return n;
+    }
+    0
+}
+
+// How many words the whole messages at the front have.
+pub fn whole_words(words: &[u32]) -> usize
+    ensures { λ r. ⌜ r ≡ length (wholeWords (now (words .entry))) ⌝ }
+{
+    let mut at = 0;
+    // The length of the message before. Where the next one has it too, the next index does not wait
+    // for the word that was read.
+    let mut same = 1;
+    while at < words.len() {
+        let n = message_at(words, at);
+        if n != same {
+            if n == 0 {
+                return at;
+            }
+            same = n;
+        }
+        at += same;
+    }
+    at
+}
+
 // Whether the words end where a message ends.
 pub fn whole_messages(words: &[u32]) -> bool
     ensures { λ r. ⌜ r ≡ wholeOf (now (words .entry)) ⌝ }
 {
-    let mut i = 0;
-    // The length of the message before. Where the next one has it too, the next index does not wait
-    // for the word that was read.
-    let mut same = 1;
-    while i < words.len() {
-        let n = message_words(words[i]);
-        if n != same {
-            if words.len() - i < n {
-                return false;
-            }
-            same = n;
-        } else {
-            if words.len() - i < same {
-                return false;
-            }
-        }
-        i += same;
-    }
-    true
+    words.len() <= whole_words(words)
 }
 
 // A walk over the messages of a data command: the index of the next one's first word.
@@ -88,5 +106,45 @@ impl UmpMessages {
                 }
             }
         }
+    }
+}
+
+// The word at `at` of a data command's bytes; 0 past the last.
+pub fn word_at(body: &[u8], at: usize) -> u32
+    ensures { λ r. ⌜ r ≡ getD (wordsOf (now (body .entry))) at 0 ⌝ }
+{
+    match word(body, at) {
+        Lookup::Word(w) => w,
+        Lookup::Absent => 0,
+    }
+}
+
+// The words of the whole message at the word `at` of a data command's bytes; 0 where there is none.
+pub fn message_in(body: &[u8], at: usize) -> usize
+    ensures { λ r. ⌜ r ≡ itemWords (messageAt (wordsOf (now (body .entry))) at) ⌝ }
+{
+    let walk = UmpMessages { at };
+    match walk.next(body) {
+        MessageItem::Message {
+            at: _,
+            len,
+            next: _,
+        } => len,
+        MessageItem::Truncated => 0,
+        MessageItem::End => 0,
+    }
+}
+
+// As `whole_words`, over a data command's bytes.
+pub fn whole_words_in(body: &[u8]) -> usize
+    ensures { λ r. ⌜ r ≡ length (wholeWords (wordsOf (now (body .entry)))) ⌝ }
+{
+    let mut at = 0;
+    loop {
+        let n = message_in(body, at);
+        if n == 0 {
+            return at;
+        }
+        at += n;
     }
 }

@@ -7,11 +7,12 @@ use Prim.Native.Nat.{ℕ, zero, suc, _+_, _-_, _/_, _≤_, _<_}
 use native.Mathlib.Omega.{arith}
 use lib.Dec.{leb, ltb}
 use lib.ListN.{length, take, drop, getD, length-append, length-drop, drop-of-length-le}
-use lib.Seq.{length-take-le, take-length, take-add, drop-drop, drop-cons, getD-drop}
+use lib.Seq.{length-take-le, take-length, take-take, take-add, drop-drop, drop-cons}
 use borrow.Author.Tests.{leb-true, leb-false, le-leb, lt-leb, lt-ltb, le-ltb, ltb-true, ltb-false, not-true, not-false}
 use Rattle.config.specs.inner.Tests.{split}
-use Rattle.command.specs.Messages.{messageWords, messagesOf, wholeOf}
-use Rattle.command.proofs.Messages.{typeWords-range, messages-nil, messages-cons, messages-cut}
+use Rattle.command.specs.Messages.{messageWords, messagesOf, wholeOf, wholeWords}
+use Rattle.command.specs.inner.Lists.{drop-taken}
+use Rattle.command.specs.inner.Messages.{typeWords-range, messages-nil, messages-cons, messages-cut, whole-nil, whole-cons, whole-cut}
 use Rattle.fronts.specs.Commands.{fitting, front, behind, commandsIn, commandsOf, longer, above}
 
 -- ---- the first message of whole messages
@@ -54,9 +55,6 @@ pub front-nil : (n : ℕ) → front n [] ≡ []
 unfolding front fitting
 front-nil n = rw messages-nil
 
-pub front-start : (ws : List ℕ) (n : ℕ) → 0 + length (front (n - 0) ws) ≡ length (front n ws)
-front-start ws n = let z : n - 0 ≡ n = omega arith in rw z (omega arith)
-
 module _ (ws : List ℕ) (m n : ℕ) (f : First ws m) where
   pub front-more : m ≤ n → front n ws ≡ take m ws ++ front (n - m) (drop m ws)
   unfolding front fitting
@@ -82,7 +80,37 @@ pub above-nil : (n : ℕ) → above n [] ≡ false
 unfolding above longer
 above-nil n = rw messages-nil
 
--- ---- a turn of the loops over messages, from index `at` on
+-- the whole messages among the first n words
+front-none : (n : ℕ) → n ≤ 0 → front n [] ≡ wholeWords (take n [])
+front-none zero b = front-nil 0 ∙ sym whole-nil
+front-none (suc n) b = absurd (let z : ⊥ = omega arith in z)
+
+front-in : (f n : ℕ) (ws : List ℕ) → length ws ≤ f → n ≤ length ws → wholeOf ws ≡ true → front n ws ≡ wholeWords (take n ws)
+front-in zero n [] l b w = front-none n b
+front-in zero n (x ∷ ws) l b w = absurd (let z : ⊥ = omega arith in z)
+front-in (suc f) n [] l b w = front-none n b
+front-in (suc f) zero (x ∷ ws) l b w = let g = first-of x ws w in front-stop (x ∷ ws) (messageWords x) 0 g (omega (arith, g .some)) ∙ sym whole-nil
+front-in (suc f) (suc n) (x ∷ ws) l b w =
+    let g = first-of x ws w in
+    let xs : List ℕ = x ∷ ws in
+    let m : ℕ = messageWords x in
+    let d = length-drop m xs in
+    let t = length-take-le (suc n) xs b in
+    elim (split (leb m (suc n))) [
+      | inl k ↦
+          let h : m ≤ suc n = leb-true _ _ k in
+          front-more xs m (suc n) g h
+          ∙ ap (λ (ys : List ℕ). take m xs ++ ys) (front-in f (suc n - m) (drop m xs) (omega (arith, g .some, g .fits)) (omega (arith, g .fits)) (g .rest))
+          ∙ sym (whole-cons x (take n ws) (omega arith) ∙ rw (take-take m (suc n) xs h, drop-taken m (suc n) xs h))
+      | inr k ↦
+          let h : suc n < m = leb-false _ _ k in
+          front-stop xs m (suc n) g h ∙ sym (whole-cut x (take n ws) (omega arith))
+    ]
+
+pub front-taken : (n : ℕ) (ws : List ℕ) → n ≤ length ws → wholeOf ws ≡ true → (r : ℕ) → r ≡ length (wholeWords (take n ws)) → r ≡ length (front n ws)
+front-taken n ws b w r e = e ∙ ap length (sym (front-in (length ws) n ws (omega arith) b w))
+
+-- ---- a turn of a loop over messages, from index `at` on
 
 module _ (ws : List ℕ) (at : ℕ) (i : at < length ws) (w : wholeOf (drop at ws) ≡ true) (m : ℕ) (e : m ≡ messageWords (getD ws at 0)) where
   pub turn-fits : (1 ≤ m) × (at + m ≤ length ws)
@@ -91,28 +119,11 @@ module _ (ws : List ℕ) (at : ℕ) (i : at < length ws) (w : wholeOf (drop at w
   pub turn-whole : wholeOf (drop (at + m) ws) ≡ true
   turn-whole = rw (← drop-drop m at ws) (first-at ws at i w m e .rest)
 
-  pub front-turn : (n l : ℕ) → at + length (front (n - at) (drop at ws)) ≡ l → m ≤ n - at → at + m + length (front (n - (at + m)) (drop (at + m) ws)) ≡ l
-  front-turn n l inv h =
-      let s : n - at - m ≡ n - (at + m) = omega arith in
-      let g = length-front-more (drop at ws) m (n - at) (first-at ws at i w m e) h in
-      let k : length (front (n - at) (drop at ws)) ≡ m + length (front (n - (at + m)) (drop (at + m) ws)) = rw (s, drop-drop m at ws) at g in
-      omega arith
-
-  pub front-here : (n l : ℕ) → at + length (front (n - at) (drop at ws)) ≡ l → n - at < m → at ≡ l
-  front-here n l inv h =
-      let k : length (front (n - at) (drop at ws)) ≡ 0 = ap length (front-stop (drop at ws) m (n - at) (first-at ws at i w m e) h) in
-      omega arith
-
   pub above-turn : (n : ℕ) (a : Bool) → above n (drop at ws) ≡ a → m ≤ n → above n (drop (at + m) ws) ≡ a
   above-turn n a inv h = rw (← drop-drop m at ws) (sym (above-more (drop at ws) m n (first-at ws at i w m e) h) ∙ inv)
 
   pub above-found : (n : ℕ) (a : Bool) → above n (drop at ws) ≡ a → n < m → false ≡ not a
   above-found n a inv h = let t : a ≡ true = sym inv ∙ above-here (drop at ws) m n (first-at ws at i w m e) h in rw t
-
-pub front-end : (ws : List ℕ) (at n l : ℕ) → length ws ≤ at → at + length (front (n - at) (drop at ws)) ≡ l → at ≡ l
-front-end ws at n l h inv =
-    let k : length (front (n - at) (drop at ws)) ≡ 0 = rw (drop-of-length-le ws h, front-nil) in
-    omega arith
 
 pub above-none : (ws : List ℕ) (at n : ℕ) (a : Bool) → length ws ≤ at → above n (drop at ws) ≡ a → true ≡ not a
 above-none ws at n a h inv = let t : a ≡ false = sym inv ∙ rw (drop-of-length-le ws h, above-nil) in rw t

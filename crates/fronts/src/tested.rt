@@ -9,6 +9,7 @@ ghost use lib.ListN.{length};
 ghost use Rattle.command.specs.Messages.{wholeOf};
 ghost use Rattle.fronts.specs.Commands.{front, commandsOf, above};
 use command::message::message_words;
+use command::message::whole_words;
 
 // How many words the whole messages at the front have that have at most `n` together.
 pub fn front_words(words: &[u32], n: usize) -> usize
@@ -18,24 +19,7 @@ pub fn front_words(words: &[u32], n: usize) -> usize
     if words.len() <= n {
         return words.len();
     }
-    let mut at = 0;
-    // The length of the message before, as in `command::message::whole_messages`.
-    let mut same = 1;
-    while at < words.len() {
-        let m = message_words(words[at]);
-        if m != same {
-            if n - at < m {
-                return at;
-            }
-            same = m;
-        } else {
-            if n - at < same {
-                return at;
-            }
-        }
-        at += same;
-    }
-    at
+    whole_words(&words[..n])
 }
 
 // The most words of a message.

@@ -19,7 +19,8 @@ use Rattle.receiver_log.specs.Log.{Report, heard, told, reports, origin, place,
 use Rattle.receiver_log.specs.Promise.{Promise}
 use Rattle.delivery.specs.Chamber.{delivered, joined, handedOn, AllHanded}
 use Rattle.held_notes.proofs.Moments.{play, play-append, play-any}
-use Rattle.held_notes.proofs.Words.{AreMessages, are-append, messages-are, divided-back, words-append}
+use Rattle.command.specs.inner.Messages.{words-append}
+use Rattle.held_notes.proofs.Words.{AreMessages, are-append, messages-are, divided-back}
 use Rattle.held_log.specs.Theorems.{leavesHeld, wholeIn, handedAt, inOrder}
 use Rattle.held_log.proofs.Standing.{heardAt, Standing}
 

@@ -2,14 +2,15 @@
 use Prim.Native.Nat.{ℕ, zero, suc, _/_, _≤_}
 use mathlib.Core.Path.{_≡_, refl, ap, sym, _∙_}
 use mathlib.Core.Logic.{inl, inr}
-use mathlib.Core.Bool.{Bool, true, false, cond}
-use mathlib.Core.List.{List, [], _∷_, _++_, append-assoc}
+use mathlib.Core.Bool.{true}
+use mathlib.Core.List.{List, [], _∷_, _++_}
 use native.Mathlib.Omega.{arith}
 use lib.Dec.{leb}
 use lib.ListN.{length, take, drop, length-append, length-drop}
 use lib.Seq.{take-at, drop-at, length-take-le}
 use Rattle.config.specs.inner.Tests.{split, tests, lifts}
-use Rattle.command.specs.Messages.{among, typeWords, messageWords, divided, messagesOf, wordsIn}
+use Rattle.command.specs.Messages.{messageWords, divided, messagesOf, wordsIn}
+use Rattle.command.specs.inner.Messages.{typeWords-range}
 
 abbrev IsMessage : List ℕ → Type 0
 IsMessage [] = ⊥
@@ -23,20 +24,10 @@ pub are-append : (ms ns : List (List ℕ)) → AreMessages ms → AreMessages ns
 are-append [] ns p q = q
 are-append (m ∷ ms) ns p q = (p .0, are-append ms ns (p .1) q)
 
-pub some-words : (t : ℕ) → 1 ≤ typeWords t
-unfolding typeWords
-some-words t = by (among (0 ∷ 1 ∷ 2 ∷ 6 ∷ 7 ∷ []) t) (among (3 ∷ 4 ∷ 8 ∷ 9 ∷ 0xA ∷ []) t) (among (0xB ∷ 0xC ∷ []) t)
-  where
-    by : (a b c : Bool) → 1 ≤ cond a 1 (cond b 2 (cond c 3 4))
-    by true b c = omega arith
-    by false true c = omega arith
-    by false false true = omega arith
-    by false false false = omega arith
-
 -- ---- dividing gives messages
 
 first-is : (n w : ℕ) (ws : List ℕ) → n ≡ messageWords w → n ≤ length (w ∷ ws) → IsMessage (take n (w ∷ ws))
-first-is zero w ws e l = absurd (let z : ⊥ = omega (arith, some-words (w / 0x10000000)) in z)
+first-is zero w ws e l = absurd (let z : ⊥ = omega (arith, typeWords-range (w / 0x10000000)) in z)
 first-is (suc n) w ws e l = length-take-le (suc n) (w ∷ ws) l ∙ e
 
 divided-are : (f : ℕ) (ws : List ℕ) → AreMessages (divided f ws .whole)
@@ -73,8 +64,3 @@ divided-again (suc f) ((w ∷ r) ∷ ms) a l =
 pub divided-back : (ms : List (List ℕ)) → AreMessages ms → messagesOf (wordsIn ms) .whole ≡ ms
 unfolding messagesOf
 divided-back ms a = divided-again (length (wordsIn ms)) ms a (omega arith)
-
-pub words-append : (ms ns : List (List ℕ)) → wordsIn (ms ++ ns) ≡ wordsIn ms ++ wordsIn ns
-unfolding wordsIn
-words-append [] ns = refl
-words-append (m ∷ ms) ns = rw (words-append ms ns) (sym (append-assoc m (wordsIn ms) (wordsIn ns)))

@@ -5,8 +5,6 @@ use mathlib.Core.Bool.{Bool, cond}
 use mathlib.Core.List.{List, [], _∷_, _++_}
 use lib.Dec.{eqb}
 use lib.ListN.{getD}
-use Rattle.packet.specs.declared.cursor.Lookup.{Lookup}
-use Rattle.packet.specs.declared.cursor.Lookup.the-variants.{Word, Absent}
 use Rattle.held_notes.specs.Calls.{Moment, message, heldAfter, heldThrough}
 
 -- how many notes there are: 16 channels of 128
@@ -51,8 +49,3 @@ Played g new w before after = (rest : List ℕ) (k : ℕ) → has after k ≡ he
 unfoldable pub notesBelow : (ℕ → Bool) → ℕ → List ℕ
 notesBelow f zero = []
 notesBelow f (suc n) = notesBelow f n ++ cond (f n) (n ∷ []) []
-
--- a word that was looked up; 0 where there is none
-abbrev pub wordIn : Lookup → ℕ
-wordIn (Word w) = w
-wordIn Absent = 0

@@ -9,7 +9,8 @@ use Rattle.config.specs.Sequence.{after}
 use Rattle.history.specs.Ring.{slotOf}
 use Rattle.history.specs.Headers.{lengthAt, entrySize, headerAt, wordsFrom}
 use Rattle.history.specs.State.{Good}
-use Rattle.history.specs.Push.{popOne, popped, Freed}
+use Rattle.history.specs.Push.{popOne, popped}
+use Rattle.history.specs.inner.Room.{Freed}
 use Rattle.history.specs.declared.history.SendHistory.{SendHistory}
 use Rattle.history.proofs.Walk.{numbered-first, words-first, header-first, header-none, words-none, words-one, words-count, numbered-shorts, header-in, shorts-prefix, next-in}
 

@@ -7,18 +7,14 @@ use native.Mathlib.Nat.{suc-add}
 use native.Mathlib.Numerals.{add-one}
 use native.Mathlib.Omega.{arith}
 use lib.ListN.{length, set, drop, take, getD, length-append, length-set, length-drop, take-append-drop}
-use lib.Seq.{drop-cons, take-append-le, drop-append-le, take-append-add, drop-append-add, set-append-left, take-set-le, drop-set-lt, take-set-lt, drop-set-add, take-add, drop-drop, drop-at, length-take-le, take-take, take-suc-set, take-length}
+use lib.Seq.{drop-cons, take-append-le, drop-append-le, take-append-add, drop-append-add, set-append-left, take-set-le, drop-set-lt, take-set-lt, drop-set-add, take-add, drop-drop, length-take-le, take-take, take-suc-set, take-length}
+use Rattle.command.specs.inner.Lists.{drop-taken}
 use Rattle.history.specs.Ring.{slotOf, runOf, ringStored, ringRead, view}
 use Rattle.history.proofs.Slots.{slot-below, slot-round, slot-in, slot-add, lt-or-ge}
 
 set-append-add : (xs ys : List ℕ) (i v : ℕ) → set (xs ++ ys) (length xs + i) v ≡ xs ++ set ys i v
 set-append-add [] ys i v = let e : 0 + i ≡ i = omega arith in rw e
 set-append-add (x ∷ xs) ys i v = rw suc-add (ap (λ (l : List ℕ). x ∷ l) (set-append-add xs ys i v))
-
-drop-take : (n u : ℕ) (l : List ℕ) → n ≤ u → u ≤ length l → drop n (take u l) ≡ take (u - n) (drop n l)
-drop-take n u l h k =
-    let e : u ≡ n + (u - n) = omega arith in
-    ap (λ (m : ℕ). drop n (take m l)) e ∙ rw take-add (drop-at (take n l) (take (u - n) (drop n l)) n (length-take-le n l (omega arith)))
 
 module _ (b : List ℕ) (h : ℕ) (inside : h < length b) where
   length-back : length (drop h b) ≡ length b - h
@@ -83,7 +79,7 @@ module _ (b : List ℕ) (h : ℕ) (inside : h < length b) where
 
   -- what is in use after the n oldest words have left
   pub used-turn : (n u : ℕ) → n ≤ u → u ≤ length b → take (u - n) (view b (slotOf (length b) h n)) ≡ drop n (take u (view b h))
-  used-turn n u p q = view-part n (u - n) (omega arith) ∙ sym (drop-take n u (view b h) p (rw length-view q))
+  used-turn n u p q = view-part n (u - n) (omega arith) ∙ sym (drop-taken n u (view b h) p)
 
   -- the word at the head
   pub view-first : view b h ≡ getD b h 0 ∷ drop 1 (view b h)

@@ -1,4 +1,5 @@
 -- What the send history and the request queue hold, and what their operations do.
+pub mod inner
 pub mod Ring
 pub mod Headers
 pub mod Walk

@@ -1,6 +1,5 @@
 -- 01, "History, repeats, idle": words join the newest command or open further ones, and the oldest leave when words are needed.
-use Prim.Native.Nat.{ℕ, zero, suc, _+_, _-_, _*_, _≤_}
-use mathlib.Core.Path.{_≡_}
+use Prim.Native.Nat.{ℕ, zero, suc, _+_, _-_, _*_}
 use mathlib.Core.Bool.{cond}
 use mathlib.Core.List.{List, _∷_}
 use lib.ListN.{length, set, getD}
@@ -8,7 +7,6 @@ use lib.Dec.{ltb}
 use Rattle.config.specs.Sequence.{turn, after}
 use Rattle.history.specs.Ring.{slotOf, ringStored}
 use Rattle.history.specs.Headers.{entrySize, nextAt}
-use Rattle.history.specs.State.{Good}
 use Rattle.history.specs.declared.history.SendHistory.{SendHistory}
 
 -- the oldest entry leaves
@@ -27,13 +25,6 @@ popOne b h =
 unfoldable pub popped : ℕ → ℕ → List ℕ → SendHistory → SendHistory
 popped zero need b h = h
 popped (suc k) need b h = cond (ltb (h .size - h .used) need) (popped k need b (popOne b h)) h
-
--- what making room leaves: a good state in which the words are free
-pub record Freed (k need : ℕ) (h : SendHistory) (b : List ℕ) (r : SendHistory) : Type 0 where
-  pub same : r ≡ popped k need b h
-  pub good : Good r b
-  pub free : need ≤ r .size - r .used
-  pub few : r .count ≤ r .used
 
 -- the place behind the newest entry
 abbrev pub endOf : SendHistory → ℕ

@@ -2,11 +2,11 @@
 use Prim.Native.Nat.{ℕ}
 use mathlib.Core.List.{List, [], _∷_}
 use lib.ListN.{length}
-use Rattle.command.specs.Messages.{messagesOf, wordsIn}
+use Rattle.command.specs.Messages.{messagesOf, wholeWords}
 
 -- how many words the whole messages at the front have
-unfoldable pub wholeCount : List ℕ → ℕ
-wholeCount ws = length (wordsIn (messagesOf ws .whole))
+abbrev pub wholeCount : List ℕ → ℕ
+wholeCount ws = length (wholeWords ws)
 
 abbrev pub eachLength : List (List ℕ) → List ℕ
 eachLength [] = []

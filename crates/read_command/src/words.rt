@@ -1,22 +1,11 @@
 // The words of a command's bytes, and how they divide into messages.
 ghost use mathlib.Core.Path.{_≡_};
 ghost use Prim.Native.Nat.{_≤_};
-ghost use lib.ListN.{length, getD};
+ghost use lib.ListN.{length};
 ghost use Rattle.packet.specs.Bytes.{wordsOf, spliced};
 ghost use Rattle.read_command.specs.Words.{wholeCount, lengthsOf};
-use command::message::message_words;
-use packet::cursor::Lookup;
-use packet::cursor::word;
-
-// The word at `index`, 0 past the last.
-fn word_at(body: &[u8], index: usize) -> u32
-    ensures { λ r. ⌜ r ≡ getD (wordsOf (now (body .entry))) index 0 ⌝ }
-{
-    match word(body, index) {
-        Lookup::Word(w) => w,
-        Lookup::Absent => 0,
-    }
-}
+use command::message::message_at;
+use command::message::word_at;
 
 // Stores the words at the front of `out`, and tells how many they are.
 pub fn put(body: &[u8], out: &mut [u32]) -> usize
@@ -39,19 +28,15 @@ pub fn lengths(words: &[u32], out: &mut [u8]) -> usize
 {
     let mut i = 0;
     let mut k = 0;
-    // The length of the message before, as in `command::message::whole_messages`.
+    // The length of the message before, as in `command::message::whole_words`.
     let mut same = 1;
     while i < words.len() {
-        let n = message_words(words[i]);
+        let n = message_at(words, i);
         if n != same {
-            if words.len() - i < n {
+            if n == 0 {
                 return i;
             }
             same = n;
-        } else {
-            if words.len() - i < same {
-                return i;
-            }
         }
         out[k] = same as u8;
         i += same;

@@ -9,6 +9,7 @@ use borrow.Author.Tests.{leb-true, leb-false, lt-leb, ne-eqb}
 use lib.Dec.{ltb, eqb}
 use lib.ListN.{length, take, drop, length-append, length-take, drop-of-length-le}
 use lib.Seq.{drop-drop, drop-append-add, length-take-le}
+use Rattle.command.specs.inner.Lists.{drop-take}
 use Rattle.config.specs.Entry.{entry}
 use Rattle.config.specs.Sequence.{turn, after, ahead}
 use Rattle.config.specs.declared.refusal.Refusal.{Refusal}
@@ -40,7 +41,7 @@ use Rattle.sender_log.specs.Writes.{dataFrom, writtenFrom, newIn, reachI
 use Rattle.sender_log.specs.Calls.{run}
 use Rattle.sender_log.specs.Answers.{bookOf}
 use Rattle.sender_log.specs.Promise.{nextBy, nextIn, NoRoom, More}
-use Rattle.sender_log.proofs.Packets.{length-data, drop-data, drop-take}
+use Rattle.sender_log.proofs.Packets.{length-data, drop-data}
 use Rattle.sender_log.proofs.Serving.{reach-few}
 use Rattle.sender_log.proofs.Rows.{Few, few-take, few-append, RowRight, row-right, row-enough, repeats-fit, repeats-few}
 use Rattle.sender_log.proofs.Follows.{Follows}

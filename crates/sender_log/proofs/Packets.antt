@@ -4,7 +4,7 @@ use mathlib.Core.List.{List, [], _∷_, _++_}
 use Prim.Native.Nat.{ℕ, zero, suc, _+_, _-_, _%_, _≤_, _<_}
 use native.Mathlib.Omega.{arith}
 use lib.ListN.{length, take, drop, length-drop}
-use lib.Seq.{drop-cons, drop-append-le, take-append-le, take-nil}
+use lib.Seq.{drop-cons, drop-append-le, take-append-le}
 use Rattle.config.specs.Sequence.{turn, after}
 use Rattle.packet.specs.Layout.{Packet}
 use Rattle.packet.specs.Write.{writtenOf}
@@ -40,11 +40,6 @@ drop-data (suc k) n [] l = refl
 drop-data (suc k) n (e ∷ es) l =
     let m : ((n + 1) % 65536 + k) % 65536 ≡ (n + suc k) % 65536 = omega arith in
     drop-data k (after n 1) es (omega arith) ∙ ap (λ (x : ℕ). dataFrom x (drop k es)) m
-
-pub drop-take : {A : Type 0} (k n : ℕ) (l : List A) → drop k (take (k + n) l) ≡ take n (drop k l)
-drop-take zero n l = let e : 0 + n ≡ n = omega arith in rw e
-drop-take (suc k) n [] = let e : suc k + n ≡ suc (k + n) = omega arith in rw (e, take-nil n)
-drop-take (suc k) n (x ∷ l) = let e : suc k + n ≡ suc (k + n) = omega arith in rw e (drop-take k n l)
 
 -- the k from the j-th on lie among the first
 pub part-append : (j k : ℕ) (xs ys : List (List ℕ)) → j + k ≤ length xs → take k (drop j (xs ++ ys)) ≡ take k (drop j xs)

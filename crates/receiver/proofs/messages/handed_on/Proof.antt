@@ -10,8 +10,8 @@ use Rattle.receiver.proofs.messages.handed_on.Tie as tie
 delivers-requires : tie.Need-delivers-requires
 delivers-requires c κs = search needs
 
-whole-words-requires : tie.Need-whole-words-requires
-whole-words-requires c κs = search needs
+whole-words-in-requires : tie.Need-whole-words-in-requires
+whole-words-in-requires c κs = search needs
 
 mul-end : tie.Need-mul-end
 mul-end c = omega (arith, whole-bytes (c .before .before .before .before .args .body .now))
@@ -22,7 +22,7 @@ slice-aggregate-result c =
 
 returns : tie.Need-returns
 returns c =
-    handed-part _ _ (sym (c .before .before .before .delivers .ensures) ∙ c .before .before .if1 .taken) _ (c .before .whole-words .ensures)
+    handed-part _ _ (sym (c .before .before .before .delivers .ensures) ∙ c .before .before .if1 .taken) _ (c .before .whole-words-in .ensures)
 
 slice-aggregate-result-2 : tie.Need-slice-aggregate-result-2
 slice-aggregate-result-2 c = search needs
@@ -35,7 +35,7 @@ handed-on-spec =
     tie.close
     (tie.spec
     delivers-requires
-    whole-words-requires
+    whole-words-in-requires
     mul-end
     slice-aggregate-result
     returns

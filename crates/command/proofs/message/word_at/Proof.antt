@@ -4,8 +4,8 @@ use lib.ListN.{List·getD-eq-default}
 use Rattle.packet.specs.Bytes.{wordsOf}
 use Rattle.packet.proofs.Reading.{word-found, word-missed}
 use borrow.Author.Needs.{needs}
-use Rattle.read_command.proofs.words.word_at.Statement.{statement}
-use Rattle.read_command.proofs.words.word_at.Tie as tie
+use Rattle.command.proofs.message.word_at.Statement.{statement}
+use Rattle.command.proofs.message.word_at.Tie as tie
 
 word-requires : tie.Need-word-requires
 word-requires c κs = search needs

@@ -1,9 +1,9 @@
 -- Each item of the walk tells its words.
 use mathlib.Core.Path.{ap, sym, _∙_}
-use Rattle.receiver.specs.Messages.{itemWords}
+use Rattle.command.specs.Messages.{itemWords}
 use borrow.Author.Needs.{needs}
-use Rattle.receiver.proofs.messages.words_at.Statement.{statement}
-use Rattle.receiver.proofs.messages.words_at.Tie as tie
+use Rattle.command.proofs.message.message_in.Statement.{statement}
+use Rattle.command.proofs.message.message_in.Tie as tie
 
 next-requires : tie.Need-next-requires
 next-requires c κs = search needs
@@ -26,7 +26,7 @@ returns-2 c = ap itemWords (sym (c .enum-told .given .1) ∙ c .before .before .
 returns-3 : tie.Need-returns-3
 returns-3 c = ap itemWords (sym (c .enum-told2 .given .1) ∙ c .before .before .next .ensures)
 
-pub words-at-spec : {M : Type 1} → statement M
-words-at-spec =
+pub message-in-spec : {M : Type 1} → statement M
+message-in-spec =
     tie.close
     (tie.spec next-requires enum-known-len enum-told enum-told-2 returns returns-2 returns-3)
