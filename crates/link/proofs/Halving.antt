@@ -10,10 +10,10 @@ use Rattle.stream.specs.declared.stream.DataStream.{DataStream}
 use Rattle.load.specs.Load.{next, drawOf}
 use Rattle.load.specs.declared.load.Load.{Load}
 use Rattle.link_rules.specs.Arriving.{Arrived, arrivedOf, handedIn, lossesIn}
-use Rattle.link.specs.Tally.{tallied, unread}
+use Rattle.link_tally.specs.Tally.{tallied, unread}
 use Rattle.link_rules.specs.Link.{Ends, carried, callsOf, stepOf}
 use Rattle.link.specs.Turns.{Turn, wroteInto, consoleOf, chamberOf, pollLoss, partOf, turnOf, thereOf, backOf, endsOf}
-use Rattle.link.specs.declared.arriving.Tally.{Tally}
+use Rattle.link_tally.specs.declared.arriving.Tally.{Tally}
 use Rattle.link_rules.specs.declared.run.Waiting.{Waiting}
 use Rattle.link.specs.declared.turns.Turn.{Turn as Turned}
 use Rattle.link.specs.declared.halves.Gone.{Gone}

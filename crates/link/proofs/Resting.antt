@@ -50,13 +50,13 @@ use Rattle.link_rules.specs.Arriving.{arrivedOf, eventLoss}
 use Rattle.link_rules.specs.Link.{empty, blank, carried}
 use Rattle.link_rules.specs.declared.run.Waiting.{Waiting as ErrorWaiting}
 use Rattle.link_rules.specs.declared.run.Waiting.the-variants.{Nothing, Error}
-use Rattle.link.specs.Tally.{tallied, unread}
+use Rattle.link_tally.specs.Tally.{tallied, unread}
 use Rattle.link.specs.Turns.{Turn, wroteInto, queuedAt, chamberOf, pollLoss, thereOf, backOf}
 use Rattle.link.specs.Rests.{idleRests, timerRests, quietOf, noError, consoleRests, chamberRests}
-use Rattle.link.specs.declared.arriving.Tally.{Tally}
+use Rattle.link_tally.specs.declared.arriving.Tally.{Tally}
 use Rattle.link.specs.declared.halves.Gone.{Gone}
 use Rattle.link.specs.declared.halves.Come.{Come}
-use Rattle.link.proofs.Walking.{tallied-none}
+use Rattle.link_tally.proofs.Walking.{tallied-none}
 use Rattle.link.proofs.Turning.{console-is, begin-none}
 
 -- ---- the test, by its ways out

@@ -25,13 +25,13 @@ use Rattle.load.specs.Load.{word, sends, countOf, wordsOf, askedOf}
 use Rattle.load.specs.declared.load.Load.{Load}
 use Rattle.load.specs.declared.load.Words.{Words}
 use Rattle.link_rules.specs.Arriving.{eventLoss, arrivedOf}
-use Rattle.link.specs.Tally.{tallied, unread}
+use Rattle.link_tally.specs.Tally.{tallied, unread}
 use Rattle.link_rules.specs.Link.{empty, blank, carried}
 use Rattle.link.specs.Turns.{Turn, begun, wroteInto, queuedAt, consoleOf, chamberOf, pollLoss, partOf}
-use Rattle.link.specs.declared.arriving.Tally.{Tally}
+use Rattle.link_tally.specs.declared.arriving.Tally.{Tally}
 use Rattle.link_rules.specs.declared.run.Waiting.{Waiting}
 use Rattle.link_rules.specs.declared.run.Waiting.the-variants.{Nothing, Error}
-use Rattle.link.proofs.Walking.{tallied-none}
+use Rattle.link_tally.proofs.Walking.{tallied-none}
 
 -- ---- the payload
 

@@ -1,4 +1,3 @@
 -- What this crate's functions hand back, by the definitions of crate link_rules.
 pub mod Rests
-pub mod Tally
 pub mod Turns

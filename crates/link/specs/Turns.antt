@@ -12,7 +12,7 @@ use Rattle.load.specs.Load.{wordsOf}
 use Rattle.link_rules.specs.Arriving.{arrivedOf, eventLoss}
 use Rattle.link_rules.specs.Link.{Ends, empty, blank, openedBy, payloadOf, carried}
 use Rattle.link_rules.specs.declared.run.Waiting.{Waiting}
-use Rattle.link.specs.Tally.{tallied, unread}
+use Rattle.link_tally.specs.Tally.{tallied, unread}
 use Rattle.link.specs.declared.turns.Turn.{Turn as Turned}
 use Rattle.link.specs.declared.halves.Gone.{Gone}
 use Rattle.link.specs.declared.halves.Come.{Come}

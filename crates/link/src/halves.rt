@@ -1,10 +1,8 @@
 // The two halves of a step: there, from the console to the chamber, and back.
 ghost use mathlib.Core.Path.{_≡_};
 ghost use Prim.Native.Nat.{_≤_};
-ghost use Rattle.link.specs.Tally.{Few};
+ghost use Rattle.link_tally.specs.Tally.{Few};
 ghost use Rattle.link.specs.Turns.{thereOf, backOf};
-use super::arriving::Tally;
-use super::arriving::arrive;
 use super::quiet::chamber_rests;
 use super::quiet::console_rests;
 use super::turns::carry;
@@ -13,6 +11,8 @@ use super::turns::console_turn;
 use super::turns::part;
 use config::settings::StreamConfig;
 use link_rules::run::Waiting;
+use link_tally::arriving::Tally;
+use link_tally::arriving::arrive;
 use load::load::Load;
 use stream::stream::DataStream;
 

@@ -7,7 +7,7 @@ use Rattle.link.proofs.halves.replied.Statement.{statement}
 use Rattle.link.proofs.halves.replied.Tie as tie
 use Rattle.link.proofs.halves.replied.Reads as reads
 use Rattle.link.proofs.halves.replied.Lts as lts
-use Rattle.link.proofs.arriving.arrive.Reads as arrive-reads
+use Rattle.link_tally.proofs.arriving.arrive.Reads as arrive-reads
 use Rattle.link.proofs.turns.chamber_turn.Reads as chamber-turn-reads
 use Rattle.link.proofs.turns.part.Reads as part-reads
 

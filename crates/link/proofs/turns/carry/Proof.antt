@@ -7,7 +7,7 @@ use Rattle.link.proofs.turns.carry.Statement.{statement}
 use Rattle.link.proofs.turns.carry.Tie as tie
 use Rattle.link.proofs.turns.carry.Reads as reads
 use Rattle.link.proofs.turns.carry.Lts as lts
-use Rattle.link.proofs.arriving.arrive.Reads as arrive-reads
+use Rattle.link_tally.proofs.arriving.arrive.Reads as arrive-reads
 
 returns : tie.Need-returns
 returns c = (turning.line-drops _ _ _ _ _ _ _ (c .if1 .taken), record { handed = omega arith; losses = omega arith })

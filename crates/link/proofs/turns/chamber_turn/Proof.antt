@@ -7,7 +7,7 @@ use Rattle.link.proofs.turns.chamber_turn.Statement.{statement}
 use Rattle.link.proofs.turns.chamber_turn.Tie as tie
 use Rattle.link.proofs.turns.chamber_turn.Reads as reads
 use Rattle.link.proofs.turns.chamber_turn.Lts as lts
-use Rattle.link.proofs.arriving.event_loss.Reads as event-loss-reads
+use Rattle.link_tally.proofs.arriving.event_loss.Reads as event-loss-reads
 use Rattle.link.proofs.turns.write.Reads as write-reads
 use Rattle.stream.proofs.stream.DataStream.poll.Reads as poll-reads
 

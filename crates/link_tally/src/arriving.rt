@@ -10,7 +10,7 @@ ghost use Rattle.packet.specs.Read.{itemsOf};
 ghost use Rattle.command.specs.Parse.{parsedOf};
 ghost use Rattle.command.specs.declared.parse.Command.the-variants.{UmpData as UmpDataOf, RetransmitRequest as RequestOf, RetransmitError as ErrorOf};
 ghost use Rattle.link_rules.specs.Arriving.{requested, spanLoss, eventLoss, errorBy, arrivedBy, arrivedOf};
-ghost use Rattle.link.specs.Tally.{Few, restAt, tallied, unread};
+ghost use Rattle.link_tally.specs.Tally.{Few, restAt, tallied, unread};
 use command::data::UmpData;
 use command::parse::Command;
 use command::parse::parse;

@@ -4,13 +4,13 @@ use mathlib.Core.Path.{_≡_, refl, _∙_}
 use native.Mathlib.Omega.{arith}
 use lib.ListN.{length}
 use borrow.Author.Needs.{needs}
-use Rattle.link.proofs.Walking.{ended, walk-end, walk-cut, walk-on, walk-far, walk-few}
-use Rattle.link.proofs.arriving.walk.Statement.{statement}
-use Rattle.link.proofs.arriving.walk.Tie as tie
-use Rattle.link.proofs.arriving.walk.Reads as reads
-use Rattle.link.proofs.arriving.walk.Lts as lts
+use Rattle.link_tally.proofs.Walking.{ended, walk-end, walk-cut, walk-on, walk-far, walk-few}
+use Rattle.link_tally.proofs.arriving.walk.Statement.{statement}
+use Rattle.link_tally.proofs.arriving.walk.Tie as tie
+use Rattle.link_tally.proofs.arriving.walk.Reads as reads
+use Rattle.link_tally.proofs.arriving.walk.Lts as lts
 use Rattle.command.proofs.parse.parse.Reads as parse-reads
-use Rattle.link.proofs.arriving.command.Reads as command-reads
+use Rattle.link_tally.proofs.arriving.command.Reads as command-reads
 use Rattle.packet.proofs.cursor.Cursor.next.Reads as next-reads
 use Rattle.packet.proofs.cursor.body.Reads as body-reads
 

@@ -1,12 +1,12 @@
 -- The stream's answer is counted as one request; an error in it waits.
 use native.Mathlib.Omega.{arith}
-use Rattle.link.proofs.Tallies as tallies
+use Rattle.link_tally.proofs.Tallies as tallies
 use borrow.Author.Needs.{needs}
-use Rattle.link.proofs.arriving.request.Statement.{statement}
-use Rattle.link.proofs.arriving.request.Tie as tie
-use Rattle.link.proofs.arriving.request.Reads as reads
-use Rattle.link.proofs.arriving.request.Lts as lts
-use Rattle.link.proofs.arriving.error_after.Reads as error-after-reads
+use Rattle.link_tally.proofs.arriving.request.Statement.{statement}
+use Rattle.link_tally.proofs.arriving.request.Tie as tie
+use Rattle.link_tally.proofs.arriving.request.Reads as reads
+use Rattle.link_tally.proofs.arriving.request.Lts as lts
+use Rattle.link_tally.proofs.arriving.error_after.Reads as error-after-reads
 use Rattle.stream.proofs.stream.DataStream.on_retransmit_request.Reads as on-retransmit-request-reads
 
 on-retransmit-request-requires : tie.Need-on-retransmit-request-requires

@@ -1,11 +1,11 @@
 -- Each outcome by its own case; only an Error waits.
 use native.Mathlib.Omega.{arith}
-use Rattle.link.proofs.Tallies as tallies
+use Rattle.link_tally.proofs.Tallies as tallies
 use borrow.Author.Needs.{needs}
-use Rattle.link.proofs.arriving.error_after.Statement.{statement}
-use Rattle.link.proofs.arriving.error_after.Tie as tie
-use Rattle.link.proofs.arriving.error_after.Reads as reads
-use Rattle.link.proofs.arriving.error_after.Lts as lts
+use Rattle.link_tally.proofs.arriving.error_after.Statement.{statement}
+use Rattle.link_tally.proofs.arriving.error_after.Tie as tie
+use Rattle.link_tally.proofs.arriving.error_after.Reads as reads
+use Rattle.link_tally.proofs.arriving.error_after.Lts as lts
 
 enum-told : tie.Need-enum-told
 enum-told c = search needs

@@ -1,14 +1,14 @@
 -- One law for each kind of command; other kinds and malformed ones pass.
 use native.Mathlib.Omega.{arith}
-use Rattle.link.proofs.Tallies as tallies
+use Rattle.link_tally.proofs.Tallies as tallies
 use borrow.Author.Needs.{needs}
-use Rattle.link.proofs.arriving.command.Statement.{statement}
-use Rattle.link.proofs.arriving.command.Tie as tie
-use Rattle.link.proofs.arriving.command.Reads as reads
-use Rattle.link.proofs.arriving.command.Lts as lts
-use Rattle.link.proofs.arriving.error.Reads as error-reads
-use Rattle.link.proofs.arriving.hear.Reads as hear-reads
-use Rattle.link.proofs.arriving.request.Reads as request-reads
+use Rattle.link_tally.proofs.arriving.command.Statement.{statement}
+use Rattle.link_tally.proofs.arriving.command.Tie as tie
+use Rattle.link_tally.proofs.arriving.command.Reads as reads
+use Rattle.link_tally.proofs.arriving.command.Lts as lts
+use Rattle.link_tally.proofs.arriving.error.Reads as error-reads
+use Rattle.link_tally.proofs.arriving.hear.Reads as hear-reads
+use Rattle.link_tally.proofs.arriving.request.Reads as request-reads
 
 enum-known-c : tie.Need-enum-known-c
 enum-known-c c = search needs

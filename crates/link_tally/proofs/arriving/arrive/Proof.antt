@@ -1,12 +1,12 @@
 -- Without the signature nothing is read; else the walk from byte 4 on is the whole.
 use native.Mathlib.Omega.{arith}
-use Rattle.link.proofs.Walking.{arrive-unsigned, arrive-signed}
+use Rattle.link_tally.proofs.Walking.{arrive-unsigned, arrive-signed}
 use borrow.Author.Needs.{needs}
-use Rattle.link.proofs.arriving.arrive.Statement.{statement}
-use Rattle.link.proofs.arriving.arrive.Tie as tie
-use Rattle.link.proofs.arriving.arrive.Reads as reads
-use Rattle.link.proofs.arriving.arrive.Lts as lts
-use Rattle.link.proofs.arriving.walk.Reads as walk-reads
+use Rattle.link_tally.proofs.arriving.arrive.Statement.{statement}
+use Rattle.link_tally.proofs.arriving.arrive.Tie as tie
+use Rattle.link_tally.proofs.arriving.arrive.Reads as reads
+use Rattle.link_tally.proofs.arriving.arrive.Lts as lts
+use Rattle.link_tally.proofs.arriving.walk.Reads as walk-reads
 use Rattle.packet.proofs.cursor.command_packets.Reads as command-packets-reads
 
 command-packets-requires : tie.Need-command-packets-requires

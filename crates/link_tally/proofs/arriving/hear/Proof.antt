@@ -1,14 +1,14 @@
 -- The stream's answer is counted as one data command heard: handed on if New or Late, with at most one loss.
 use mathlib.Core.List.{[]}
 use native.Mathlib.Omega.{arith}
-use Rattle.link.proofs.Tallies as tallies
+use Rattle.link_tally.proofs.Tallies as tallies
 use borrow.Author.Needs.{needs}
-use Rattle.link.proofs.arriving.hear.Statement.{statement}
-use Rattle.link.proofs.arriving.hear.Tie as tie
-use Rattle.link.proofs.arriving.hear.Reads as reads
-use Rattle.link.proofs.arriving.hear.Lts as lts
-use Rattle.link.proofs.arriving.hands_on.Reads as hands-on-reads
-use Rattle.link.proofs.arriving.span_loss.Reads as span-loss-reads
+use Rattle.link_tally.proofs.arriving.hear.Statement.{statement}
+use Rattle.link_tally.proofs.arriving.hear.Tie as tie
+use Rattle.link_tally.proofs.arriving.hear.Reads as reads
+use Rattle.link_tally.proofs.arriving.hear.Lts as lts
+use Rattle.link_tally.proofs.arriving.hands_on.Reads as hands-on-reads
+use Rattle.link_tally.proofs.arriving.span_loss.Reads as span-loss-reads
 use Rattle.stream.proofs.stream.DataStream.on_ump_data.Reads as on-ump-data-reads
 
 on-ump-data-requires : tie.Need-on-ump-data-requires

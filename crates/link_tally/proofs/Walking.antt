@@ -25,10 +25,10 @@ use Rattle.command.specs.Parse.{parsedOf, requestIn, errorIn as errorCommand}
 use Rattle.command.specs.declared.parse.Command.{Command}
 use Rattle.stream.specs.declared.stream.DataStream.{DataStream}
 use Rattle.link_rules.specs.Arriving.{Answer, Arrived, nothing, behind, commandOf, arrivedBy, itemBy, arrivedOf, handedBy, handedIn, lossBy, lossesIn, errorBy, errorIn}
-use Rattle.link.specs.Tally.{restAt, tallied, unread}
-use Rattle.link.specs.declared.arriving.Tally.{Tally}
+use Rattle.link_tally.specs.Tally.{restAt, tallied, unread}
+use Rattle.link_tally.specs.declared.arriving.Tally.{Tally}
 use Rattle.link_rules.specs.declared.run.Waiting.{Waiting}
-use Rattle.link.proofs.Tallies.{handed-few}
+use Rattle.link_tally.proofs.Tallies.{handed-few}
 
 -- ---- the items from a place on
 

@@ -28,8 +28,8 @@ use Rattle.stream.specs.declared.stream.Heard.{Heard}
 use Rattle.stream.specs.declared.stream.RequestHeard.{RequestHeard}
 use Rattle.stream.specs.declared.stream.Told.{Told}
 use Rattle.link_rules.specs.Arriving.{heard, requested, Arrived, nothing, arrivedBy, handedBy, handedIn, spanLoss, eventLoss, lossBy, lossesIn, errorBy, errorIn}
-use Rattle.link.specs.Tally.{tallied}
-use Rattle.link.specs.declared.arriving.Tally.{Tally}
+use Rattle.link_tally.specs.Tally.{tallied}
+use Rattle.link_tally.specs.declared.arriving.Tally.{Tally}
 use Rattle.link_rules.specs.declared.run.Waiting.{Waiting}
 
 tally-is : (a : Tally) (x : Arrived) {s : DataStream} {w : Waiting} {h l : ℕ} → s ≡ x .stream → w ≡ errorIn (a .waiting) (x .answers)

@@ -1,13 +1,13 @@
 -- The stream's answer is counted as one error told, with at most one loss.
 use mathlib.Core.List.{[]}
 use native.Mathlib.Omega.{arith}
-use Rattle.link.proofs.Tallies as tallies
+use Rattle.link_tally.proofs.Tallies as tallies
 use borrow.Author.Needs.{needs}
-use Rattle.link.proofs.arriving.error.Statement.{statement}
-use Rattle.link.proofs.arriving.error.Tie as tie
-use Rattle.link.proofs.arriving.error.Reads as reads
-use Rattle.link.proofs.arriving.error.Lts as lts
-use Rattle.link.proofs.arriving.event_loss.Reads as event-loss-reads
+use Rattle.link_tally.proofs.arriving.error.Statement.{statement}
+use Rattle.link_tally.proofs.arriving.error.Tie as tie
+use Rattle.link_tally.proofs.arriving.error.Reads as reads
+use Rattle.link_tally.proofs.arriving.error.Lts as lts
+use Rattle.link_tally.proofs.arriving.event_loss.Reads as event-loss-reads
 use Rattle.stream.proofs.stream.DataStream.on_retransmit_error.Reads as on-retransmit-error-reads
 
 on-retransmit-error-requires : tie.Need-on-retransmit-error-requires

@@ -5,7 +5,7 @@ use lib.ListN.{length, drop}
 use Rattle.packet.specs.Read.{Item, itemsFrom}
 use Rattle.stream.specs.declared.stream.DataStream.{DataStream}
 use Rattle.link_rules.specs.Arriving.{Arrived, handedIn, lossesIn, errorIn}
-use Rattle.link.specs.declared.arriving.Tally.{Tally}
+use Rattle.link_tally.specs.declared.arriving.Tally.{Tally}
 use Rattle.link_rules.specs.declared.run.Waiting.the-variants.{Nothing}
 
 -- the counts so far are small
