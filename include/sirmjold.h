@@ -19,7 +19,7 @@
  * them during the call. Nothing else is asked: every value is tested, and a call that is refused
  * answers one of the numbers below. The settings are tested first, then the words of states, then what
  * the call itself refuses. A refused call changes nothing, but for one kind of number 3 of
- * sirmjold_write_data, where it is said.
+ * sirmjold_write_data, and for a write that is refused behind words that were queued, where it is said.
  */
 #ifndef SIRMJOLD_H
 #define SIRMJOLD_H
@@ -35,8 +35,8 @@ extern "C" {
  * not. docs/CHANGELOG.md says what each brought. */
 #define SIRMJOLD_VERSION_MAJOR 0
 #define SIRMJOLD_VERSION_MINOR 2
-#define SIRMJOLD_VERSION_PATCH 0
-#define SIRMJOLD_VERSION "0.2.0"
+#define SIRMJOLD_VERSION_PATCH 1
+#define SIRMJOLD_VERSION "0.2.1"
 
 /* The words of a stream, of a payload, of a window alone, and of the settings. */
 #define SIRMJOLD_STREAM_WORDS 35
@@ -146,7 +146,8 @@ static inline void sirmjold_settings_words(const struct sirmjold_settings *setti
 /* ---- answers */
 
 /* In every answer that has one, `refusal` is 0 or a number of enum sirmjold_refusal, and then all else
- * is 0, but that a 10 of sirmjold_command_next gives `next` and `len` too. */
+ * is 0, but that a 10 of sirmjold_command_next gives `next` and `len` too, and `queued` of
+ * sirmjold_send_and_write tells which of its two calls was refused. */
 
 enum sirmjold_outcome_kind {
     SIRMJOLD_QUEUED = 0,
@@ -234,6 +235,15 @@ struct sirmjold_written {
     uint8_t more; /* the next command did not fit: send the payload, write again into a new one */
 };
 
+/* Of sirmjold_send_and_write. `queued` is 0: the words were refused by `refusal`, and nothing was written. It is
+ * 1: they are queued, also where `refusal` is not 0, and all else is what sirmjold_write_data answers. */
+struct sirmjold_sent_written {
+    uint64_t commands;
+    uint8_t refusal;
+    uint8_t more;
+    uint8_t queued;
+};
+
 /* ---- the archive's functions of payloads and streams, over arrays: `s` has the words of a stream, `cfg`
  * those of the settings, `ring` the history, `p` the words of a payload, whose first is its length, and
  * `buf` its buffer. What each does stands at the inline function that calls it. */
@@ -276,6 +286,10 @@ struct sirmjold_written sirmjold_stream_write_data(uint64_t *s, size_t s_len, co
                                                    size_t cfg_len, uint64_t time, uint64_t *p,
                                                    size_t p_len, uint8_t *buf, size_t buf_len,
                                                    uint32_t *ring, size_t ring_len);
+struct sirmjold_sent_written sirmjold_stream_send_and_write(
+    uint64_t *s, size_t s_len, const uint32_t *cfg, size_t cfg_len, uint64_t time, const uint32_t *words,
+    size_t words_len, uint64_t *p, size_t p_len, uint8_t *buf, size_t buf_len, uint32_t *ring,
+    size_t ring_len);
 
 /* ---- a payload that is being written */
 
@@ -528,6 +542,19 @@ static inline struct sirmjold_written sirmjold_write_data(struct sirmjold_stream
     return sirmjold_stream_write_data(stream->words, SIRMJOLD_STREAM_WORDS, stream->settings,
                                       SIRMJOLD_SETTINGS_WORDS, time, payload->words, SIRMJOLD_PAYLOAD_WORDS,
                                       payload->buf, payload->buf_len, stream->history, stream->history_len);
+}
+
+/* sirmjold_send_ump, and where it queues the words sirmjold_write_data at this time, in one call that tests
+ * settings and state once. Where the words are refused nothing is changed and nothing written; where the write
+ * is refused they are queued all the same, and sirmjold_write_data writes them into a better payload. */
+static inline struct sirmjold_sent_written sirmjold_send_and_write(struct sirmjold_stream *stream, uint64_t time,
+                                                                   const uint32_t *words, size_t words_len,
+                                                                   struct sirmjold_payload *payload)
+{
+    return sirmjold_stream_send_and_write(stream->words, SIRMJOLD_STREAM_WORDS, stream->settings,
+                                          SIRMJOLD_SETTINGS_WORDS, time, words, words_len, payload->words,
+                                          SIRMJOLD_PAYLOAD_WORDS, payload->buf, payload->buf_len,
+                                          stream->history, stream->history_len);
 }
 
 /* ---- a receive window alone: words `w`. Of a delivery, `skipped` alone tells the gap. */

@@ -252,6 +252,8 @@ static void all_answer(int number, const uint32_t *c, size_t c_len, size_t n, co
     check(sirmjold_stream_poll(s, n, c, c_len, 0).refusal == number, what);
     check(sirmjold_stream_write_request(s, n, c, c_len, p, P, buf, 64).refusal == number, what);
     check(sirmjold_stream_write_data(s, n, c, c_len, 0, p, P, buf, 64, ring, RING).refusal == number, what);
+    struct sirmjold_sent_written w = sirmjold_stream_send_and_write(s, n, c, c_len, 0, off, 1, p, P, buf, 64, ring, RING);
+    check(w.refusal == number && w.queued == 0, what);
     check(as_before() && p[0] == 0 && p[1] == 1400 && buf[0] == 0, what);
 }
 
@@ -326,6 +328,63 @@ static void idles(void)
     check(sirmjold_next_deadline(&e.stream).kind == 0, "then none");
 }
 
+/* Two streams alike, with a payload each: one queues and writes in one call, the other in two. */
+static struct end together, apart;
+
+static void both_fresh(void)
+{
+    fresh(&together);
+    apart.stream = together.stream;
+    apart.stream.history = apart.ring;
+    memcpy(apart.ring, together.ring, sizeof apart.ring);
+    memset(together.buf, 0, sizeof together.buf);
+    memset(apart.buf, 0, sizeof apart.buf);
+}
+
+/* The same words at the same time into payloads of at most `max` bytes: the answers agree, and all that was lent. */
+static struct sirmjold_sent_written both_played(const uint32_t *words, size_t len, uint64_t time, size_t max)
+{
+    check(sirmjold_payload_open(&together.payload, together.buf, max) == 0 && sirmjold_payload_open(&apart.payload, apart.buf, max) == 0,
+          "two empty payloads");
+    struct sirmjold_sent_written w = sirmjold_send_and_write(&together.stream, time, words, len, &together.payload);
+    struct sirmjold_written v = {0, 0, 0};
+    uint8_t sent = sirmjold_send_ump(&apart.stream, words, len);
+    if (sent == 0)
+        v = sirmjold_write_data(&apart.stream, time, &apart.payload);
+    check(w.queued == (sent == 0) && w.refusal == (sent != 0 ? sent : v.refusal) && w.commands == v.commands && w.more == v.more,
+          "the answers of both calls");
+    check(memcmp(together.stream.words, apart.stream.words, sizeof apart.stream.words) == 0, "the stream of both calls");
+    check(memcmp(together.ring, apart.ring, sizeof apart.ring) == 0, "the history of both calls");
+    check(memcmp(together.payload.words, apart.payload.words, sizeof apart.payload.words) == 0, "the payload of both calls");
+    check(memcmp(together.buf, apart.buf, sizeof apart.buf) == 0, "the bytes of both calls");
+    return w;
+}
+
+static void sent_and_written(void)
+{
+    const uint32_t on[1] = {0x20903C40}, half[1] = {0x40903C00};
+    uint32_t many[RING];
+    for (size_t i = 0; i < RING; i++)
+        many[i] = 0x20903C40;
+    both_fresh();
+    struct sirmjold_sent_written w = both_played(on, 1, 1000, 1400);
+    check(w.queued == 1 && w.refusal == 0 && w.commands == 1 && w.more == 0, "P10, in one call");
+    w = both_played(half, 1, 1010, 1400);
+    check(w.queued == 0 && w.refusal == 5 && w.commands == 0 && sirmjold_payload_length(&together.payload) == 0, "half a message: nothing is written");
+    w = both_played(many, RING, 1020, 1400);
+    check(w.queued == 0 && w.refusal == 6, "more words than the history has");
+    w = both_played(on, 1, 1030, 8);
+    check(w.queued == 1 && w.refusal == 3 && w.commands == 0, "a payload of 8 bytes: the word is queued");
+    w = both_played(on, 0, 1040, 1400);
+    check(w.queued == 1 && w.commands == 2 && w.more == 0, "no words: what was queued is written");
+    for (size_t k = 0; k < 40; k++)
+        w = both_played(many, 1 + k * 7 % 60, 1050 + k, k % 3 == 0 ? 264 : 1400);
+    check(w.queued == 1, "the oldest have left the history");
+    together.payload.words[0] = apart.payload.words[0] = 10;
+    w = sirmjold_send_and_write(&together.stream, 2000, on, 1, &together.payload);
+    check(w.queued == 1 && w.refusal == 13, "a payload that no call has left: the word is queued");
+}
+
 /* Words for which the history has no room, and a message above the size. */
 static void too_much(void)
 {
@@ -384,6 +443,7 @@ int main(void)
     streams();
     repeats();
     idles();
+    sent_and_written();
     too_much();
     resets();
     refused_starts();

@@ -47,9 +47,8 @@ static void play(uint64_t now, uint32_t word)
 {
     struct sirmjold_payload payload;
     uint8_t buf[LIMIT];
-    check(sirmjold_send_ump(&console, &word, 1));
     check(sirmjold_payload_open(&payload, buf, sizeof buf));
-    check(sirmjold_write_data(&console, now, &payload).refusal);
+    check(sirmjold_send_and_write(&console, now, &word, 1, &payload).refusal);
     arrive(now, buf, sirmjold_payload_length(&payload));
 }
 

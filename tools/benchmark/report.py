@@ -60,6 +60,7 @@ CAUSES = (
     ("accept a number", "the window's words are tested, loaded and stored; its size is a value, not a constant of the type, so that masks are computed at each arrival"),
     ("hear a command", "the receiver's words and the settings are tested, loaded and stored; the window's size is a value"),
     ("poll", "the receiver's words and the settings are tested; in the Rust one comparison is all"),
+    ("queue and write in one call", "the history's headers are walked once to test the state; the Rust has no such test"),
     ("queue and write", "each of the two calls walks the history's headers to test its state"),
     ("serve a request", "two walks over the history's headers, each of them a call's state test; the Rust has one"),
     ("serve the newest", "two walks over the history's headers, each of them a call's state test; the Rust has one"),

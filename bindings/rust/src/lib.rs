@@ -82,7 +82,7 @@
 //! # Refusals
 //!
 //! A call that cannot be done answers a [`Refusal`], which is an `Error` with a number and a text, and has changed nothing.
-//! There is one exception: [`Stream::write_data`] says which. Bytes from the line are no errors: [`Read`] has a case for
+//! Two exceptions stand at [`Stream::write_data`] and [`Stream::send_and_write`]. Bytes from the line are no errors: [`Read`] has a case for
 //! each thing that a payload can hold, and only a payload without the signature is refused. No bytes make a call panic.
 //!
 //! # Threads

@@ -61,6 +61,14 @@ pub struct Written {
 }
 
 #[repr(C)]
+pub struct SentWritten {
+    pub commands: u64,
+    pub refusal: u8,
+    pub more: u8,
+    pub queued: u8,
+}
+
+#[repr(C)]
 pub struct Read {
     pub next: u64,
     pub refusal: u8,
@@ -228,6 +236,21 @@ extern "C" {
         ring: *mut u32,
         ring_len: usize,
     ) -> Written;
+    pub fn sirmjold_stream_send_and_write(
+        s: *mut u64,
+        s_len: usize,
+        cfg: *const u32,
+        cfg_len: usize,
+        time: u64,
+        words: *const u32,
+        words_len: usize,
+        p: *mut u64,
+        p_len: usize,
+        buf: *mut u8,
+        buf_len: usize,
+        ring: *mut u32,
+        ring_len: usize,
+    ) -> SentWritten;
     pub fn sirmjold_payload_new(p: *mut u64, p_len: usize, max: usize) -> u8;
     pub fn sirmjold_payload_command(
         p: *mut u64,

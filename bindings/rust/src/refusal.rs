@@ -2,7 +2,7 @@ use core::error::Error;
 use core::fmt;
 
 /// Why a call is refused. A refused call has changed nothing, but where
-/// [`Stream::write_data`](crate::Stream::write_data) says it.
+/// [`Stream::write_data`](crate::Stream::write_data) and [`Stream::send_and_write`](crate::Stream::send_and_write) say it.
 ///
 /// Each has the number that C and the papers know it by, and a text.
 ///

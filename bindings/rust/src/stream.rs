@@ -21,6 +21,10 @@ lend! {
     fn sirmjold_stream_write_data(
         s: &mut [u64], cfg: &[u32], time: u64, p: &mut [u64], buf: &mut [u8], ring: &mut [u32]
     ) -> raw::Written;
+    fn sirmjold_stream_send_and_write(
+        s: &mut [u64], cfg: &[u32], time: u64, words: &[u32], p: &mut [u64], buf: &mut [u8],
+        ring: &mut [u32]
+    ) -> raw::SentWritten;
 }
 
 /// The settings of a stream. No state keeps them: each call that uses them is given them, and tests them before anything
@@ -501,5 +505,56 @@ impl<M: Memory<u32>> Stream<M> {
             commands: w.commands,
             more: w.more != 0,
         })
+    }
+
+    /// [`Stream::send_ump`], and where that queues the words [`Stream::write_data`] at this time, in one call that tests
+    /// settings and state once.
+    ///
+    /// The outer answer is that of the queueing: where the words are refused, nothing is changed and nothing written. The inner
+    /// one is that of the write: where it is refused, the words are queued all the same, and a later write has them.
+    ///
+    /// ```
+    /// use sirmjold::{Payload, Refusal, Stream, StreamConfig, Written};
+    ///
+    /// let cfg = StreamConfig::default();
+    /// let mut console = Stream::new(&cfg, 64, 4, [0; 256])?;
+    /// let mut payload = Payload::new(1400, [0; 1400])?;
+    /// let written = console.send_and_write(&cfg, 0, &[0x2090_3C40], &mut payload)??;
+    /// assert_eq!(written, Written { commands: 1, more: false });
+    /// assert_eq!(payload.bytes(), b"MIDI\xFF\x01\0\0\x20\x90\x3C\x40");
+    ///
+    /// let mut small = Payload::new(8, [0; 8])?;
+    /// let half = console.send_and_write(&cfg, 1, &[0x4090_3C00], &mut small);
+    /// assert_eq!(half, Err(Refusal::InvalidUmpData)); // not queued
+    /// let off = console.send_and_write(&cfg, 1, &[0x2080_3C00], &mut small);
+    /// assert_eq!(off, Ok(Err(Refusal::TooLarge))); // queued, not written
+    /// # Ok::<(), sirmjold::Refusal>(())
+    /// ```
+    pub fn send_and_write<B: Memory<u8>>(
+        &mut self,
+        cfg: &StreamConfig,
+        time: u64,
+        words: &[u32],
+        payload: &mut Payload<B>,
+    ) -> Result<Result<Written, Refusal>, Refusal> {
+        let (p, buf) = payload.parts();
+        let ring = self.ring.as_mut();
+        let w = sirmjold_stream_send_and_write(
+            &mut self.words,
+            &cfg.words(),
+            time,
+            words,
+            p,
+            buf,
+            ring,
+        );
+        let answer = Refusal::check(w.refusal);
+        if w.queued == 0 {
+            answer?;
+        }
+        Ok(answer.map(|()| Written {
+            commands: w.commands,
+            more: w.more != 0,
+        }))
     }
 }

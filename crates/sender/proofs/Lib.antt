@@ -9,3 +9,4 @@ pub mod Serving
 pub mod Idling
 pub mod Repeating
 mod Figures
+pub mod Places

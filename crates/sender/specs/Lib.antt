@@ -3,4 +3,5 @@ pub mod State
 pub mod Queueing
 pub mod Requests
 pub mod Writing
+pub mod Placing
 pub mod Answers

@@ -17,6 +17,8 @@
 //   tested    the same over settings and a state that were tested; `test` is the state test, and hands
 //             on the place that a write repeats from
 //   writing   the write over settings, a state and a payload that were tested, for the stream
+//   placing   the mark from which a write walks, after words were queued
+pub mod placing;
 pub mod sender;
 pub mod tested;
 pub mod writing;

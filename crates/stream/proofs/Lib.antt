@@ -7,3 +7,4 @@ mod Taking
 mod Counts
 mod Writing
 pub mod Calls
+pub mod Both

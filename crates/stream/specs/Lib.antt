@@ -3,4 +3,5 @@ pub mod State
 pub mod Ends
 pub mod Answers
 pub mod Writing
+pub mod Sending
 pub mod Theorems

@@ -12,8 +12,10 @@
 //   stream    the entry points: 9, 7, 8 for settings, then 13 for states that no call has left; 12 for
 //             sizes that a start does not take; 5, 3 and 6 for words that are not queued; 3 for a
 //             write in which nothing fits
+//   sending   queueing and writing in one call
 //   tested    the same over settings and states that were tested
-//   theorems  a write is made of the calls of its ends
+//   theorems  a write is made of the calls of its ends; queueing and writing in one call is those two
+pub mod sending;
 pub mod stream;
 pub mod tested;
 pub mod theorems;

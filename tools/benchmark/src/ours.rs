@@ -188,6 +188,19 @@ impl<const C: usize> Stream for Ends<C> {
         (p[0] as usize, w.more != 0)
     }
 
+    fn play(&mut self, words: &[u32], now: u64, buf: &mut [u8]) -> (usize, bool) {
+        let mut p = [0; 2];
+        let opened = unsafe { raw::sirmjold_payload_new(p.as_mut_ptr(), 2, LIMIT) };
+        let w = unsafe {
+            raw::sirmjold_stream_send_and_write(
+                self.words.as_mut_ptr(), STREAM_WORDS, CFG.as_ptr(), 8, now, words.as_ptr(), words.len(), p.as_mut_ptr(), 2, buf.as_mut_ptr(),
+                buf.len(), self.ring.as_mut_ptr(), C,
+            )
+        };
+        assert_eq!((opened | w.refusal, w.queued), (0, 1));
+        (p[0] as usize, w.more != 0)
+    }
+
     fn heard(&mut self, now: u64, seq: u16) -> u64 {
         told(unsafe { raw::sirmjold_stream_on_ump_data(self.words.as_mut_ptr(), STREAM_WORDS, CFG.as_ptr(), 8, now, seq) })
     }

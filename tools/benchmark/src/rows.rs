@@ -135,8 +135,8 @@ fn hear<S: Side>(kind: usize) -> Batch {
     Box::new(move || (0..UNITS).fold(0, |sum, _| fold(sum, stream.heard(0, next()))))
 }
 
-/// Queues `words` words and writes a payload.
-fn queueing<T: Stream + 'static>(words: usize) -> Batch {
+/// Queues `words` words and writes a payload, by two calls or by one.
+fn queueing<T: Stream + 'static>(words: usize, mut play: impl FnMut(&mut T, &[u32], u64, &mut [u8]) -> (usize, bool) + 'static) -> Batch {
     let mut load = Load::new(words);
     let mut stream = T::fresh();
     let mut buf = vec![0; LIMIT];
@@ -144,8 +144,7 @@ fn queueing<T: Stream + 'static>(words: usize) -> Batch {
     let mut batch = move |units| {
         (0..units).fold(0, |sum, _| {
             now += 1;
-            stream.send(black_box(load.next()));
-            let (len, more) = stream.write(now, &mut buf);
+            let (len, more) = play(&mut stream, black_box(load.next()), now, &mut buf);
             fold(sum, len as u64 + u64::from(more) + u64::from(buf[len - 1]))
         })
     };
@@ -153,12 +152,25 @@ fn queueing<T: Stream + 'static>(words: usize) -> Batch {
     Box::new(move || batch(UNITS))
 }
 
+fn two_calls<T: Stream>(stream: &mut T, words: &[u32], now: u64, buf: &mut [u8]) -> (usize, bool) {
+    stream.send(words);
+    stream.write(now, buf)
+}
+
 fn queue_small<S: Side>(words: usize) -> Batch {
-    queueing::<S::Small>(words)
+    queueing::<S::Small>(words, two_calls)
 }
 
 fn queue_large<S: Side>(words: usize) -> Batch {
-    queueing::<S::Large>(words)
+    queueing::<S::Large>(words, two_calls)
+}
+
+fn play_small<S: Side>(words: usize) -> Batch {
+    queueing::<S::Small>(words, S::Small::play)
+}
+
+fn play_large<S: Side>(words: usize) -> Batch {
+    queueing::<S::Large>(words, S::Large::play)
 }
 
 /// A stream that has written `entries` commands of one word.
@@ -292,9 +304,9 @@ fn ask_large<S: Side>(entries: usize) -> Batch {
     asking::<S::Large>(entries)
 }
 
-/// The two state tests of a queue call, or of a request, and a write, over the history that commands of `words`
-/// words have filled: `wants` tests the state, and then looks at it.
-fn testing<T: Stream + 'static>(words: usize) -> Batch {
+/// So many state tests over the history that commands of `words` words have filled: `wants` tests the state, and
+/// then looks at it.
+fn testing<T: Stream + 'static>(words: usize, tests: u32) -> Batch {
     let mut load = Load::new(words);
     let mut stream = T::fresh();
     let mut buf = vec![0; LIMIT];
@@ -302,15 +314,25 @@ fn testing<T: Stream + 'static>(words: usize) -> Batch {
         stream.send(load.next());
         stream.write(0, &mut buf);
     }
-    Box::new(move || (0..2 * UNITS).fold(0, |sum, _| fold(sum, black_box(&stream).wants(1).into())))
+    Box::new(move || (0..tests * UNITS).fold(0, |sum, _| fold(sum, black_box(&stream).wants(1).into())))
 }
 
+/// The two tests of a queue call, or of a request, and a write.
 fn test_small(words: usize) -> Batch {
-    testing::<<Ours as Side>::Small>(words)
+    testing::<<Ours as Side>::Small>(words, 2)
 }
 
 fn test_large(words: usize) -> Batch {
-    testing::<<Ours as Side>::Large>(words)
+    testing::<<Ours as Side>::Large>(words, 2)
+}
+
+/// The one test of both in one call.
+fn test_small_once(words: usize) -> Batch {
+    testing::<<Ours as Side>::Small>(words, 1)
+}
+
+fn test_large_once(words: usize) -> Batch {
+    testing::<<Ours as Side>::Large>(words, 1)
 }
 
 /// The tests of a call of a window, of a receiver or of a payload alone: calls that the last test refuses.
@@ -473,6 +495,12 @@ pub fn rows() -> Vec<Sized> {
         row!("queue and write 1 to 4 words, history 4096", "payload", None, queue_large, DRAWN, test_large),
         row!("queue and write 192 words, history 256", "payload", None, queue_small, 192, test_small),
         row!("queue and write 192 words, history 4096", "payload", None, queue_large, 192, test_large),
+        row!("queue and write in one call, 1 word, history 256", "payload", None, play_small, 1, test_small_once),
+        row!("queue and write in one call, 1 word, history 4096", "payload", None, play_large, 1, test_large_once),
+        row!("queue and write in one call, 1 to 4 words, history 256", "payload", None, play_small, DRAWN, test_small_once),
+        row!("queue and write in one call, 1 to 4 words, history 4096", "payload", None, play_large, DRAWN, test_large_once),
+        row!("queue and write in one call, 192 words, history 256", "payload", None, play_small, 192, test_small_once),
+        row!("queue and write in one call, 192 words, history 4096", "payload", None, play_large, 192, test_large_once),
         row!("serve a request for 16 commands, history 256", "request", None, serve_small, 16, |_| test_small(1)),
         row!("serve a request for 16 commands, history 4096", "request", None, serve_large, 16, |_| test_large(1)),
         row!("a whole round, 1 word, history 256", "round", None, round_small, 1, test_small),

@@ -7,6 +7,11 @@ pub trait Stream {
     fn send(&mut self, words: &[u32]);
     /// Writes one payload: its length, and whether there is more.
     fn write(&mut self, now: u64, buf: &mut [u8]) -> (usize, bool);
+    /// The two, in one call where there is one.
+    fn play(&mut self, words: &[u32], now: u64, buf: &mut [u8]) -> (usize, bool) {
+        self.send(words);
+        self.write(now, buf)
+    }
     fn heard(&mut self, now: u64, seq: u16) -> u64;
     /// Reads a payload as a chamber does: each data command is told to the stream, and the words of its messages
     /// are handed on unless it is a duplicate.
