@@ -34,12 +34,12 @@ extern "C" {
 /* While the first number is 0, a new second one can ask callers to change something, a new third one
  * not. docs/CHANGELOG.md says what each brought. */
 #define SIRMJOLD_VERSION_MAJOR 0
-#define SIRMJOLD_VERSION_MINOR 2
-#define SIRMJOLD_VERSION_PATCH 1
-#define SIRMJOLD_VERSION "0.2.1"
+#define SIRMJOLD_VERSION_MINOR 3
+#define SIRMJOLD_VERSION_PATCH 0
+#define SIRMJOLD_VERSION "0.3.0"
 
 /* The words of a stream, of a payload, of a window alone, and of the settings. */
-#define SIRMJOLD_STREAM_WORDS 35
+#define SIRMJOLD_STREAM_WORDS 20
 #define SIRMJOLD_PAYLOAD_WORDS 2
 #define SIRMJOLD_WINDOW_WORDS 4
 #define SIRMJOLD_SETTINGS_WORDS 8
@@ -346,6 +346,17 @@ static inline uint8_t sirmjold_put_retransmit_error(struct sirmjold_payload *pay
     return sirmjold_retransmit_error_write(payload->words, SIRMJOLD_PAYLOAD_WORDS, payload->buf,
                                            payload->buf_len, reason, seq);
 }
+
+/* A payload with one data command, made in one call. */
+struct sirmjold_made {
+    uint64_t len; /* how many bytes of the buffer are to be sent */
+    uint8_t refusal;
+};
+
+/* Opens a payload of at most `max` bytes in `buf` and writes UMP Data into it: 4 as for
+ * sirmjold_payload_open, then 5 and 3 as for sirmjold_put_ump_data. */
+struct sirmjold_made sirmjold_ump_data_payload(uint8_t *buf, size_t buf_len, size_t max, uint16_t seq,
+                                               const uint32_t *words, size_t words_len);
 
 /* ---- a payload that was received */
 

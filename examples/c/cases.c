@@ -80,6 +80,28 @@ static void payloads(void)
     check(sirmjold_put_ump_data(&p, 0, note, 1) == 13, "a length that no call has left");
 }
 
+/* A payload made in one call, beside one that is opened and written. */
+static void payloads_in_one_call(void)
+{
+    const uint32_t note[1] = {0x20903C40}, half[1] = {0x40903C00};
+    uint8_t buf[16], other[16];
+    struct sirmjold_payload p;
+    memset(buf, 0xAA, sizeof buf);
+    memset(other, 0xAA, sizeof other);
+    struct sirmjold_made m = sirmjold_ump_data_payload(buf, sizeof buf, 7, 3, note, 1);
+    check(m.refusal == 4 && m.len == 0, "in one call, a limit of 7");
+    m = sirmjold_ump_data_payload(buf, sizeof buf, 16, 3, half, 1);
+    check(m.refusal == 5 && m.len == 0, "in one call, half a message");
+    m = sirmjold_ump_data_payload(buf, sizeof buf, 8, 3, note, 1);
+    check(m.refusal == 3 && m.len == 0, "in one call, no room for the command");
+    m = sirmjold_ump_data_payload(buf, 11, 1400, 3, note, 1);
+    check(m.refusal == 3 && m.len == 0 && memcmp(buf, other, sizeof buf) == 0, "in one call, a buffer that is too short; no byte is changed");
+    m = sirmjold_ump_data_payload(buf, sizeof buf, 16, 3, note, 1);
+    sirmjold_payload_open(&p, other, sizeof other);
+    check(sirmjold_put_ump_data(&p, 3, note, 1) == 0 && m.refusal == 0 && m.len == sirmjold_payload_length(&p) && memcmp(buf, other, sizeof buf) == 0,
+          "in one call, the bytes of the two calls");
+}
+
 static void readings(void)
 {
     static const uint8_t bytes[] = {0x4D, 0x49, 0x44, 0x49, 0xFF, 3,    1, 2,    0x20, 0x90, 0x3C, 0x40, 0x40, 0x90,
@@ -144,9 +166,9 @@ static size_t played(struct end *e, uint32_t word, uint64_t time, size_t max)
     return sirmjold_payload_length(&e->payload);
 }
 
-/* Figures of timers and of a request that are not there, and flags that are none, by word and bit. */
-static const unsigned unused[][2] = {{4, 1}, {5, 0}, {6, 0}, {7, 1}, {8, 1}, {9, 1}, {10, 0}, {11, 0},
-                                     {23, 1}, {24, 0}, {25, 0}, {26, 0}};
+/* Figures of timers and of a request that are not there, words that are not used yet, and flags that are none, by word and bit. */
+static const unsigned unused[][2] = {{2, 0}, {3, 63}, {4, 0}, {5, 32}, {5, 48}, {6, 0}, {6, 12}, {6, 63},
+                                     {9, 32}, {9, 57}, {9, 63}, {10, 0}, {11, 0}};
 
 static void streams(void)
 {
@@ -278,8 +300,8 @@ static void orders(void)
     check(sirmjold_stream_write_request(s, S, no_size, C, p, P + 1, buf, 64).refusal == 9, "SIZE 0, and a payload of three words");
     check(sirmjold_stream_write_request(s, S, cfg, C, p, P + 1, buf, 64).refusal == 13 && as_before(), "a payload of three words");
     /* a flag that is none, of the receiver and of the sender */
-    running.stream.words[8] ^= 2;
-    running.stream.words[23] ^= 2;
+    running.stream.words[6] ^= (uint64_t)1 << 12;
+    running.stream.words[9] ^= (uint64_t)1 << 57;
     before = running;
     all_answer(9, no_size, C, S, "SIZE 0, and a flag that is none");
     check(sirmjold_poll(&running.stream, 0).refusal == 13 && as_before(), "a flag that is none");
@@ -439,6 +461,7 @@ int main(void)
 {
     windows();
     payloads();
+    payloads_in_one_call();
     readings();
     streams();
     repeats();

@@ -42,6 +42,26 @@ def table(rows):
     return "\n".join(lines)
 
 
+# The most that a row's time may be of the Rust's, by how its name begins: what is aimed at, and for whole rounds what they were
+# before a stream's words were packed.
+GOALS = {
+    "hear a command": 1.0, "poll": 2.5, "accept a number": 0.9, "write a command, 1 word": 1.3,
+    "a whole round, 1 word, history 256": 0.50, "a whole round, 1 to 4 words": 1.00, "a whole round, 16 words": 0.74,
+    "a whole round, 192 words": 0.29, "a whole round, 1 word, history 4096": 0.27,
+}
+
+
+def goals(rows):
+    """Each row that has a goal beside it; the figures are those of the table, to two places."""
+    lines = ["| row | at most | ratio | |", "|---|--:|--:|---|"]
+    for r in rows:
+        for start, most in GOALS.items():
+            if r["name"].startswith(start):
+                reached = ratio(r["ours"][0], r["rust"][0])
+                lines.append("| %s | %.2f | %s | %s |" % (r["name"], most, reached, "met" if float(reached) <= most else "**not met**"))
+    return "\n".join(lines)
+
+
 def growth(rows):
     lines = ["| row | ns | Rust | ratio | instructions | Rust | ratio |", "|---|--:|--:|--:|--:|--:|--:|"]
     for r in rows:
@@ -54,7 +74,7 @@ def growth(rows):
 # Rows by their beginnings, and what this library does there that the Rust does not. How much it is stands in the table.
 CAUSES = (
     ("read a payload", "one call for each command, which leaves words and lengths in the caller's arrays; the Rust's loop has no call"),
-    ("write a command", "opening and writing are two calls over a payload in lent words; in the Rust they are one function"),
+    ("write a command", "opening and writing are one call, which no compiler inlines into the caller; the words are walked over before the first is written"),
     ("the same steps apart, a command", "a payload is tested, loaded from words and stored again by each call"),
     ("the same steps apart", "each step is tested by itself"),
     ("accept a number", "the window's words are tested, loaded and stored; its size is a value, not a constant of the type, so that masks are computed at each arrival"),
@@ -126,7 +146,7 @@ def page(machine, rounds, rows, ours, same, rust):
     plain = [r for r in rows if not r["series"]]
     text = open(here + "/page.md").read()
     return text.format(
-        machine=machine, rounds=rounds, table=table(plain), slower=slower(rows), past=past(plain), growth=growth([r for r in rows if r["series"]]),
+        machine=machine, rounds=rounds, table=table(plain), goals=goals(plain), slower=slower(rows), past=past(plain), growth=growth([r for r in rows if r["series"]]),
         ours=sum(sum(functions.values()) for functions in ours), same=same,
         exports=sum(n.startswith("sirmjold_") for functions in ours for n in functions), rust=sum(rust.values()),
         stacks=stacks([r for r in plain if not r["name"].startswith("the same")]))

@@ -6,6 +6,7 @@ lend! {
     fn sirmjold_payload_command(
         p: &mut [u64], buf: &mut [u8], code: u8, csd1: u8, csd2: u8, words: &[u32]) -> u8;
     fn sirmjold_ump_data_write(p: &mut [u64], buf: &mut [u8], seq: u16, words: &[u32]) -> u8;
+    fn sirmjold_ump_data_payload(buf: &mut [u8], max: usize, seq: u16, words: &[u32]) -> raw::Made;
     fn sirmjold_retransmit_request_write(p: &mut [u64], buf: &mut [u8], seq: u16, count: u16) -> u8;
     fn sirmjold_retransmit_error_write(p: &mut [u64], buf: &mut [u8], reason: u8, seq: u16) -> u8;
     fn sirmjold_command_next(
@@ -87,6 +88,26 @@ impl<M: Memory<u8>> Payload<M> {
         Ok(Payload {
             words: empty,
             empty,
+            buf,
+        })
+    }
+
+    /// A payload of at most `max` bytes with UMP Data in it, made in one call.
+    ///
+    /// ```
+    /// use sirmjold::{Payload, Refusal};
+    ///
+    /// let payload = Payload::of_ump_data(1400, [0; 1400], 7, &[0x2090_3C40])?;
+    /// assert_eq!(payload.bytes(), b"MIDI\xFF\x01\x00\x07\x20\x90\x3C\x40");
+    /// assert_eq!(Payload::of_ump_data(1400, [0; 1400], 7, &[0x4090_3C00]).unwrap_err(), Refusal::InvalidUmpData);
+    /// # Ok::<(), sirmjold::Refusal>(())
+    /// ```
+    pub fn of_ump_data(max: usize, mut buf: M, seq: u16, words: &[u32]) -> Result<Payload<M>, Refusal> {
+        let made = sirmjold_ump_data_payload(buf.as_mut(), max, seq, words);
+        Refusal::check(made.refusal)?;
+        Ok(Payload {
+            words: [made.len, max as u64],
+            empty: [0, max as u64],
             buf,
         })
     }

@@ -1,5 +1,5 @@
 //! The C functions, as `include/sirmjold.h` declares them.
-pub const STREAM_WORDS: usize = 35;
+pub const STREAM_WORDS: usize = 20;
 pub const PAYLOAD_WORDS: usize = 2;
 pub const WINDOW_WORDS: usize = 4;
 pub const SETTINGS_WORDS: usize = 8;
@@ -66,6 +66,12 @@ pub struct SentWritten {
     pub refusal: u8,
     pub more: u8,
     pub queued: u8,
+}
+
+#[repr(C)]
+pub struct Made {
+    pub len: u64,
+    pub refusal: u8,
 }
 
 #[repr(C)]
@@ -272,6 +278,14 @@ extern "C" {
         words: *const u32,
         words_len: usize,
     ) -> u8;
+    pub fn sirmjold_ump_data_payload(
+        buf: *mut u8,
+        buf_len: usize,
+        max: usize,
+        seq: u16,
+        words: *const u32,
+        words_len: usize,
+    ) -> Made;
     pub fn sirmjold_retransmit_request_write(
         p: *mut u64,
         p_len: usize,

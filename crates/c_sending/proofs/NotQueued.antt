@@ -15,8 +15,7 @@ use Rattle.stream.specs.declared.sending.SentAndWrote.{SentAndWrote}
 use Rattle.stream.specs.declared.stream.DataStream.{DataStream}
 use Rattle.stream.proofs.Both.{both-refused, both-accepted}
 use Rattle.c_state.specs.Stream.{fits, loaded, stored}
-use Rattle.c_state.specs.Theorems.{Wide}
-use Rattle.c_state.proofs.StoredBack.{stream-same}
+use Rattle.c_state.proofs.Streams.{stream-same}
 use Rattle.c_words.specs.Settings.{readyNumber, settingsOf}
 use Rattle.c_words.specs.Payload.{payloadFits, payloadIn, payloadWords}
 use Rattle.c_words.proofs.Guards.{by-number, ready-fits}
@@ -39,14 +38,14 @@ module _ (st ws p b ring : List ℕ) where
       by (Refused why) e = rw (both-refused d cfg ring ws why e time x b) (λ _. (same, whole, refl, refl))
       by Done e = rw (both-accepted d cfg ring ws e time x b) (λ (k : _≡_ {A = ℕ} 1 0). absurd (let z : ⊥ = omega arith in z))
 
-  kept : (cfg : List ℕ) (time : ℕ) → Wide st → Same (sendAndWriteExport st cfg time ws p b ring)
+  kept : (cfg : List ℕ) (time : ℕ) → Same (sendAndWriteExport st cfg time ws p b ring)
   unfolding sendAndWriteExport
-  kept cfg time wide =
+  kept cfg time =
       by-number (readyNumber cfg (fits st && payloadFits p)) _ _ Same
       (λ z.
       let f = ready-fits cfg (fits st && payloadFits p) z in
-      sent-same (payloadIn p) (payload-same p (and-right (fits st) (payloadFits p) f)) (loaded st) (settingsOf cfg) time (stream-same st wide (and-left (fits st) (payloadFits p) f)))
+      sent-same (payloadIn p) (payload-same p (and-right (fits st) (payloadFits p) f)) (loaded st) (settingsOf cfg) time (stream-same st (and-left (fits st) (payloadFits p) f)))
       (λ _. (refl, refl, refl, refl))
 
 pub not-queued-keeps : NotQueuedKeeps
-not-queued-keeps = record { kept = λ st cfg time ws p b ring wide. kept st ws p b ring cfg time wide }
+not-queued-keeps = record { kept = λ st cfg time ws p b ring. kept st ws p b ring cfg time }

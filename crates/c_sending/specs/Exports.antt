@@ -7,7 +7,6 @@ use mathlib.Core.List.{List}
 use Rattle.stream.specs.Sending.{sendAndWriteAnswer}
 use Rattle.stream.specs.declared.sending.SentAndWrote.{SentAndWrote}
 use Rattle.c_state.specs.Stream.{fits, loaded, stored}
-use Rattle.c_state.specs.Theorems.{Wide}
 use Rattle.c_words.specs.Guard.{guarded}
 use Rattle.c_words.specs.Settings.{readyNumber, settingsOf}
 use Rattle.c_words.specs.Payload.{payloadFits, payloadIn, payloadWords}
@@ -23,8 +22,7 @@ sendAndWriteExport st cfg time ws p b ring =
     guarded (readyNumber cfg (fits st && payloadFits p)) (λ n. (sentWrittenRefused n, st, p, b, ring))
     (sentWroteInto (sendAndWriteAnswer (loaded st) (settingsOf cfg) time ws (payloadIn p) b ring))
 
--- Where no words were queued, all that was lent is as it was: the call was refused by its tests or by those of the queueing. A stream's words are stored as they were where they
--- have 64 bits.
+-- Where no words were queued, all that was lent is as it was: the call was refused by its tests or by those of the queueing.
 pub record NotQueuedKeeps : Type 0 where
-  pub kept : (st cfg : List ℕ) (time : ℕ) (ws p b ring : List ℕ) → Wide st → let e = sendAndWriteExport st cfg time ws p b ring in
+  pub kept : (st cfg : List ℕ) (time : ℕ) (ws p b ring : List ℕ) → let e = sendAndWriteExport st cfg time ws p b ring in
       e .0 .queued ≡ 0 → (e .1 ≡ st) × (e .2 ≡ p) × (e .3 ≡ b) × (e .4 ≡ ring)

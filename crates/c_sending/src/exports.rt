@@ -25,6 +25,8 @@ pub extern "C" fn sirmjold_stream_send_and_write(
     let number = guard::ready(cfg, guard::both(state::fits(&s[..]), payload::fits(&p[..])));
     if number == 0 {
         let before = state::load(&s[..]);
+        let asking = before.receiver;
+        let due = asking.request_due;
         let done = before.send_and_write(
             settings::load(cfg),
             time,
@@ -36,7 +38,7 @@ pub extern "C" fn sirmjold_stream_send_and_write(
         let stream = done.stream;
         let written = done.payload;
         let answer = done.answer;
-        state::store(stream, s);
+        state::store_written(due, stream, s);
         payload::store(written, p);
         return sending::of_send_and_write(answer);
     }

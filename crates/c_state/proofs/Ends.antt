@@ -9,19 +9,19 @@ use Rattle.packet.specs.Bytes.{spliced}
 use Rattle.packet.proofs.Splice.{drop-spliced, take-before-spliced}
 use Rattle.receiver.specs.declared.receiver.Receiver.{Receiver}
 use Rattle.sender.specs.declared.sender.Sender.{Sender}
-use Rattle.c_words.proofs.Runs.{run, run-drop}
-use Rattle.c_state.specs.Stream.{streamWords, receiverFits, senderFits, fits, receiverIn, senderIn, stored, receiverWords, senderWords, pairs, receiverPart, senderPart, withReceiver, withSender}
-use Rattle.c_state.specs.Theorems.{Wide}
-use Rattle.c_state.proofs.StoredBack.{receiver-run, sender-run}
-use Rattle.c_state.proofs.Words.{receiver-known, sender-known, both-fit}
+use Rattle.c_state.specs.Receiver.{receiverWords}
+use Rattle.c_state.specs.Sender.{senderWords}
+use Rattle.c_state.specs.Stream.{streamWords, receiverFits, senderFits, fits, receiverIn, senderIn, stored, receiverPart, senderPart, withReceiver, withSender}
+use Rattle.c_state.proofs.Senders.{length-sender}
+use Rattle.c_state.proofs.Streams.{receiver-known, sender-known, both-fit, receiver-part-same, sender-part-same}
 
 -- ---- words that fit
 module _ (ws : List ℕ) where
   pub receiver-whole : receiverFits ws ≡ true → length ws ≡ streamWords
-  receiver-whole e = receiver-known ws e .whole
+  receiver-whole e = receiver-known ws e .0
 
   pub sender-whole : senderFits ws ≡ true → length ws ≡ streamWords
-  sender-whole e = sender-known ws e .whole
+  sender-whole e = sender-known ws e .0
 
   pub both-receiver : fits ws ≡ true → receiverFits ws ≡ true
   both-receiver e = both-fit ws e .0
@@ -39,40 +39,25 @@ module _ (ws : List ℕ) (l : length ws ≡ streamWords) where
   sender-stays r = drop-spliced ws 0 (receiverWords r) (omega arith)
 
   pub receiver-stays : (s : Sender) → receiverPart (withSender ws s) ≡ receiverPart ws
-  unfolding senderWords pairs
-  receiver-stays s = take-before-spliced ws 12 (senderWords s) (omega arith)
+  receiver-stays s = take-before-spliced ws 7 (senderWords s) (omega (arith, length-sender s))
 
   -- the words after a call, end to end
-  receiver-first : (r : Receiver) → withReceiver ws r ≡ receiverWords r ++ drop 12 ws
+  receiver-first : (r : Receiver) → withReceiver ws r ≡ receiverWords r ++ drop 7 ws
   unfolding spliced receiverWords
   receiver-first r = refl
 
-  sender-last : (s : Sender) → withSender ws s ≡ take 12 ws ++ senderWords s
-  unfolding spliced senderWords pairs
+  sender-last : (s : Sender) → withSender ws s ≡ take 7 ws ++ senderWords s
+  unfolding spliced
   sender-last s =
-      let h : length ws ≤ 12 + 23 = omega arith in
-      rw (drop-of-length-le ws h) (append-nil (take 12 ws ++ senderWords s))
-
-  -- from the front, and to the back
-  run-front : run ws 0 12 ≡ take 12 ws
-  run-front =
-      let g : 0 + 12 ≤ length ws = omega arith in
-      ap (take 12) (run-drop ws 0 12 g)
-
-  run-back : run ws 12 23 ≡ drop 12 ws
-  run-back =
-      let h : length ws ≤ 12 + 23 = omega arith in
-      let g : 12 + 23 ≤ length ws = omega arith in
-      sym (append-nil (run ws 12 23)) ∙ ap (λ (x : List ℕ). run ws 12 23 ++ x) (sym (drop-of-length-le ws h)) ∙ run-drop ws 12 23 g
+      let k = length-sender s in
+      let h : length ws ≤ 7 + length (senderWords s) = omega arith in
+      rw (drop-of-length-le ws h) (append-nil (take 7 ws ++ senderWords s))
 
 module _ (ws : List ℕ) (all : fits ws ≡ true) where
-  whole : length ws ≡ streamWords
-  whole = sender-whole ws (both-sender ws all)
-
-  pub receiver-stored : Wide ws → (r : Receiver) → withReceiver ws r ≡ stored record { sender = senderIn ws; receiver = r }
+  pub receiver-stored : (r : Receiver) → withReceiver ws r ≡ stored record { sender = senderIn ws; receiver = r }
   unfolding stored
-  receiver-stored wide r = receiver-first ws whole r ∙ ap (λ (x : List ℕ). receiverWords r ++ x) (sym (run-back ws whole) ∙ sym (sender-run ws wide (both-sender ws all)))
+  receiver-stored r = receiver-first ws (both-whole ws all) r ∙ ap (λ (x : List ℕ). receiverWords r ++ x) (sym (sender-part-same ws (both-sender ws all)))
 
   pub sender-stored : (s : Sender) → withSender ws s ≡ stored record { sender = s; receiver = receiverIn ws }
   unfolding stored
-  sender-stored s = sender-last ws whole s ∙ ap (λ (x : List ℕ). x ++ senderWords s) (sym (run-front ws whole) ∙ sym (receiver-run ws (both-receiver ws all)))
+  sender-stored s = sender-last ws (both-whole ws all) s ∙ ap (λ (x : List ℕ). x ++ senderWords s) (sym (receiver-part-same ws (both-receiver ws all)))

@@ -1,6 +1,15 @@
--- Laws that this crate's proofs cite; StoredBack and Ends are those that the crates above cite too.
-mod Words
-mod RoundTrip
-pub mod StoredBack
-mod Ranges
+-- Laws that this crate's proofs and those of the crates above cite.
+pub mod Packed
+pub mod Parts
+mod Requests
+mod Receivers
+mod Senders
+pub mod Streams
 pub mod Ends
+mod Choices
+mod ReceiverSizes
+mod Hearings
+mod SenderSizes
+pub mod Narrow
+pub mod Unchanged
+mod Figures

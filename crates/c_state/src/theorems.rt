@@ -1,5 +1,5 @@
 // Theorems as contracts: each function does nothing, and its contract is the theorem.
-ghost use Rattle.c_state.specs.Theorems.{LoadsBack, StoresBack, StoredFits};
+ghost use Rattle.c_state.specs.Theorems.{LoadsBack, StoresBack, StoredFits, LeftNarrow};
 
 // A stream that is stored and loaded is the same stream.
 pub fn loads_back()
@@ -14,4 +14,9 @@ pub fn stores_back()
 // Words that are stored are taken for a stream.
 pub fn stored_fits()
     ensures { λ _. ⌜ StoredFits ⌝ }
+{}
+
+// No call leaves a stream that has no words.
+pub fn left_narrow()
+    ensures { λ _. ⌜ LeftNarrow ⌝ }
 {}

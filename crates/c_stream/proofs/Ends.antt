@@ -16,7 +16,6 @@ use Rattle.c_words.specs.Guard.{fitNumber}
 use Rattle.c_words.specs.Payload.{payloadFits}
 use Rattle.c_words.specs.Settings.{settingsNumber, readyNumber}
 use Rattle.c_state.specs.Stream.{streamWords, receiverFits, senderFits, fits, loaded, receiverPart, senderPart}
-use Rattle.c_state.specs.Theorems.{Wide}
 use Rattle.c_stream.specs.Theorems.{OtherEnd, WholeStream}
 use Rattle.c_words.proofs.Guards.{by-number, guarded-made, fit-true, ready-fits, ready-of}
 use Rattle.c_state.proofs.Ends.{receiver-whole, sender-whole, both-receiver, both-sender, sender-stays, receiver-stays, receiver-stored, sender-stored}
@@ -42,7 +41,7 @@ module _ (st : List ℕ) where
             (λ z. sender-stays st (receiver-whole st (and-left (receiverFits st) (payloadFits p) (ready-fits cfg (receiverFits st && payloadFits p) z))) _) refl;
       }
 
-  module _ (wide : Wide st) (all : fits st ≡ true) where
+  module _ (all : fits st ≡ true) where
     receiver-ready : (cfg : List ℕ) → settingsNumber cfg ≡ 0 → readyNumber cfg (receiverFits st) ≡ 0
     receiver-ready cfg s = ready-of cfg (receiverFits st) s (both-receiver st all)
 
@@ -58,9 +57,9 @@ module _ (st : List ℕ) where
         record {
           send = λ cfg ring ws s. guarded-made _ _ _ (sender-ready cfg s) ∙ rw (sender-stored st all);
           request = λ cfg ring seq count s. guarded-made _ _ _ (sender-ready cfg s) ∙ rw (sender-stored st all);
-          hear = λ cfg time seq s. guarded-made _ _ _ (receiver-ready cfg s) ∙ rw (receiver-stored st all wide);
-          error = λ reason seq. guarded-made _ _ _ fit-number ∙ rw (receiver-stored st all wide);
-          nak = guarded-made _ _ _ fit-number ∙ rw (receiver-stored st all wide);
-          poll = λ cfg time s. guarded-made _ _ _ (receiver-ready cfg s) ∙ rw (receiver-stored st all wide);
-          take = λ cfg p b s two. guarded-made _ _ _ (ready-of cfg (receiverFits st && payloadFits p) s (and-both (both-receiver st all) two)) ∙ rw (receiver-stored st all wide);
+          hear = λ cfg time seq s. guarded-made _ _ _ (receiver-ready cfg s) ∙ rw (receiver-stored st all);
+          error = λ reason seq. guarded-made _ _ _ fit-number ∙ rw (receiver-stored st all);
+          nak = guarded-made _ _ _ fit-number ∙ rw (receiver-stored st all);
+          poll = λ cfg time s. guarded-made _ _ _ (receiver-ready cfg s) ∙ rw (receiver-stored st all);
+          take = λ cfg p b s two. guarded-made _ _ _ (ready-of cfg (receiverFits st && payloadFits p) s (and-both (both-receiver st all) two)) ∙ rw (receiver-stored st all);
         }

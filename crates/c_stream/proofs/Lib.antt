@@ -1,5 +1,7 @@
 -- Laws that this crate's proofs cite.
 mod Started
+mod Places
+mod Stays
 mod Ends
 mod Emptiness
 mod Refusals

@@ -60,7 +60,6 @@ use Rattle.c_words.specs.Settings.{readyNumber, settingsOf}
 use Rattle.c_words.specs.Payload.{payloadFits, payloadIn, payloadWords}
 use Rattle.c_answers.specs.Answers.{deliveryOf, outcomeOf, eventOf, requestOf, writtenOf}
 use Rattle.c_stream.specs.Exports.{startedInto as streamInto, newExport, resetExport, sendExport, requestExport, dataExport, errorExport, nakExport, pollExport, takeExport, writeExport}
-use Rattle.c_state.specs.Theorems.{Wide}
 use Rattle.c_answers.specs.declared.answers.CDelivery.{CDelivery}
 use Rattle.c_answers.specs.declared.answers.COutcome.{COutcome}
 use Rattle.c_answers.specs.declared.answers.CEvent.{CEvent}
@@ -70,7 +69,7 @@ use Rattle.c_words.proofs.Guards.{either, by-number, guarded-made, fit-true, re
 use Rattle.c_words.proofs.Kept.{Kept, KeptOne, KeptTwo, itself, as-was, done, by-test, by-state, by-entry, guard-keeps, payload-same}
 use Rattle.c_stream.proofs.Emptiness.{Since, as-before, not-empty, some-after, Tried, wrote, large, tried-since, written-tried}
 use Rattle.c_state.proofs.Ends.{both-receiver}
-use Rattle.c_state.proofs.StoredBack.{receiver-same, sender-same, stream-same}
+use Rattle.c_state.proofs.Streams.{receiver-same, sender-same, stream-same}
 
 -- ---- the receiver's calls
 module _ (st : List ℕ) where
@@ -186,32 +185,31 @@ module _ (st ring : List ℕ) where
         (by-test (notWritten s (r .seq)) _ _ (λ _. done refl)
         (record { kept = pushed-kept s r .kept })))
 
-  module _ (wide : Wide st) where
-    pub send-keeps : (cfg ws : List ℕ) → KeptTwo itself st ring (sendExport st cfg ring ws)
-    unfolding sendExport sendAnswer loaded
-    send-keeps cfg ws =
-        guard-keeps _ _ (λ (e : Sent × List ℕ). (outcomeNumber (e .0 .answer), withSender st (e .0 .sender), e .1)) _ _ (sender.sendAnswer (senderIn st) (settingsOf cfg) ring ws)
-        (λ z. sent-kept (senderIn st) (settingsOf cfg) (sender-same st wide (ready-fits cfg (senderFits st) z)) ws) (refl, refl)
+  pub send-keeps : (cfg ws : List ℕ) → KeptTwo itself st ring (sendExport st cfg ring ws)
+  unfolding sendExport sendAnswer loaded
+  send-keeps cfg ws =
+      guard-keeps _ _ (λ (e : Sent × List ℕ). (outcomeNumber (e .0 .answer), withSender st (e .0 .sender), e .1)) _ _ (sender.sendAnswer (senderIn st) (settingsOf cfg) ring ws)
+      (λ z. sent-kept (senderIn st) (settingsOf cfg) (sender-same st (ready-fits cfg (senderFits st) z)) ws) (refl, refl)
 
-    pub request-keeps : (cfg : List ℕ) (seq count : ℕ) → KeptOne (λ (a : COutcome). a .refusal) st (requestExport st cfg ring seq count)
-    unfolding requestExport requestAnswer loaded
-    request-keeps cfg seq count =
-        guard-keeps _ _ (λ (e : RequestHeard). (outcomeOf (e .outcome), withSender st (e .sender))) _ _
-        (sender.requestAnswer (senderIn st) (settingsOf cfg) ring record { seq = seq; count = count })
-        (λ z. requested-kept (senderIn st) (settingsOf cfg) (sender-same st wide (ready-fits cfg (senderFits st) z)) record { seq = seq; count = count }) refl
+  pub request-keeps : (cfg : List ℕ) (seq count : ℕ) → KeptOne (λ (a : COutcome). a .refusal) st (requestExport st cfg ring seq count)
+  unfolding requestExport requestAnswer loaded
+  request-keeps cfg seq count =
+      guard-keeps _ _ (λ (e : RequestHeard). (outcomeOf (e .outcome), withSender st (e .sender))) _ _
+      (sender.requestAnswer (senderIn st) (settingsOf cfg) ring record { seq = seq; count = count })
+      (λ z. requested-kept (senderIn st) (settingsOf cfg) (sender-same st (ready-fits cfg (senderFits st) z)) record { seq = seq; count = count }) refl
 
-    abbrev ResetKept : WasReset × List ℕ → Type 0
-    ResetKept = Kept (λ (e : WasReset × List ℕ). outcomeNumber (e .0 .answer)) (λ (e : WasReset × List ℕ). (stored (e .0 .stream) ≡ st) × (e .1 ≡ ring))
+  abbrev ResetKept : WasReset × List ℕ → Type 0
+  ResetKept = Kept (λ (e : WasReset × List ℕ). outcomeNumber (e .0 .answer)) (λ (e : WasReset × List ℕ). (stored (e .0 .stream) ≡ st) × (e .1 ≡ ring))
 
-    was-reset-kept : stored (loaded st) ≡ st → ResetKept (resetAnswer (loaded st) ring)
-    unfolding resetAnswer
-    was-reset-kept same = by-state (streamValid (loaded st) ring) (resetRefused (loaded st) ring) _ (λ why. as-was (same, refl)) (done refl)
+  was-reset-kept : stored (loaded st) ≡ st → ResetKept (resetAnswer (loaded st) ring)
+  unfolding resetAnswer
+  was-reset-kept same = by-state (streamValid (loaded st) ring) (resetRefused (loaded st) ring) _ (λ why. as-was (same, refl)) (done refl)
 
-    pub reset-keeps : KeptTwo itself st ring (resetExport st ring)
-    unfolding resetExport
-    reset-keeps =
-        guard-keeps _ _ (λ (e : WasReset × List ℕ). (outcomeNumber (e .0 .answer), stored (e .0 .stream), e .1)) _ _ (resetAnswer (loaded st) ring)
-        (λ z. was-reset-kept (stream-same st wide (fit-true _ z))) (refl, refl)
+  pub reset-keeps : KeptTwo itself st ring (resetExport st ring)
+  unfolding resetExport
+  reset-keeps =
+      guard-keeps _ _ (λ (e : WasReset × List ℕ). (outcomeNumber (e .0 .answer), stored (e .0 .stream), e .1)) _ _ (resetAnswer (loaded st) ring)
+      (λ z. was-reset-kept (stream-same st (fit-true _ z))) (refl, refl)
 
 -- ---- a start
 module _ (st ring : List ℕ) where
@@ -359,14 +357,14 @@ module _ (st p b ring : List ℕ) where
           by-request (checkOf cfg) (receiverValid (d .receiver)) (senderValid (d .sender) ring) (payloadValid x (length b)) _ _
           (request-same _ (taking (d .receiver) x b cfg)) n
 
-  module _ (cfg : List ℕ) (time : ℕ) (wide : Wide st) where
+  module _ (cfg : List ℕ) (time : ℕ) where
     pub write-keeps : WriteKept (writeExport st cfg time p b ring)
     unfolding writeExport
     write-keeps =
         guard-keeps _ _ (λ (e : Wrote × List ℕ × List ℕ). (writtenOf (e .0 .answer), stored (e .0 .stream), payloadWords (e .0 .payload), e .1, e .2)) _ _
         (writeAnswer (loaded st) (settingsOf cfg) time (payloadIn p) b ring)
         (λ z. let f = ready-fits cfg (fits st && payloadFits p) z in
-        wrote-kept (payloadIn p) (payload-same p (and-right (fits st) (payloadFits p) f)) (loaded st) (settingsOf cfg) time (stream-same st wide (and-left (fits st) (payloadFits p) f)))
+        wrote-kept (payloadIn p) (payload-same p (and-right (fits st) (payloadFits p) f)) (loaded st) (settingsOf cfg) time (stream-same st (and-left (fits st) (payloadFits p) f)))
         (refl, refl, λ g. (refl, refl, refl, refl))
 
     pub write-request-keeps : (takeExport st cfg p b .0 .refusal ≡ 0 → ⊥) → WriteSame (writeExport st cfg time p b ring)
@@ -378,6 +376,6 @@ module _ (st p b ring : List ℕ) where
         let whole = and-left (fits st) (payloadFits p) f in
         let two = and-right (fits st) (payloadFits p) f in
         let z = ready-of cfg (receiverFits st && payloadFits p) (ready-settings cfg (fits st && payloadFits p) e) (and-both (both-receiver st whole) two) in
-        wrote-same (payloadIn p) (payload-same p two) (loaded st) (settingsOf cfg) time (stream-same st wide whole)
+        wrote-same (payloadIn p) (payload-same p two) (loaded st) (settingsOf cfg) time (stream-same st whole)
         (λ k. n (ap (λ (a : CRequest × List ℕ × List ℕ × List ℕ). a .0 .refusal) (guarded-made (readyNumber cfg (receiverFits st && payloadFits p)) _ _ z) ∙ k)))
         (refl, refl, refl, refl)

@@ -11,7 +11,6 @@ use Rattle.c_words.specs.Payload.{payloadFits, payloadIn, payloadWords}
 use Rattle.c_words.specs.Settings.{settingsNumber, settingsOf}
 use Rattle.c_stream.specs.Exports.{newExport, resetExport, sendExport, requestExport, dataExport, errorExport, nakExport, pollExport, takeExport, writeExport}
 use Rattle.c_state.specs.Stream.{fits, loaded, receiverPart, senderPart, stored}
-use Rattle.c_state.specs.Theorems.{Wide}
 
 -- a call of one end, refused or not, leaves the words of the other
 pub record OtherEnd (st : List ℕ) : Type 0 where
@@ -41,26 +40,25 @@ pub record WholeStream (st : List ℕ) : Type 0 where
 
 pub record OneEnd : Type 0 where
   pub other : (st : List ℕ) → OtherEnd st
-  pub whole : (st : List ℕ) → Wide st → fits st ≡ true → WholeStream st
+  pub whole : (st : List ℕ) → fits st ≡ true → WholeStream st
 
 -- A call whose number is not 0 leaves all that was lent to it as it was. There is a field for each C function that changes what is lent. Of a write by number 3 there is less
 -- to say, 01's one refusal that changes something: the payload's words and bytes are as they were; and so is all that was lent where the due request is what does not fit.
--- The sender's words are stored as they were where they have 64 bits.
 pub record RefusedKeeps : Type 0 where
   -- a stream's words, and the history
   pub start : (st cfg : List ℕ) (window places : ℕ) (ring : List ℕ) → let e = newExport st cfg window places ring in (e .0 ≡ 0 → ⊥) → (e .1 ≡ st) × (e .2 ≡ ring)
-  pub reset : (st ring : List ℕ) → Wide st → let e = resetExport st ring in (e .0 ≡ 0 → ⊥) → (e .1 ≡ st) × (e .2 ≡ ring)
-  pub send : (st cfg ring ws : List ℕ) → Wide st → let e = sendExport st cfg ring ws in (e .0 ≡ 0 → ⊥) → (e .1 ≡ st) × (e .2 ≡ ring)
-  pub request : (st cfg ring : List ℕ) (seq count : ℕ) → Wide st → let e = requestExport st cfg ring seq count in (e .0 .refusal ≡ 0 → ⊥) → e .1 ≡ st
+  pub reset : (st ring : List ℕ) → let e = resetExport st ring in (e .0 ≡ 0 → ⊥) → (e .1 ≡ st) × (e .2 ≡ ring)
+  pub send : (st cfg ring ws : List ℕ) → let e = sendExport st cfg ring ws in (e .0 ≡ 0 → ⊥) → (e .1 ≡ st) × (e .2 ≡ ring)
+  pub request : (st cfg ring : List ℕ) (seq count : ℕ) → let e = requestExport st cfg ring seq count in (e .0 .refusal ≡ 0 → ⊥) → e .1 ≡ st
   pub hear : (st cfg : List ℕ) (time seq : ℕ) → let e = dataExport st cfg time seq in (e .0 .refusal ≡ 0 → ⊥) → e .1 ≡ st
   pub error : (st : List ℕ) (reason seq : ℕ) → let e = errorExport st reason seq in (e .0 .refusal ≡ 0 → ⊥) → e .1 ≡ st
   pub nak : (st : List ℕ) → let e = nakExport st in (e .0 .refusal ≡ 0 → ⊥) → e .1 ≡ st
   pub poll : (st cfg : List ℕ) (time : ℕ) → let e = pollExport st cfg time in (e .0 .refusal ≡ 0 → ⊥) → e .1 ≡ st
   -- and a payload's words and bytes
   pub take : (st cfg p b : List ℕ) → let e = takeExport st cfg p b in (e .0 .refusal ≡ 0 → ⊥) → (e .1 ≡ st) × (e .2 ≡ p) × (e .3 ≡ b)
-  pub write : (st cfg : List ℕ) (time : ℕ) (p b ring : List ℕ) → Wide st → let e = writeExport st cfg time p b ring in
+  pub write : (st cfg : List ℕ) (time : ℕ) (p b ring : List ℕ) → let e = writeExport st cfg time p b ring in
       (e .0 .refusal ≡ 0 → ⊥) → (e .0 .refusal ≡ 3 → ⊥) → (e .1 ≡ st) × (e .2 ≡ p) × (e .3 ≡ b) × (e .4 ≡ ring)
-  pub write-payload : (st cfg : List ℕ) (time : ℕ) (p b ring : List ℕ) → Wide st → let e = writeExport st cfg time p b ring in
+  pub write-payload : (st cfg : List ℕ) (time : ℕ) (p b ring : List ℕ) → let e = writeExport st cfg time p b ring in
       (e .0 .refusal ≡ 0 → ⊥) → (e .2 ≡ p) × (e .3 ≡ b)
-  pub write-request : (st cfg : List ℕ) (time : ℕ) (p b ring : List ℕ) → Wide st → let e = writeExport st cfg time p b ring in
+  pub write-request : (st cfg : List ℕ) (time : ℕ) (p b ring : List ℕ) → let e = writeExport st cfg time p b ring in
       (takeExport st cfg p b .0 .refusal ≡ 0 → ⊥) → (e .1 ≡ st) × (e .2 ≡ p) × (e .3 ≡ b) × (e .4 ≡ ring)

@@ -11,11 +11,11 @@ use c_answers::answers::COutcome;
 use c_answers::answers::CRequest;
 use c_answers::answers::CWants;
 use c_answers::answers::CWritten;
+use c_state::receiving;
 use c_state::state;
 use c_words::guard;
 use c_words::payload;
 use c_words::settings;
-use command::data::UmpData;
 use command::retransmit::RetransmitError;
 use command::retransmit::RetransmitRequest;
 use config::answer::Outcome;
@@ -77,14 +77,17 @@ pub extern "C" fn sirmjold_stream_send_ump(
 ) -> u8
     ensures { λ r. ⌜ (r, now (s .exit), now (ring .exit)) ≡ sendExport (now (s .entry)) (now (cfg .entry)) (now (ring .entry)) (now (words .entry)) ⌝ }
 {
-    let number = guard::ready(cfg, state::sender_fits(&s[..]));
+    let number = settings::number(cfg);
     if number == 0 {
-        let before = state::sender_in(&s[..]);
-        let done = before.send_ump(settings::load(cfg), ring, words);
-        let sender = done.sender;
-        let answer = done.answer;
-        state::store_sender(sender, s);
-        return answer.number();
+        if state::sender_fits(&s[..]) {
+            let before = state::sender_in(&s[..]);
+            let done = before.send_ump(settings::load(cfg), ring, words);
+            let sender = done.sender;
+            let answer = done.answer;
+            state::store_figures(sender, s);
+            return answer.number();
+        }
+        return guard::INVALID_STATE;
     }
     number
 }
@@ -100,15 +103,18 @@ pub extern "C" fn sirmjold_stream_on_retransmit_request(
 ) -> COutcome
     ensures { λ r. ⌜ (r, now (s .exit)) ≡ requestExport (now (s .entry)) (now (cfg .entry)) (now (ring .entry)) seq count ⌝ }
 {
-    let number = guard::ready(cfg, state::sender_fits(&s[..]));
+    let number = settings::number(cfg);
     if number == 0 {
-        let before = state::sender_in(&s[..]);
-        let req = RetransmitRequest { seq, count };
-        let done = before.on_retransmit_request(settings::load(cfg), ring, req);
-        let sender = done.sender;
-        let outcome = done.outcome;
-        state::store_sender(sender, s);
-        return answers::of_outcome(outcome);
+        if state::sender_fits(&s[..]) {
+            let before = state::sender_in(&s[..]);
+            let req = RetransmitRequest { seq, count };
+            let done = before.on_retransmit_request(settings::load(cfg), ring, req);
+            let sender = done.sender;
+            let outcome = done.outcome;
+            state::store_sender(sender, s);
+            return answers::of_outcome(outcome);
+        }
+        return answers::refused_outcome(guard::INVALID_STATE);
     }
     answers::refused_outcome(number)
 }
@@ -123,14 +129,12 @@ pub extern "C" fn sirmjold_stream_on_ump_data(
 ) -> CDelivery
     ensures { λ r. ⌜ (r, now (s .exit)) ≡ dataExport (now (s .entry)) (now (cfg .entry)) time seq ⌝ }
 {
-    let number = guard::ready(cfg, state::receiver_fits(&s[..]));
+    let number = settings::number(cfg);
     if number == 0 {
-        let before = state::receiver_in(&s[..]);
-        let done = before.on_ump_data(settings::load(cfg), time, UmpData { seq });
-        let receiver = done.receiver;
-        let answer = done.answer;
-        state::store_receiver(receiver, s);
-        return answers::of_hearing(answer);
+        if state::receiver_fits(&s[..]) {
+            return answers::of_hearing(receiving::hear(settings::load(cfg), time, seq, s));
+        }
+        return answers::refused_delivery(guard::INVALID_STATE);
     }
     answers::refused_delivery(number)
 }
@@ -172,14 +176,12 @@ pub extern "C" fn sirmjold_stream_on_retransmit_nak(s: &mut [u64]) -> CEvent
 pub extern "C" fn sirmjold_stream_poll(s: &mut [u64], cfg: &[u32], time: u64) -> CEvent
     ensures { λ r. ⌜ (r, now (s .exit)) ≡ pollExport (now (s .entry)) (now (cfg .entry)) time ⌝ }
 {
-    let number = guard::ready(cfg, state::receiver_fits(&s[..]));
+    let number = settings::number(cfg);
     if number == 0 {
-        let before = state::receiver_in(&s[..]);
-        let done = before.poll(settings::load(cfg), time);
-        let receiver = done.receiver;
-        let event = done.event;
-        state::store_receiver(receiver, s);
-        return answers::of_event(event);
+        if state::receiver_fits(&s[..]) {
+            return answers::of_event(receiving::poll(settings::load(cfg), time, s));
+        }
+        return answers::refused_event(guard::INVALID_STATE);
     }
     answers::refused_event(number)
 }
@@ -247,16 +249,27 @@ pub extern "C" fn sirmjold_stream_write_data(
 ) -> CWritten
     ensures { λ r. ⌜ (r, now (s .exit), now (p .exit), now (buf .exit), now (ring .exit)) ≡ writeExport (now (s .entry)) (now (cfg .entry)) time (now (p .entry)) (now (buf .entry)) (now (ring .entry)) ⌝ }
 {
-    let number = guard::ready(cfg, guard::both(state::fits(&s[..]), payload::fits(&p[..])));
+    let number = settings::number(cfg);
     if number == 0 {
-        let before = state::load(&s[..]);
-        let done = before.write_data(settings::load(cfg), time, payload::load(&p[..]), buf, ring);
-        let stream = done.stream;
-        let written = done.payload;
-        let answer = done.answer;
-        state::store(stream, s);
-        payload::store(written, p);
-        return answers::of_writing(answer);
+        if guard::both(state::fits(&s[..]), payload::fits(&p[..])) {
+            let before = state::load(&s[..]);
+            let asking = before.receiver;
+            let due = asking.request_due;
+            let done = before.write_data(
+                settings::load(cfg),
+                time,
+                payload::load(&p[..]),
+                buf,
+                ring,
+            );
+            let stream = done.stream;
+            let written = done.payload;
+            let answer = done.answer;
+            state::store_written(due, stream, s);
+            payload::store(written, p);
+            return answers::of_writing(answer);
+        }
+        return answers::refused_written(guard::INVALID_STATE);
     }
     answers::refused_written(number)
 }

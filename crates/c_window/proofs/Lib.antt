@@ -1,3 +1,4 @@
 -- Laws that this crate's proofs cite.
 mod Windows
+mod Accepting
 mod Refusals

@@ -9,6 +9,7 @@ use lib.Dec.{leb}
 use borrow.Author.Tests.{eq-eqb, le-leb}
 use Rattle.config.specs.Refusals.{numberOf}
 use Rattle.config.specs.declared.refusal.Refusal.{Refusal}
+use Rattle.window.specs.Set.{maxWindow}
 use Rattle.window.specs.declared.window.ReceiveWindow.{ReceiveWindow}
 use Rattle.window.specs.declared.window.Started.{Started}
 use Rattle.window.specs.declared.window.Started.the-variants.{Window, Refused}
@@ -25,13 +26,13 @@ module _ (ws : List ℕ) where
   unfolding windowFits
   window-short h = not-as-many ws 4 windowLimits h
 
-  pub window-large : 4294967295 < at 0 → false ≡ windowFits ws
+  pub window-large : maxWindow < at 0 → false ≡ windowFits ws
   unfolding windowFits
   window-large g = too-large ws 4 windowLimits 0 (omega arith) g
 
-  pub window-last : length ws ≡ 4 → at 0 ≤ 4294967295 → leb (at 1) 65535 ≡ windowFits ws
+  pub window-last : length ws ≡ 4 → at 0 ≤ maxWindow → leb (at 1) 65535 ≡ windowFits ws
   unfolding windowFits within
-  window-last l a = rw (eq-eqb (length ws) 4 l, le-leb (at 0) 4294967295 a) (and-true (leb (at 1) 65535))
+  window-last l a = rw (eq-eqb (length ws) 4 l, le-leb (at 0) maxWindow a) (and-true (leb (at 1) 65535))
 
   pub window-known : windowFits ws ≡ true → Narrow ws
   unfolding windowFits

@@ -1,11 +1,16 @@
 -- 01, "Position, window, loss": a window's size, highest, bits low and high, as four words; 13 for words that are no window's.
 use mathlib.Core.Path.{_≡_}
 use Prim.Native.Nat.{ℕ, _≤_}
-use mathlib.Core.Bool.{Bool, _&&_}
+use mathlib.Core.Bool.{Bool, true, false, _&&_}
 use mathlib.Core.List.{List, [], _∷_}
 use lib.ListN.{length, getD}
-use Rattle.window.specs.Answers.{acceptAnswer, startAnswer}
+use Rattle.window.specs.Set.{maxWindow}
+use Rattle.window.specs.Answers.{heard, acceptAnswer, startAnswer}
 use Rattle.window.specs.declared.window.ReceiveWindow.{ReceiveWindow}
+use Rattle.window.specs.declared.window.Class.{Class}
+use Rattle.window.specs.declared.window.Class.the-variants.{New, Late, Duplicate}
+use Rattle.window.specs.declared.window.Arrival.{Arrival}
+use Rattle.window.specs.declared.window.Acceptance.{Acceptance}
 use Rattle.window.specs.declared.window.Accepted.{Accepted}
 use Rattle.window.specs.declared.window.Started.{Started}
 use Rattle.window.specs.declared.window.Started.the-variants.{Window, Refused}
@@ -19,9 +24,9 @@ use Rattle.c_answers.specs.declared.answers.CDelivery.{CDelivery}
 abbrev at : List ℕ → ℕ → ℕ
 at ws k = getD ws k 0
 
--- the words that take less than 64 bits, and the largest value of each
+-- the words that take less than 64 bits, and the largest value of each: a size, and a number
 abbrev pub windowLimits : List (ℕ × ℕ)
-windowLimits = (0, 4294967295) ∷ (1, 65535) ∷ []
+windowLimits = (0, maxWindow) ∷ (1, 65535) ∷ []
 
 unfoldable pub windowFits : List ℕ → Bool
 windowFits ws = eqb (length ws) 4 && within windowLimits ws
@@ -29,7 +34,7 @@ windowFits ws = eqb (length ws) 4 && within windowLimits ws
 -- words that fit
 pub record Narrow (ws : List ℕ) : Type 0 where
   pub whole : length ws ≡ 4
-  pub size : at ws 0 ≤ 4294967295
+  pub size : at ws 0 ≤ maxWindow
   pub highest : at ws 1 ≤ 65535
 
 abbrev pub windowAt : List ℕ → ReceiveWindow
@@ -37,6 +42,18 @@ windowAt ws = record { size = at ws 0; highest = at ws 1; bits = record { low = 
 
 abbrev pub windowWords : ReceiveWindow → List ℕ
 windowWords w = w .size ∷ w .highest ∷ w .bits .low ∷ w .bits .high ∷ []
+
+-- the answer to a number, and the words of the window after it
+abbrev pub acceptedAs : Accepted → Acceptance × List ℕ
+acceptedAs e = (e .answer, windowWords (e .window))
+
+abbrev pub takenInto : Arrival → Acceptance × List ℕ
+takenInto t = acceptedAs (heard t)
+
+abbrev pub isDuplicate : Class → Bool
+isDuplicate (New gap) = false
+isDuplicate Late = false
+isDuplicate Duplicate = true
 
 abbrev acceptedInto : Accepted → CDelivery × List ℕ
 acceptedInto e = (acceptanceOf (e .answer), windowWords (e .window))

@@ -48,6 +48,17 @@ passed : (s : StreamConfig) (n : ℕ) → tested (checkOf s) numberOf n ≡ 0 �
 unfolding checkOf
 passed s n e = passed-by (outside 1 64 (s .«max_command_words»)) (outside 1 300 (s .«idle_interval_ms»)) (eqb (s .«idle_growth») 0) n e
 
+passes-by : (size interval growth : Bool) (n : ℕ)
+    → let t = cond size (Refused CommandWords) (cond interval (Refused IdleInterval) (cond growth (Refused IdleGrowth) Done)) in tested t numberOf n ≡ 0 → t ≡ Done
+passes-by true interval growth n e = absurd (let z : ⊥ = omega arith in z)
+passes-by false true growth n e = absurd (let z : ⊥ = omega arith in z)
+passes-by false false true n e = absurd (let z : ⊥ = omega arith in z)
+passes-by false false false n e = refl
+
+passes : (s : StreamConfig) (n : ℕ) → tested (checkOf s) numberOf n ≡ 0 → checkOf s ≡ Done
+unfolding checkOf
+passes s n e = passes-by (outside 1 64 (s .«max_command_words»)) (outside 1 300 (s .«idle_interval_ms»)) (eqb (s .«idle_growth») 0) n e
+
 module _ (ws : List ℕ) where
   abbrev at : ℕ → ℕ
   at k = getD ws k 0
@@ -75,5 +86,12 @@ module _ (ws : List ℕ) where
     | inl z ↦
         let s = within-at settingsLimits ws (fit-true _ (passed (settingsOf ws) _ (rw z at e))) in
         record { whole = eqb-true (length ws) 8 z; further = s 0 (omega arith); repeats = s 1 (omega arith); requests = s 3 (omega arith) }
+    | inr z ↦ let f : _≡_ {A = ℕ} 13 0 = rw z at e in absurd (let y : ⊥ = omega arith in y)
+  ]
+
+  pub settings-passed : settingsNumber ws ≡ 0 → checkOf (settingsOf ws) ≡ Done
+  unfolding settingsNumber
+  settings-passed e = elim (split (eqb (length ws) 8)) [
+    | inl z ↦ passes (settingsOf ws) _ (rw z at e)
     | inr z ↦ let f : _≡_ {A = ℕ} 13 0 = rw z at e in absurd (let y : ⊥ = omega arith in y)
   ]

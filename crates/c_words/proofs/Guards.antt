@@ -91,6 +91,22 @@ module _ (cfg : List ℕ) (t fit : Bool) (n : ℕ) (e : t ≡ fit) (r : n ≡ re
     pub ready-refused : (n ≡ 0 → ⊥) → x ≡ refuse n → x ≡ guarded (readyNumber cfg fit) refuse go
     ready-refused = refused refuse go x n (readyNumber cfg fit) number-is
 
+-- the settings' number n first
+module _ {A : Type 0} (cfg : List ℕ) (fit : Bool) (n : ℕ) (s : n ≡ settingsNumber cfg) (refuse : ℕ → A) (go x : A) where
+  pub settings-refused : (n ≡ 0 → ⊥) → x ≡ refuse n → x ≡ guarded (readyNumber cfg fit) refuse go
+  unfolding readyNumber guarded
+  settings-refused z h = rw (← s, ne-eqb n 0 z, ne-eqb n 0 z) h
+
+  -- and then the test t
+  module _ (t : Bool) (e : t ≡ fit) (z : n ≡ 0) where
+    pub words-refused : t ≡ false → x ≡ refuse 13 → x ≡ guarded (readyNumber cfg fit) refuse go
+    unfolding readyNumber guarded
+    words-refused f h = rw (← s, z, ← e, f) h
+
+    pub words-passed : t ≡ true → x ≡ go → x ≡ guarded (readyNumber cfg fit) refuse go
+    unfolding readyNumber guarded
+    words-passed f h = rw (← s, z, ← e, f) h
+
 -- with settings and a payload
 module _ (cfg : List ℕ) (t a b x y : Bool) (n : ℕ) (e : t ≡ (a && b)) (f : a ≡ x) (g : b ≡ y) (r : n ≡ readyNumber cfg t) where
   both-are : t ≡ (x && y)

@@ -45,7 +45,7 @@ pub fn is_valid(r: Receiver) -> bool
 }
 
 // All but the window as at the start.
-fn rest(refused: bool, window: ReceiveWindow) -> Receiver
+pub fn rest(refused: bool, window: ReceiveWindow) -> Receiver
     ensures { λ r. ⌜ r ≡ restOf refused window ⌝ }
 {
     Receiver {
@@ -67,7 +67,7 @@ pub fn reset(r: Receiver) -> Receiver
 }
 
 // Whether this side may ask for what is missing.
-fn enabled(r: Receiver, cfg: StreamConfig) -> bool
+pub fn enabled(r: Receiver, cfg: StreamConfig) -> bool
     ensures { λ b. ⌜ b ≡ enabledOf r cfg ⌝ }
 {
     if cfg.retransmit {
@@ -87,14 +87,14 @@ fn doubled(sent: u8) -> u64
 }
 
 // When the step after `sent` requests is due: D, 2D, 4D and on, from now.
-fn due_after(delay: u32, sent: u8, time: u64) -> u64
+pub fn due_after(delay: u32, sent: u8, time: u64) -> u64
     ensures { λ r. ⌜ r ≡ dueAfter delay sent time ⌝ }
 {
     later_by(time, (delay as u64) * doubled(sent))
 }
 
 // The numbers skipped between the old highest and a new one.
-fn gap(highest: SeqNum, class: Class) -> Span
+pub fn gap(highest: SeqNum, class: Class) -> Span
     ensures { λ r. ⌜ r ≡ gapOf highest class ⌝ }
 {
     match class {
@@ -112,7 +112,7 @@ fn gap(highest: SeqNum, class: Class) -> Span
     }
 }
 
-fn is_gap(class: Class) -> bool
+pub fn is_gap(class: Class) -> bool
     ensures { λ r. ⌜ r ≡ isGap class ⌝ }
 {
     match class {
@@ -123,7 +123,7 @@ fn is_gap(class: Class) -> bool
 }
 
 // Whether a new gap starts this timer: none runs, or the running one has made a request due.
-fn restarts_timer(timer: Timer) -> bool
+pub fn restarts_timer(timer: Timer) -> bool
     ensures { λ r. ⌜ r ≡ restarts timer ⌝ }
 {
     match timer {

@@ -179,7 +179,7 @@ module _ (s : Sender) (ring : List ℕ) (max : ℕ) (v : validOf s ring ≡ true
   join-ready ws p = let j = join-some ws p in (omega (arith, valid-unsent s ring v), j .1)
 
 -- ---- the history after words have joined passes the test
-popped-number : (k need : ℕ) (b : List ℕ) (h : SendHistory) → h .oldest < turn → popped k need b h .oldest < turn
+pub popped-number : (k need : ℕ) (b : List ℕ) (h : SendHistory) → h .oldest < turn → popped k need b h .oldest < turn
 unfolding popped popOne
 popped-number zero need b h o = o
 popped-number (suc k) need b h o = by (ltb (h .size - h .used) need) (popped-number k need b (popOne b h) (omega arith))

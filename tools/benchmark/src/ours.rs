@@ -55,7 +55,7 @@ fn commands(payload: &[u8], mut data: impl FnMut(u64, u16, &[u32], bool) -> u64)
 const REFUSED: [u64; 4] = [WINDOW as u64, 0xFFFF, u64::MAX, 1];
 
 /// The word of a stream with positions 64 to 127 of its window's set: of a window of 64 they are outside.
-const SET_HIGH: usize = 3;
+const SET_HIGH: usize = 1;
 
 /// A call of a window that makes all its tests, and is refused by the last one.
 pub fn window_tests() -> u64 {
@@ -107,16 +107,18 @@ impl Side for Ours {
     }
 
     fn write_data(buf: &mut [u8], seq: u16, words: &[u32]) -> usize {
+        let made = unsafe { raw::sirmjold_ump_data_payload(buf.as_mut_ptr(), buf.len(), LIMIT, seq, words.as_ptr(), words.len()) };
+        assert_eq!(made.refusal, 0);
+        made.len as usize
+    }
+
+    fn write_data_apart(buf: &mut [u8], seq: u16, words: &[u32]) -> usize {
         let mut p = [0; 2];
         let opened = unsafe { raw::sirmjold_payload_new(p.as_mut_ptr(), 2, LIMIT) };
         let wrote =
             unsafe { raw::sirmjold_ump_data_write(p.as_mut_ptr(), 2, buf.as_mut_ptr(), buf.len(), seq, words.as_ptr(), words.len()) };
         assert_eq!(opened | wrote, 0);
         p[0] as usize
-    }
-
-    fn write_data_apart(buf: &mut [u8], seq: u16, words: &[u32]) -> usize {
-        Self::write_data(buf, seq, words)
     }
 
     fn window() -> [u64; 4] {

@@ -476,8 +476,8 @@ pub fn rows() -> Vec<Sized> {
         row!("read a payload, 174 commands of 1 word", "payload", None, read_notes, LIMIT),
         row!("read a payload, 6 commands of up to 64 words", "payload", None, read_blocks, LIMIT),
         row!("read a payload, cut in its last command", "payload", None, read_cut, LIMIT),
-        row!("write a command, 1 word", "command", None, write_command, 1, test_payload),
-        row!("write a command, 64 words", "command", None, write_command, 64, test_payload),
+        row!("write a command, 1 word", "command", None, write_command, 1),
+        row!("write a command, 64 words", "command", None, write_command, 64),
         row!("the same steps apart, a command of 1 word", "command", None, write_command_apart, 1, test_payload),
     ];
     let kinds = ["in order", "every fourth skipped", "every fourth late", "each twice"];

@@ -1,12 +1,17 @@
--- The words are loaded, the call is made, and the words of its end are stored.
-use Rattle.c_sending.specs.Exports.{sendAndWriteExport}
+-- The words are loaded, the call is made, and what it leaves is stored, the receiver where a request was due.
+use borrow.Author.Tests.{eqb-true}
+use Rattle.c_state.specs.Theorems.{Wide}
 use Rattle.c_words.proofs.Guards.{both-settings, both-left, both-right, both-made, both-refused}
 use Rattle.c_words.proofs.Figures.{figures-small}
-use borrow.Author.Tests.{eqb-true}
-use Rattle.c_state.proofs.Ends.{both-whole}
+use Rattle.c_sending.specs.Exports.{sendAndWriteExport}
+use Rattle.c_sending.proofs.Stays.{both-narrow, both-stays}
+use native.Mathlib.Omega.{arith}
 use borrow.Author.Needs.{needs}
 use Rattle.c_sending.proofs.exports.sirmjold_stream_send_and_write.Statement.{statement}
 use Rattle.c_sending.proofs.exports.sirmjold_stream_send_and_write.Tie as tie
+
+wide : (c : tie.After-slice-known) → Wide (c .before .args .s .now)
+wide c = λ k. omega (arith, c .slice-known .given k)
 
 fits-requires : tie.Need-fits-requires
 fits-requires c κs = search needs
@@ -24,19 +29,19 @@ load-requires : tie.Need-load-requires
 load-requires c κs = both-left _ _ _ _ _ _ _ (c .before .before .before .both .ensures) (c .before .before .before .before .before .before .fits2 .ensures) (c .before .before .before .before .fits3 .ensures) (c .before .before .ready .ensures) (c .before .if1 .taken)
 
 load-requires-2 : tie.Need-load-requires-2
-load-requires-2 c κs = figures-small _ (both-settings _ _ _ _ _ _ _ (c .before .before .before .before .both .ensures) (c .before .before .before .before .before .before .before .fits2 .ensures) (c .before .before .before .before .before .fits3 .ensures) (c .before .before .before .ready .ensures) (c .before .before .if1 .taken))
+load-requires-2 c κs = figures-small _ (both-settings _ _ _ _ _ _ _ (c .before .before .before .before .before .both .ensures) (c .before .before .before .before .before .before .before .before .fits2 .ensures) (c .before .before .before .before .before .before .fits3 .ensures) (c .before .before .before .before .ready .ensures) (c .before .before .before .if1 .taken))
 
 load-requires-3 : tie.Need-load-requires-3
-load-requires-3 c κs = eqb-true _ _ (both-right _ _ _ _ _ _ _ (c .before .before .before .before .before .before .both .ensures) (c .before .before .before .before .before .before .before .before .before .fits2 .ensures) (c .before .before .before .before .before .before .before .fits3 .ensures) (c .before .before .before .before .before .ready .ensures) (c .before .before .before .before .if1 .taken))
+load-requires-3 c κs = eqb-true _ _ (both-right _ _ _ _ _ _ _ (c .before .before .before .before .before .before .before .both .ensures) (c .before .before .before .before .before .before .before .before .before .before .fits2 .ensures) (c .before .before .before .before .before .before .before .before .fits3 .ensures) (c .before .before .before .before .before .before .ready .ensures) (c .before .before .before .before .before .if1 .taken))
 
 send-and-write-requires : tie.Need-send-and-write-requires
 send-and-write-requires c κs = search needs
 
-store-requires : tie.Need-store-requires
-store-requires c κs = both-whole _ (both-left _ _ _ _ _ _ _ (c .before .before .before .before .before .before .before .before .before .before .before .before .before .before .before .before .before .both .ensures) (c .before .before .before .before .before .before .before .before .before .before .before .before .before .before .before .before .before .before .before .before .fits2 .ensures) (c .before .before .before .before .before .before .before .before .before .before .before .before .before .before .before .before .before .before .fits3 .ensures) (c .before .before .before .before .before .before .before .before .before .before .before .before .before .before .before .before .ready .ensures) (c .before .before .before .before .before .before .before .before .before .before .before .before .before .before .before .if1 .taken))
+store-written-requires : tie.Need-store-written-requires
+store-written-requires c κs = let n = both-narrow (c .before .before .before .before .before .before .before .before .before .before .before .before .before .before .before .before .before .before .before .before .before .before .before .before .before .before .before .before .before .args .s .now) (wide (c .before .before .before .before .before .before .before .before .before .before .before .before .before .before .before .before .before .before .before .before .before .before .before .before .before .before .before .before)) _ (c .before .before .before .before .before .before .before .before .before .before .before .before .before .before .load .ensures) _ _ _ _ _ _ _ _ _ (c .before .before .before .before .before .before .before .send-and-write .ensures) in (both-left _ _ _ _ _ _ _ (c .before .before .before .before .before .before .before .before .before .before .before .before .before .before .before .before .before .before .both .ensures) (c .before .before .before .before .before .before .before .before .before .before .before .before .before .before .before .before .before .before .before .before .before .fits2 .ensures) (c .before .before .before .before .before .before .before .before .before .before .before .before .before .before .before .before .before .before .before .fits3 .ensures) (c .before .before .before .before .before .before .before .before .before .before .before .before .before .before .before .before .before .ready .ensures) (c .before .before .before .before .before .before .before .before .before .before .before .before .before .before .before .before .if1 .taken), n .0, n .1, both-stays (c .before .before .before .before .before .before .before .before .before .before .before .before .before .before .before .before .before .before .before .before .before .before .before .before .before .before .before .before .before .args .s .now) _ (c .before .before .before .before .before .before .before .before .before .before .before .before .before .before .load .ensures) _ _ _ _ _ _ _ _ _ (c .before .before .before .before .before .before .before .send-and-write .ensures))
 
-store-requires-2 : tie.Need-store-requires-2
-store-requires-2 c κs = eqb-true _ _ (both-right _ _ _ _ _ _ _ (c .before .before .before .before .before .before .before .before .before .before .before .before .before .before .before .before .before .before .before .before .before .both .ensures) (c .before .before .before .before .before .before .before .before .before .before .before .before .before .before .before .before .before .before .before .before .before .before .before .before .fits2 .ensures) (c .before .before .before .before .before .before .before .before .before .before .before .before .before .before .before .before .before .before .before .before .before .before .fits3 .ensures) (c .before .before .before .before .before .before .before .before .before .before .before .before .before .before .before .before .before .before .before .before .ready .ensures) (c .before .before .before .before .before .before .before .before .before .before .before .before .before .before .before .before .before .before .before .if1 .taken))
+store-requires : tie.Need-store-requires
+store-requires c κs = eqb-true _ _ (both-right _ _ _ _ _ _ _ (c .before .before .before .before .before .before .before .before .before .before .before .before .before .before .before .before .before .before .before .before .before .before .both .ensures) (c .before .before .before .before .before .before .before .before .before .before .before .before .before .before .before .before .before .before .before .before .before .before .before .before .before .fits2 .ensures) (c .before .before .before .before .before .before .before .before .before .before .before .before .before .before .before .before .before .before .before .before .before .before .before .fits3 .ensures) (c .before .before .before .before .before .before .before .before .before .before .before .before .before .before .before .before .before .before .before .before .before .ready .ensures) (c .before .before .before .before .before .before .before .before .before .before .before .before .before .before .before .before .before .before .before .before .if1 .taken))
 
 of-send-and-write-requires : tie.Need-of-send-and-write-requires
 of-send-and-write-requires c κs = search needs
@@ -55,9 +60,7 @@ same-length-4 c = search needs
 
 returns : tie.Need-returns
 unfolding sendAndWriteExport
-returns c =
-    let q = rw (c .before .before .before .before .before .before .before .before .before .before .before .before .before .before .before .before .before .before .before .before .before .load .ensures, c .before .before .before .before .before .before .before .before .before .before .before .before .before .before .before .before .before .before .before .before .load2 .ensures, c .before .before .before .before .before .before .before .before .before .before .before .before .before .before .before .before .before .before .load3 .ensures) at (c .before .before .before .before .before .before .before .before .before .before .before .before .before .before .before .send-and-write .ensures) in
-    both-made _ _ _ _ _ _ _ (c .before .before .before .before .before .before .before .before .before .before .before .before .before .before .before .before .before .before .before .before .before .before .before .before .before .both .ensures) (c .before .before .before .before .before .before .before .before .before .before .before .before .before .before .before .before .before .before .before .before .before .before .before .before .before .before .before .before .fits2 .ensures) (c .before .before .before .before .before .before .before .before .before .before .before .before .before .before .before .before .before .before .before .before .before .before .before .before .before .before .fits3 .ensures) (c .before .before .before .before .before .before .before .before .before .before .before .before .before .before .before .before .before .before .before .before .before .before .before .before .ready .ensures) _ _ _ (c .before .before .before .before .before .before .before .before .before .before .before .before .before .before .before .before .before .before .before .before .before .before .before .if1 .taken) (rw (c .of-send-and-write .ensures, c .before .before .before .before .before .before .before .store .ensures, c .before .before .before .store2 .ensures, ← q))
+returns c = let q = rw (c .before .before .before .before .before .before .before .before .before .before .before .before .before .before .before .before .before .before .before .before .before .before .load .ensures, c .before .before .before .before .before .before .before .before .before .before .before .before .before .before .before .before .before .before .before .before .load2 .ensures, c .before .before .before .before .before .before .before .before .before .before .before .before .before .before .before .before .before .before .load3 .ensures) at (c .before .before .before .before .before .before .before .before .before .before .before .before .before .before .before .send-and-write .ensures) in both-made _ _ _ _ _ _ _ (c .before .before .before .before .before .before .before .before .before .before .before .before .before .before .before .before .before .before .before .before .before .before .before .before .before .before .both .ensures) (c .before .before .before .before .before .before .before .before .before .before .before .before .before .before .before .before .before .before .before .before .before .before .before .before .before .before .before .before .before .fits2 .ensures) (c .before .before .before .before .before .before .before .before .before .before .before .before .before .before .before .before .before .before .before .before .before .before .before .before .before .before .before .fits3 .ensures) (c .before .before .before .before .before .before .before .before .before .before .before .before .before .before .before .before .before .before .before .before .before .before .before .before .before .ready .ensures) _ _ _ (c .before .before .before .before .before .before .before .before .before .before .before .before .before .before .before .before .before .before .before .before .before .before .before .before .if1 .taken) (rw (c .of-send-and-write .ensures, c .before .before .before .before .before .before .before .store-written .ensures, c .before .before .before .store .ensures, ← q))
 
 refused-sent-written-requires : tie.Need-refused-sent-written-requires
 refused-sent-written-requires c κs = search needs
@@ -73,26 +76,4 @@ unfolding sendAndWriteExport
 returns-2 c = both-refused _ _ _ _ _ _ _ (c .before .before .before .both .ensures) (c .before .before .before .before .before .before .fits2 .ensures) (c .before .before .before .before .fits3 .ensures) (c .before .before .ready .ensures) _ _ _ (c .before .if1 .left) (rw (c .refused-sent-written .ensures))
 
 pub sirmjold-stream-send-and-write-spec : {M : Type 1} → statement M
-sirmjold-stream-send-and-write-spec =
-    tie.close
-    (tie.spec
-    fits-requires
-    fits-requires-2
-    both-requires
-    ready-requires
-    load-requires
-    load-requires-2
-    load-requires-3
-    send-and-write-requires
-    store-requires
-    store-requires-2
-    of-send-and-write-requires
-    same-length
-    same-length-2
-    same-length-3
-    same-length-4
-    returns
-    refused-sent-written-requires
-    same-length-5
-    same-length-6
-    returns-2)
+sirmjold-stream-send-and-write-spec = tie.close (tie.spec fits-requires fits-requires-2 both-requires ready-requires load-requires load-requires-2 load-requires-3 send-and-write-requires store-written-requires store-requires of-send-and-write-requires same-length same-length-2 same-length-3 same-length-4 returns refused-sent-written-requires same-length-5 same-length-6 returns-2)

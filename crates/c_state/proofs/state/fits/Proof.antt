@@ -1,6 +1,6 @@
 -- The receiver's words, then the sender's.
 use mathlib.Core.Path.{sym, _∙_}
-use Rattle.c_state.proofs.Words.{fits-sender, fits-not}
+use Rattle.c_state.proofs.Streams.{fits-sender, fits-not}
 use borrow.Author.Needs.{needs}
 use Rattle.c_state.proofs.state.fits.Statement.{statement}
 use Rattle.c_state.proofs.state.fits.Tie as tie

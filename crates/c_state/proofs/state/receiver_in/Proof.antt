@@ -1,34 +1,26 @@
--- Field by field.
+-- The receiver's part is long enough, and its flags are flags.
+use Rattle.c_state.proofs.Streams.{receiver-known, part-lengths, part-flags}
 use native.Mathlib.Omega.{arith}
-use Rattle.c_state.proofs.Words.{receiver-loaded, receiver-known}
+use borrow.Author.Needs.{needs}
 use Rattle.c_state.proofs.state.receiver_in.Statement.{statement}
 use Rattle.c_state.proofs.state.receiver_in.Tie as tie
 
-window-in-requires : tie.Need-window-in-requires
-window-in-requires c κs = receiver-known _ (c .before .pre)
+sub-load : tie.Need-sub-load
+sub-load c = search needs
 
-timer-in-requires : tie.Need-timer-in-requires
-timer-in-requires c κs = receiver-known _ (c .before .before .pre)
+part-load-start : tie.Need-part-load-start
+part-load-start c = search needs
 
-shared-slice-read-t5 : tie.Need-shared-slice-read-t5
-shared-slice-read-t5 c = omega (arith, receiver-known _ (c .before .before .before .before .pre) .whole)
+part-load-end : tie.Need-part-load-end
+part-load-end c = omega (arith, receiver-known (c .before .args .words .now) (c .before .pre) .0)
 
-shared-slice-read-t8 : tie.Need-shared-slice-read-t8
-shared-slice-read-t8 c = omega (arith, receiver-known _ (c .before .before .before .before .before .pre) .whole)
-
-asked-in-requires : tie.Need-asked-in-requires
-asked-in-requires c κs = receiver-known _ (c .before .before .before .before .before .pre)
+load-requires : tie.Need-load-requires
+load-requires c κs =
+    let ws = c .before .before .args .words .now in
+    (part-lengths ws (receiver-known ws (c .before .before .pre) .0) .0, part-flags ws (c .before .before .pre))
 
 returns : tie.Need-returns
-returns c = receiver-loaded _ _ _ _ (c .before .before .before .before .window-in .ensures) (c .before .before .before .timer-in .ensures) (c .asked-in .ensures)
+returns c = c .load .ensures
 
 pub receiver-in-spec : {M : Type 1} → statement M
-receiver-in-spec =
-    tie.close
-    (tie.spec
-    window-in-requires
-    timer-in-requires
-    shared-slice-read-t5
-    shared-slice-read-t8
-    asked-in-requires
-    returns)
+receiver-in-spec = tie.close (tie.spec sub-load part-load-start part-load-end load-requires returns)

@@ -1,34 +1,29 @@
--- Field by field.
+-- The sender's part is long enough.
+use mathlib.Core.Path.{ap, _∙_}
+use Rattle.c_state.specs.Sender.{senderOf}
+use Rattle.c_state.proofs.Parts.{rest-whole, rest-length}
+use Rattle.c_state.proofs.Streams.{sender-known}
 use native.Mathlib.Omega.{arith}
-use Rattle.c_state.proofs.Words.{sender-loaded, sender-known}
+use borrow.Author.Needs.{needs}
 use Rattle.c_state.proofs.state.sender_in.Statement.{statement}
 use Rattle.c_state.proofs.state.sender_in.Tie as tie
 
-history-in-requires : tie.Need-history-in-requires
-history-in-requires c κs = sender-known _ (c .before .pre)
+sub-load : tie.Need-sub-load
+sub-load c = omega (arith, sender-known (c .before .args .words .now) (c .before .pre) .0)
 
-queue-in-requires : tie.Need-queue-in-requires
-queue-in-requires c κs = sender-known _ (c .before .before .pre)
+part-load-start : tie.Need-part-load-start
+part-load-start c = omega (arith, sender-known (c .before .args .words .now) (c .before .pre) .0)
 
-shared-slice-read-t5 : tie.Need-shared-slice-read-t5
-shared-slice-read-t5 c = omega (arith, sender-known _ (c .before .before .before .before .pre) .whole)
+part-load-end : tie.Need-part-load-end
+part-load-end c = search needs
 
-shared-slice-read-t8 : tie.Need-shared-slice-read-t8
-shared-slice-read-t8 c = omega (arith, sender-known _ (c .before .before .before .before .before .pre) .whole)
-
-idle-in-requires : tie.Need-idle-in-requires
-idle-in-requires c κs = sender-known _ (c .before .before .before .before .before .pre)
+load-requires : tie.Need-load-requires
+load-requires c κs =
+    let ws = c .before .before .args .words .now in
+    rest-length 7 13 ws (sender-known ws (c .before .before .pre) .0)
 
 returns : tie.Need-returns
-returns c = sender-loaded _ _ _ _ (c .before .before .before .before .history-in .ensures) (c .before .before .before .queue-in .ensures) (c .idle-in .ensures)
+returns c = c .load .ensures ∙ ap senderOf (rest-whole 7 (c .before .before .before .args .words .now))
 
 pub sender-in-spec : {M : Type 1} → statement M
-sender-in-spec =
-    tie.close
-    (tie.spec
-    history-in-requires
-    queue-in-requires
-    shared-slice-read-t5
-    shared-slice-read-t8
-    idle-in-requires
-    returns)
+sender-in-spec = tie.close (tie.spec sub-load part-load-start part-load-end load-requires returns)

@@ -1,5 +1,5 @@
--- Each word is its own field.
-use Rattle.c_state.proofs.StoredBack.{receiver-same, sender-same, stream-same}
+-- The figures of a word, put together again, are the word.
+use Rattle.c_state.proofs.Streams.{receiver-same, sender-same, stream-same}
 use Rattle.c_state.proofs.theorems.stores_back.Statement.{statement}
 use Rattle.c_state.proofs.theorems.stores_back.Tie as tie
 

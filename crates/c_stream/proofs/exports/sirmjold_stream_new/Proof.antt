@@ -2,6 +2,7 @@
 use Rattle.c_stream.specs.Exports.{newExport}
 use Rattle.c_words.proofs.Guards.{made, refused, ready-settings, ready-fits}
 use Rattle.c_words.proofs.Figures.{figures-small}
+use Rattle.c_stream.proofs.Places.{new-narrow}
 use Rattle.c_stream.proofs.Started.{new-kept, new-started, new-refused}
 use borrow.Author.Needs.{needs}
 use borrow.Author.Tests.{eqb-true}
@@ -22,7 +23,10 @@ enum-told : tie.Need-enum-told
 enum-told c = search needs
 
 store-requires : tie.Need-store-requires
-store-requires c κs = eqb-true _ _ (ready-fits _ _ (sym (c .before .before .before .before .before .before .before .before .before .before .ready .ensures) ∙ c .before .before .before .before .before .before .before .before .before .if1 .taken))
+store-requires c κs = (
+  eqb-true _ _ (ready-fits _ _ (sym (c .before .before .before .before .before .before .before .before .before .before .ready .ensures) ∙ c .before .before .before .before .before .before .before .before .before .if1 .taken)),
+  new-narrow _ _ _ _ _ _ _ (c .before .before .before .before .before .before .new .ensures),
+)
 
 same-length : tie.Need-same-length
 same-length c = search needs

@@ -4,9 +4,15 @@ use Rattle.c_state.specs.Stream.{loaded}
 use Rattle.stream.specs.Ends.{errorAnswer}
 use Rattle.c_words.proofs.Guards.{then-fit, fit-made, fit-refused}
 use Rattle.c_state.proofs.Ends.{receiver-whole}
+use Rattle.c_state.specs.Theorems.{Wide}
+use Rattle.c_stream.proofs.Places.{error-narrow}
+use native.Mathlib.Omega.{arith}
 use borrow.Author.Needs.{needs}
 use Rattle.c_stream.proofs.exports.sirmjold_stream_on_retransmit_error.Statement.{statement}
 use Rattle.c_stream.proofs.exports.sirmjold_stream_on_retransmit_error.Tie as tie
+
+wide : (c : tie.After-slice-known) → Wide (c .before .args .s .now)
+wide c = λ k. omega (arith, c .slice-known .given k)
 
 receiver-fits-requires : tie.Need-receiver-fits-requires
 receiver-fits-requires c κs = search needs
@@ -18,7 +24,10 @@ on-retransmit-error-requires : tie.Need-on-retransmit-error-requires
 on-retransmit-error-requires c κs = search needs
 
 store-receiver-requires : tie.Need-store-receiver-requires
-store-receiver-requires c κs = receiver-whole _ (then-fit _ _ (c .before .before .before .before .before .before .receiver-fits .ensures) (c .before .before .before .before .before .if1 .taken))
+store-receiver-requires c κs = (
+  receiver-whole _ (then-fit _ _ (c .before .before .before .before .before .before .receiver-fits .ensures) (c .before .before .before .before .before .if1 .taken)),
+  error-narrow (c .before .before .before .before .before .before .before .before .before .args .s .now) (wide (c .before .before .before .before .before .before .before .before)) _ (c .before .before .before .receiver-in .ensures) _ _ (c .before .before .on-retransmit-error .ensures),
+)
 
 of-event-requires : tie.Need-of-event-requires
 of-event-requires c κs = search needs

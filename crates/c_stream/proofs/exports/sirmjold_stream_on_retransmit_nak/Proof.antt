@@ -4,9 +4,15 @@ use Rattle.c_state.specs.Stream.{loaded}
 use Rattle.stream.specs.Ends.{nakAnswer}
 use Rattle.c_words.proofs.Guards.{then-fit, fit-made, fit-refused}
 use Rattle.c_state.proofs.Ends.{receiver-whole}
+use Rattle.c_state.specs.Theorems.{Wide}
+use Rattle.c_stream.proofs.Places.{nak-narrow}
+use native.Mathlib.Omega.{arith}
 use borrow.Author.Needs.{needs}
 use Rattle.c_stream.proofs.exports.sirmjold_stream_on_retransmit_nak.Statement.{statement}
 use Rattle.c_stream.proofs.exports.sirmjold_stream_on_retransmit_nak.Tie as tie
+
+wide : (c : tie.After-slice-known) → Wide (c .before .args .s .now)
+wide c = λ k. omega (arith, c .slice-known .given k)
 
 receiver-fits-requires : tie.Need-receiver-fits-requires
 receiver-fits-requires c κs = search needs
@@ -18,7 +24,10 @@ on-retransmit-nak-requires : tie.Need-on-retransmit-nak-requires
 on-retransmit-nak-requires c κs = search needs
 
 store-receiver-requires : tie.Need-store-receiver-requires
-store-receiver-requires c κs = receiver-whole _ (then-fit _ _ (c .before .before .before .before .before .before .receiver-fits .ensures) (c .before .before .before .before .before .if1 .taken))
+store-receiver-requires c κs = (
+  receiver-whole _ (then-fit _ _ (c .before .before .before .before .before .before .receiver-fits .ensures) (c .before .before .before .before .before .if1 .taken)),
+  nak-narrow (c .before .before .before .before .before .before .before .before .before .args .s .now) (wide (c .before .before .before .before .before .before .before .before)) _ (c .before .before .before .receiver-in .ensures) _ (c .before .before .on-retransmit-nak .ensures),
+)
 
 of-event-requires : tie.Need-of-event-requires
 of-event-requires c κs = search needs

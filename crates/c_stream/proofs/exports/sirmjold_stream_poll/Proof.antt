@@ -1,31 +1,25 @@
--- The words are loaded, the call is made, and the words of its end are stored.
+-- Settings, then words; then the call is made on the words.
+use mathlib.Core.Path.{sym, ap, _∙_}
+use Rattle.config.specs.Settings.{checkOf}
+use Rattle.c_words.proofs.Guards.{settings-refused, words-refused, words-passed}
+use Rattle.c_words.proofs.Figures.{figures-small, settings-passed}
 use Rattle.c_stream.specs.Exports.{pollExport}
-use Rattle.c_state.specs.Stream.{loaded}
-use Rattle.stream.specs.Ends.{pollAnswer}
-use Rattle.c_words.proofs.Guards.{then-settings, then-fits, ready-made, ready-refused}
-use Rattle.c_words.proofs.Figures.{figures-small}
-use Rattle.c_state.proofs.Ends.{receiver-whole}
+use Rattle.c_stream.proofs.Stays.{told-out}
 use borrow.Author.Needs.{needs}
 use Rattle.c_stream.proofs.exports.sirmjold_stream_poll.Statement.{statement}
 use Rattle.c_stream.proofs.exports.sirmjold_stream_poll.Tie as tie
 
+number-requires : tie.Need-number-requires
+number-requires c κs = search needs
+
 receiver-fits-requires : tie.Need-receiver-fits-requires
 receiver-fits-requires c κs = search needs
 
-ready-requires : tie.Need-ready-requires
-ready-requires c κs = search needs
-
-receiver-in-requires : tie.Need-receiver-in-requires
-receiver-in-requires c κs = then-fits _ _ _ _ (c .before .before .before .receiver-fits .ensures) (c .before .before .ready .ensures) (c .before .if1 .taken)
-
 load-requires : tie.Need-load-requires
-load-requires c κs = figures-small _ (then-settings _ _ _ _ (c .before .before .before .before .receiver-fits .ensures) (c .before .before .before .ready .ensures) (c .before .before .if1 .taken))
+load-requires c κs = figures-small _ (sym (c .before .before .before .before .number .ensures) ∙ c .before .before .before .if1 .taken)
 
 poll-requires : tie.Need-poll-requires
-poll-requires c κs = search needs
-
-store-receiver-requires : tie.Need-store-receiver-requires
-store-receiver-requires c κs = receiver-whole _ (then-fits _ _ _ _ (c .before .before .before .before .before .before .before .before .receiver-fits .ensures) (c .before .before .before .before .before .before .before .ready .ensures) (c .before .before .before .before .before .before .if1 .taken))
+poll-requires c κs = (sym (c .before .before .before .receiver-fits .ensures) ∙ c .before .before .if2 .taken, ap checkOf (c .before .load .ensures) ∙ settings-passed _ (sym (c .before .before .before .before .before .before .number .ensures) ∙ c .before .before .before .before .before .if1 .taken))
 
 of-event-requires : tie.Need-of-event-requires
 of-event-requires c κs = search needs
@@ -34,8 +28,8 @@ same-length : tie.Need-same-length
 same-length c = search needs
 
 returns : tie.Need-returns
-unfolding pollExport pollAnswer loaded
-returns c = ready-made _ _ _ _ (c .before .before .before .before .before .before .before .before .before .before .before .before .receiver-fits .ensures) (c .before .before .before .before .before .before .before .before .before .before .before .ready .ensures) _ _ _ (c .before .before .before .before .before .before .before .before .before .before .if1 .taken) (rw (c .of-event .ensures, c .before .before .before .store-receiver .ensures, c .before .before .before .before .before .before .poll .ensures, c .before .before .before .before .before .before .before .before .receiver-in .ensures, c .before .before .before .before .before .before .before .load .ensures))
+unfolding pollExport
+returns c = words-passed _ _ _ (c .before .before .before .before .before .before .before .before .before .before .number .ensures) _ _ _ _ (c .before .before .before .before .before .before .before .receiver-fits .ensures) (c .before .before .before .before .before .before .before .before .before .if1 .taken) (c .before .before .before .before .before .before .if2 .taken) (told-out (c .before .before .before .before .before .before .before .before .before .before .before .before .before .args .s .now) (c .before .before .before .before .before .before .before .before .before .before .before .before .before .args .cfg .now) _ _ _ (c .before .before .before .before .before .load .ensures) _ _ (c .before .before .before .poll .ensures) (c .of-event .ensures))
 
 refused-event-requires : tie.Need-refused-event-requires
 refused-event-requires c κs = search needs
@@ -44,22 +38,15 @@ same-length-2 : tie.Need-same-length-2
 same-length-2 c = search needs
 
 returns-2 : tie.Need-returns-2
-unfolding pollExport pollAnswer loaded
-returns-2 c = ready-refused _ _ _ _ (c .before .before .before .receiver-fits .ensures) (c .before .before .ready .ensures) _ _ _ (c .before .if1 .left) (rw (c .refused-event .ensures))
+unfolding pollExport
+returns-2 c = words-refused _ _ _ (c .before .before .before .before .before .number .ensures) _ _ _ _ (c .before .before .receiver-fits .ensures) (c .before .before .before .before .if1 .taken) (c .before .if2 .left) (rw (c .refused-event .ensures))
+
+refused-event-requires-2 : tie.Need-refused-event-requires-2
+refused-event-requires-2 c κs = search needs
+
+returns-3 : tie.Need-returns-3
+unfolding pollExport
+returns-3 c = settings-refused _ _ _ (c .before .before .number .ensures) _ _ _ (c .before .if1 .left) (rw (c .refused-event2 .ensures))
 
 pub sirmjold-stream-poll-spec : {M : Type 1} → statement M
-sirmjold-stream-poll-spec =
-    tie.close
-    (tie.spec
-    receiver-fits-requires
-    ready-requires
-    receiver-in-requires
-    load-requires
-    poll-requires
-    store-receiver-requires
-    of-event-requires
-    same-length
-    returns
-    refused-event-requires
-    same-length-2
-    returns-2)
+sirmjold-stream-poll-spec = tie.close (tie.spec number-requires receiver-fits-requires load-requires poll-requires of-event-requires same-length returns refused-event-requires same-length-2 returns-2 refused-event-requires-2 returns-3)

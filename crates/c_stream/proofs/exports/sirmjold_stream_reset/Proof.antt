@@ -2,10 +2,16 @@
 use Rattle.c_stream.specs.Exports.{resetExport}
 use Rattle.c_words.proofs.Guards.{then-fit, fit-made, fit-refused}
 use Rattle.c_state.proofs.Ends.{both-whole}
+use Rattle.c_state.specs.Theorems.{Wide}
+use Rattle.c_stream.proofs.Places.{reset-narrow}
+use native.Mathlib.Omega.{arith}
 use borrow.Author.Needs.{needs}
 use mathlib.Core.Path.{refl}
 use Rattle.c_stream.proofs.exports.sirmjold_stream_reset.Statement.{statement}
 use Rattle.c_stream.proofs.exports.sirmjold_stream_reset.Tie as tie
+
+wide : (c : tie.After-slice-known) → Wide (c .before .args .s .now)
+wide c = λ k. omega (arith, c .slice-known .given k)
 
 fits-requires : tie.Need-fits-requires
 fits-requires c κs = search needs
@@ -17,7 +23,10 @@ reset-requires : tie.Need-reset-requires
 reset-requires c κs = search needs
 
 store-requires : tie.Need-store-requires
-store-requires c κs = both-whole _ (then-fit _ _ (c .before .before .before .before .before .before .before .before .before .fits2 .ensures) (c .before .before .before .before .before .before .before .before .if1 .taken))
+store-requires c κs = (
+  both-whole _ (then-fit _ _ (c .before .before .before .before .before .before .before .before .before .fits2 .ensures) (c .before .before .before .before .before .before .before .before .if1 .taken)),
+  reset-narrow (c .before .before .before .before .before .before .before .before .before .before .before .before .before .args .s .now) (wide (c .before .before .before .before .before .before .before .before .before .before .before .before)) _ (c .before .before .before .before .before .before .load .ensures) _ _ _ (c .before .before .before .before .reset .ensures),
+)
 
 number-requires : tie.Need-number-requires
 number-requires c κs = search needs

@@ -6,9 +6,15 @@ use Rattle.c_words.proofs.Guards.{both-settings, both-left, both-right, both-ma
 use Rattle.c_words.proofs.Figures.{figures-small}
 use Rattle.c_state.proofs.Ends.{receiver-whole}
 use borrow.Author.Tests.{eqb-true}
+use Rattle.c_state.specs.Theorems.{Wide}
+use Rattle.c_stream.proofs.Places.{take-narrow}
+use native.Mathlib.Omega.{arith}
 use borrow.Author.Needs.{needs}
 use Rattle.c_stream.proofs.exports.sirmjold_stream_write_request.Statement.{statement}
 use Rattle.c_stream.proofs.exports.sirmjold_stream_write_request.Tie as tie
+
+wide : (c : tie.After-slice-known) → Wide (c .before .args .s .now)
+wide c = λ k. omega (arith, c .slice-known .given k)
 
 receiver-fits-requires : tie.Need-receiver-fits-requires
 receiver-fits-requires c κs = search needs
@@ -35,7 +41,10 @@ write-request-requires : tie.Need-write-request-requires
 write-request-requires c κs = search needs
 
 store-receiver-requires : tie.Need-store-receiver-requires
-store-receiver-requires c κs = receiver-whole _ (both-left _ _ _ _ _ _ _ (c .before .before .before .before .before .before .before .before .before .before .before .before .before .before .both .ensures) (c .before .before .before .before .before .before .before .before .before .before .before .before .before .before .before .before .before .receiver-fits .ensures) (c .before .before .before .before .before .before .before .before .before .before .before .before .before .before .before .fits2 .ensures) (c .before .before .before .before .before .before .before .before .before .before .before .before .before .ready .ensures) (c .before .before .before .before .before .before .before .before .before .before .before .before .if1 .taken))
+store-receiver-requires c κs = (
+  receiver-whole _ (both-left _ _ _ _ _ _ _ (c .before .before .before .before .before .before .before .before .before .before .before .before .before .before .both .ensures) (c .before .before .before .before .before .before .before .before .before .before .before .before .before .before .before .before .before .receiver-fits .ensures) (c .before .before .before .before .before .before .before .before .before .before .before .before .before .before .before .fits2 .ensures) (c .before .before .before .before .before .before .before .before .before .before .before .before .before .ready .ensures) (c .before .before .before .before .before .before .before .before .before .before .before .before .if1 .taken)),
+  take-narrow (c .before .before .before .before .before .before .before .before .before .before .before .before .before .before .before .before .before .before .before .before .before .before .before .args .s .now) (wide (c .before .before .before .before .before .before .before .before .before .before .before .before .before .before .before .before .before .before .before .before .before .before)) _ (c .before .before .before .before .before .before .before .before .before .before .receiver-in .ensures) _ _ _ _ _ (c .before .before .before .before .before .write-request .ensures),
+)
 
 store-requires : tie.Need-store-requires
 store-requires c κs = eqb-true _ _ (both-right _ _ _ _ _ _ _ (c .before .before .before .before .before .before .before .before .before .before .before .before .before .before .before .before .before .before .both .ensures) (c .before .before .before .before .before .before .before .before .before .before .before .before .before .before .before .before .before .before .before .before .before .receiver-fits .ensures) (c .before .before .before .before .before .before .before .before .before .before .before .before .before .before .before .before .before .before .before .fits2 .ensures) (c .before .before .before .before .before .before .before .before .before .before .before .before .before .before .before .before .before .ready .ensures) (c .before .before .before .before .before .before .before .before .before .before .before .before .before .before .before .before .if1 .taken))

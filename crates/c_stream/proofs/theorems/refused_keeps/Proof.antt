@@ -7,17 +7,17 @@ returns : tie.Need-returns
 returns c =
     record {
       start = λ st cfg window places ring. new-keeps st ring cfg window places .kept;
-      reset = λ st ring wide. reset-keeps st ring wide .kept;
-      send = λ st cfg ring ws wide. send-keeps st ring wide cfg ws .kept;
-      request = λ st cfg ring seq count wide. request-keeps st ring wide cfg seq count .kept;
+      reset = λ st ring. reset-keeps st ring .kept;
+      send = λ st cfg ring ws. send-keeps st ring cfg ws .kept;
+      request = λ st cfg ring seq count. request-keeps st ring cfg seq count .kept;
       hear = λ st cfg time seq. hear-keeps st cfg time seq .kept;
       error = λ st reason seq. error-keeps st reason seq .kept;
       nak = λ st. nak-keeps st .kept;
       poll = λ st cfg time. poll-keeps st cfg time .kept;
       take = λ st cfg p b. take-keeps st p b cfg .kept;
-      write = λ st cfg time p b ring wide n m. write-keeps st p b ring cfg time wide .kept n .2 m;
-      write-payload = λ st cfg time p b ring wide n. (write-keeps st p b ring cfg time wide .kept n .0, write-keeps st p b ring cfg time wide .kept n .1);
-      write-request = λ st cfg time p b ring wide. write-request-keeps st p b ring cfg time wide;
+      write = λ st cfg time p b ring n m. write-keeps st p b ring cfg time .kept n .2 m;
+      write-payload = λ st cfg time p b ring n. (write-keeps st p b ring cfg time .kept n .0, write-keeps st p b ring cfg time .kept n .1);
+      write-request = λ st cfg time p b ring. write-request-keeps st p b ring cfg time;
     }
 
 pub refused-keeps-spec : {M : Type 1} → statement M

@@ -1,7 +1,9 @@
--- The words are loaded, the call is made, and the words are stored.
-use Rattle.c_window.specs.Window.{acceptExport}
+-- The words are loaded, and the call is made on them.
+use mathlib.Core.Path.{sym}
 use Rattle.c_words.proofs.Guards.{then-fit, fit-made, fit-refused}
+use Rattle.c_window.specs.Window.{acceptExport}
 use Rattle.c_window.proofs.Windows.{window-known}
+use Rattle.c_window.proofs.Accepting.{accepted-out}
 use borrow.Author.Needs.{needs}
 use Rattle.c_window.proofs.exports.sirmjold_window_accept.Statement.{statement}
 use Rattle.c_window.proofs.exports.sirmjold_window_accept.Tie as tie
@@ -13,10 +15,7 @@ load-requires : tie.Need-load-requires
 load-requires c κs = then-fit _ _ (c .before .before .fits2 .ensures) (c .before .if1 .taken)
 
 accept-requires : tie.Need-accept-requires
-accept-requires c κs = search needs
-
-store-requires : tie.Need-store-requires
-store-requires c κs = window-known _ (then-fit _ _ (c .before .before .before .before .before .before .fits2 .ensures) (c .before .before .before .before .before .if1 .taken)) .whole
+accept-requires c κs = (window-known _ (then-fit _ _ (c .before .before .before .before .fits2 .ensures) (c .before .before .before .if1 .taken)) .whole, sym (c .before .load .ensures))
 
 of-acceptance-requires : tie.Need-of-acceptance-requires
 of-acceptance-requires c κs = search needs
@@ -26,7 +25,7 @@ same-length c = search needs
 
 returns : tie.Need-returns
 unfolding acceptExport
-returns c = fit-made _ _ (c .before .before .before .before .before .before .before .before .before .before .fits2 .ensures) _ _ _ (c .before .before .before .before .before .before .before .before .before .if1 .taken) (rw (c .of-acceptance .ensures, c .before .before .before .store .ensures, c .before .before .before .before .before .before .accept .ensures, c .before .before .before .before .before .before .before .load .ensures))
+returns c = fit-made _ _ (c .before .before .before .before .before .before .before .before .fits2 .ensures) _ _ _ (c .before .before .before .before .before .before .before .if1 .taken) (accepted-out (c .before .before .before .before .before .before .before .before .before .before .before .args .w .now) _ _ _ _ _ (c .before .before .before .before .before .load .ensures) (c .before .before .before .accept .ensures) (c .of-acceptance .ensures))
 
 refused-delivery-requires : tie.Need-refused-delivery-requires
 refused-delivery-requires c κs = search needs
@@ -39,16 +38,4 @@ unfolding acceptExport
 returns-2 c = fit-refused _ _ (c .before .before .fits2 .ensures) _ _ _ (c .before .if1 .left) (rw (c .refused-delivery .ensures))
 
 pub sirmjold-window-accept-spec : {M : Type 1} → statement M
-sirmjold-window-accept-spec =
-    tie.close
-    (tie.spec
-    fits-requires
-    load-requires
-    accept-requires
-    store-requires
-    of-acceptance-requires
-    same-length
-    returns
-    refused-delivery-requires
-    same-length-2
-    returns-2)
+sirmjold-window-accept-spec = tie.close (tie.spec fits-requires load-requires accept-requires of-acceptance-requires same-length returns refused-delivery-requires same-length-2 returns-2)

@@ -1,0 +1,3 @@
+-- Laws that this crate's proofs cite.
+mod Answers
+mod Refusals
