@@ -5,15 +5,15 @@ use mathlib.Core.Bool.{Bool, true, false, and-false}
 use mathlib.Core.List.{List}
 use Prim.Native.Nat.{ℕ, suc, _+_, _*_, _-_, _/_, _%_, _≤_, _<_}
 use native.Mathlib.Omega.{arith}
-use borrow.Author.Tests.{le-leb, lt-leb, eq-eqb, ne-eqb, leb-true}
+use borrow.Author.Tests.{le-leb, lt-leb, eq-eqb, ne-eqb, leb-true, ltb-false}
 use lib.ListN.{length, getD}
-use lib.Dec.{leb}
+use lib.Dec.{leb, ltb}
 use Rattle.config.specs.Sequence.{turn, after}
 use Rattle.config.specs.inner.Tests.{split, tests, lifts}
 use Rattle.history.specs.Ring.{slotOf}
 use Rattle.history.specs.Headers.{lengthAt, entrySize, nextAt, headerAt, wordsFrom, headerOk, numbered}
 use Rattle.history.specs.Walk.{newestFrom, passes, Past, Ran, Walked}
-use Rattle.history.specs.State.{Good, Marks, oldestMark}
+use Rattle.history.specs.State.{Good, Marks, oldestMark, nearestMark}
 use Rattle.history.specs.declared.history.Mark.{Mark}
 use Rattle.history.specs.declared.history.SendHistory.{SendHistory}
 use Rattle.history.specs.declared.headers.Stop.{Stop}
@@ -214,6 +214,13 @@ mark-here h b m k a e = (rw (← e) (a .0), a .1)
 pub mark-oldest : (h : SendHistory) (b : List ℕ) → Good h b → Marks h b (oldestMark h)
 unfolding headerAt
 mark-oldest h b g = (refl, omega (arith, g .ring, g .inside))
+
+pub mark-nearest : (h : SendHistory) (b : List ℕ) (m : Mark) (k : ℕ) → Good h b → Marks h b m → (r : Mark) → r ≡ nearestMark h m k → Marks h b r × (r .entry ≤ k)
+mark-nearest h b m k g a r e =
+    ⊎-elim
+    (λ (t : ltb k (m .entry) ≡ true). let u : r ≡ oldestMark h = rw t at e in rw u (mark-oldest h b g, omega arith))
+    (λ (t : ltb k (m .entry) ≡ false). let u : r ≡ m = rw t at e in rw u (a, ltb-false k (m .entry) t))
+    (split (ltb k (m .entry)))
 
 -- a walk from a mark, in a state that was tested, is not lost
 module _ (h : SendHistory) (b : List ℕ) (m : Mark) (g : Good h b) (o : h .oldest < turn) (a : Marks h b m) where

@@ -1,7 +1,7 @@
 -- 01, "State test": the history's part of number 13.
 use Prim.Native.Nat.{ℕ, _-_, _≤_, _<_, min}
 use mathlib.Core.Path.{_≡_}
-use mathlib.Core.Bool.{Bool, true, _&&_, _||_}
+use mathlib.Core.Bool.{Bool, true, _&&_, _||_, cond}
 use mathlib.Core.List.{List}
 use lib.ListN.{length, replicate}
 use lib.Dec.{ltb, leb, eqb}
@@ -52,6 +52,10 @@ Marks h b m = (m .at ≡ headerAt (m .entry) b (h .head)) × (m .at < length b)
 
 abbrev pub oldestMark : SendHistory → Mark
 oldestMark h = record { entry = 0; at = h .head }
+
+-- the oldest where entry k is before the mark
+abbrev pub nearestMark : SendHistory → Mark → ℕ → Mark
+nearestMark h m k = cond (ltb k (m .entry)) (oldestMark h) m
 
 -- the answer of a test, and where it is yes the header that its walk came by
 pub record Answers (t : Bool) (h : SendHistory) (b : List ℕ) (unsent back : ℕ) (r : Tested) : Type 0 where

@@ -3,7 +3,7 @@ ghost use mathlib.Core.Path.{_≡_};
 ghost use Prim.Native.Nat.{_+_, _-_, _≤_, _<_};
 ghost use lib.ListN.{length};
 ghost use Rattle.config.specs.Sequence.{after};
-ghost use Rattle.history.specs.State.{Good, Marks, oldestMark, cleared};
+ghost use Rattle.history.specs.State.{Good, Marks, oldestMark, nearestMark, cleared};
 ghost use Rattle.history.specs.Headers.{numberAt, lengthAt, nextAt, headerAt, wordsFrom};
 ghost use Rattle.history.specs.Push.{popOne, pushed, appended};
 ghost use Rattle.history.specs.inner.Room.{Freed};
@@ -78,20 +78,14 @@ pub fn oldest(h: SendHistory) -> Mark
     }
 }
 
-// The place of the header of entry `k`, which is not before the mark's.
-fn index_from(h: SendHistory, ring: &[u32], from: Mark, k: usize) -> usize
-    requires { ⌜ Good h (now ring) × (k ≤ h .count) × Marks h (now ring) from × (from .entry ≤ k) ⌝ }
-    ensures { λ r. ⌜ (r ≡ headerAt k (now (ring .entry)) (h .head)) × (r < length (now (ring .entry))) ⌝ }
+// The mark, or the oldest entry's header where entry `k` is before the mark.
+fn nearest(h: SendHistory, from: Mark, k: usize) -> Mark
+    ensures { λ r. ⌜ r ≡ nearestMark h from k ⌝ }
 {
-    let start = Stop {
-        lost: false,
-        at: from.at,
-        seq: sequence::add(h.oldest, from.entry as u16),
-        prev: h.last,
-        words: h.used,
-    };
-    let out = headers::walk(ring, start, k - from.entry);
-    out.at
+    if k < from.entry {
+        return oldest(h);
+    }
+    from
 }
 
 // The place of the header of entry `k`, 0 the oldest; of the end of all entries where `k` is their count.
@@ -100,13 +94,16 @@ pub fn index_of(h: SendHistory, ring: &[u32], from: Mark, k: usize) -> usize
     requires { ⌜ Good h (now ring) × (k ≤ h .count) × Marks h (now ring) from ⌝ }
     ensures { λ r. ⌜ (r ≡ headerAt k (now (ring .entry)) (h .head)) × (r < length (now (ring .entry))) ⌝ }
 {
-    if from.entry == k {
-        return from.at;
-    }
-    if from.entry < k {
-        return index_from(h, ring, from, k);
-    }
-    index_from(h, ring, oldest(h), k)
+    let mark = nearest(h, from, k);
+    let start = Stop {
+        lost: false,
+        at: mark.at,
+        seq: sequence::add(h.oldest, mark.entry as u16),
+        prev: h.last,
+        words: h.used,
+    };
+    let out = headers::walk(ring, start, k - mark.entry);
+    out.at
 }
 
 // The oldest entry leaves.

@@ -6,7 +6,7 @@ use Prim.Native.Nat.{ℕ, zero, suc, _+_, _-_, _*_, _≤_, _<_, max}
 use native.Mathlib.Omega.{arith}
 use lib.ListN.{length, getD}
 use lib.Dec.{eqb}
-use borrow.Author.Tests.{le-leb, lt-leb, eq-eqb, ne-eqb}
+use borrow.Author.Tests.{le-leb, lt-leb, le-ltb, lt-ltb, eq-eqb, ne-eqb}
 use Rattle.config.specs.Sequence.{after}
 use Rattle.config.specs.declared.settings.StreamConfig.{StreamConfig}
 use Rattle.packet.specs.Write.{validOf as payloadValid, startOf}
@@ -77,15 +77,18 @@ module _ (s : Sender) (back : ℕ) where
   begins-none e = rw (eq-eqb _ _ e)
 
   module _ (some : s .queue .len ≡ 0 → ⊥) where
-    pub begins-new : s .history .count < s .unsent → back ≡ beginsOf s back
+    pub begins-short : s .history .count < 8 → back ≡ beginsOf s back
     unfolding beginsOf
-    begins-new l = rw (ne-eqb _ _ some) (omega arith)
+    begins-short l = rw (ne-eqb _ _ some, lt-ltb _ _ l)
 
-    pub begins-far : Fit (s .queue) → (k : ℕ) → k ≡ indexOf s (getD (s .queue .items) (s .queue .head) blank .seq) → (r : ℕ) → r ≡ max back (writtenCount s - k) → r ≡ beginsOf s back
-    unfolding beginsOf
-    begins-far f k e r g =
-        let z : k ≡ indexOf s (request (s .queue) 0 .seq) = e ∙ ap (λ (x : RetransmitRequest). indexOf s (x .seq)) (front-request (s .queue) _ f refl) in
-        rw (ne-eqb _ _ some, ← z) g
+    module _ (long : 8 ≤ s .history .count) where
+      pub begins-new : s .history .count < s .unsent → back ≡ beginsOf s back
+      unfolding beginsOf
+      begins-new l = rw (ne-eqb _ _ some, le-ltb _ _ long) (omega arith)
+
+      pub begins-far : (k : ℕ) → k ≡ indexOf s (request (s .queue) 0 .seq) → (r : ℕ) → r ≡ max back (writtenCount s - k) → r ≡ beginsOf s back
+      unfolding beginsOf
+      begins-far k e r g = rw (ne-eqb _ _ some, le-ltb _ _ long, ← e) g
 
 -- ---- a turn of the loop
 pub pop-made : (q : RetransmitQueue) (out : Popped) → 0 < q .len → out ≡ popOf q → out .queue ≡ popped q

@@ -98,10 +98,10 @@ unfoldable pub idledOf : Sender → StreamConfig → ℕ → List ℕ → Sender
 idledOf s cfg time ring = idledBy s cfg time ring (s .idle)
 
 -- ---- where a write begins
--- how far before the unwritten commands: `back`, or further where the oldest request asks for an earlier command
+-- how far before the unwritten commands: `back`, or further where the oldest request asks for an earlier command of a history of 8 or more
 unfoldable pub beginsOf : Sender → ℕ → ℕ
 beginsOf s back =
-    cond (eqb (s .queue .len) 0) back
+    cond (eqb (s .queue .len) 0 || ltb (s .history .count) 8) back
     (max back (writtenCount s - indexOf s (request (s .queue) 0 .seq)))
 
 -- the mark from which new commands are walked to

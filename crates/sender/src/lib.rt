@@ -15,7 +15,7 @@
 //   sender    the entry points: 9, 7, 8 for settings, then 13 for a state that no call has left; 5, 3
 //             and 6 for words that are not queued; 12 for sizes that a start does not take
 //   tested    the same over settings and a state that were tested; `test` is the state test, and hands
-//             on the place that a write repeats from
+//             on the mark from which a write walks
 //   writing   the write over settings, a state and a payload that were tested, for the stream
 //   placing   the mark from which a write walks, after words were queued
 pub mod placing;

@@ -11,7 +11,7 @@ ghost use Rattle.command.specs.Messages.{wholeOf};
 ghost use Rattle.fronts.specs.Commands.{commandsOf, above};
 ghost use Rattle.history.specs.State.{Good, Answers};
 ghost use Rattle.history.specs.Headers.{lengthAt};
-ghost use Rattle.history.specs.Queue.{Fit};
+ghost use Rattle.history.specs.Queue.{Fit, request};
 ghost use Rattle.sender.specs.State.{validOf, startOf, resetOf};
 ghost use Rattle.sender.specs.Queueing.{roomOf, joinedTo, pushedAll, wordsCheck, placedOf, sentOf};
 ghost use Rattle.sender.specs.Requests.{outcomeOf, requestedOf, dueAt, deadlineOf, wantsOf, nextOf};
@@ -55,8 +55,21 @@ pub fn is_valid(s: Sender, ring: &[u32]) -> bool
     false
 }
 
+// The number that the oldest request asks for.
+fn asked(queue: RetransmitQueue) -> SeqNum
+    requires { ⌜ Fit queue ⌝ }
+    ensures { λ r. ⌜ r ≡ request queue 0 .seq ⌝ }
+{
+    let head = queue.head;
+    let req = queue.items[head];
+    req.seq
+}
+
+// The fewest commands of a history that are worth a look at the request.
+const WORTH: usize = 8;
+
 // How far before the unwritten commands a write begins: `back`, or further where the oldest request that
-// waits asks for an earlier command.
+// waits asks for an earlier command. A short history is walked again as fast.
 fn begins(s: Sender, back: usize) -> usize
     requires { ⌜ Fit (s .queue) ⌝ }
     ensures { λ r. ⌜ r ≡ beginsOf s back ⌝ }
@@ -66,13 +79,14 @@ fn begins(s: Sender, back: usize) -> usize
     if queue.len == 0 {
         return back;
     }
+    if history.count < WORTH {
+        return back;
+    }
     if history.count < s.unsent {
         return back;
     }
     let written = history.count - s.unsent;
-    let head = queue.head;
-    let req = queue.items[head];
-    let k = sequence::distance(history.oldest, req.seq) as usize;
+    let k = sequence::distance(history.oldest, asked(queue)) as usize;
     if written <= k {
         return back;
     }

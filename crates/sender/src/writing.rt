@@ -12,7 +12,8 @@ ghost use lib.Dec.{eqb, ltb};
 ghost use Rattle.config.specs.Settings.{checkOf};
 ghost use Rattle.config.specs.declared.answer.Outcome.the-variants.{Done};
 ghost use Rattle.packet.specs.Write.{validOf as payloadValid};
-ghost use Rattle.history.specs.State.{Marks};
+ghost use Rattle.history.specs.Headers.{headerAt};
+ghost use Rattle.history.specs.State.{Good, Marks};
 ghost use Rattle.history.specs.Queue.{Fit};
 ghost use Rattle.idle.specs.Schedule.{idleStart};
 ghost use Rattle.rows.specs.Rows.{rowOf, leaving, packetsFrom};
@@ -245,6 +246,17 @@ fn mark_after(unsent: usize, h: SendHistory, from: Mark) -> Mark
     history::tested::oldest(h)
 }
 
+// The place of the header of entry `k`: the mark's own, or found by a walk.
+fn place_of(h: SendHistory, ring: &[u32], from: Mark, k: usize) -> usize
+    requires { ⌜ Good h (now ring) × (k ≤ h .count) × Marks h (now ring) from ⌝ }
+    ensures { λ r. ⌜ (r ≡ headerAt k (now (ring .entry)) (h .head)) × (r < length (now (ring .entry))) ⌝ }
+{
+    if from.entry == k {
+        return from.at;
+    }
+    history::tested::index_of(h, ring, from, k)
+}
+
 // Writes up to R of the last written commands, and the new ones; `before` commands were written
 // before. 3 when the first new one is too large for an empty payload.
 fn write_new(
@@ -273,7 +285,7 @@ fn write_new(
     let history = s.history;
     let written = history.count - s.unsent;
     let k = least(cfg.fec_repeats as usize, written);
-    let at = history::tested::index_of(history, ring, from, written - k);
+    let at = place_of(history, ring, from, written - k);
     let last = rows::tested::walk(ring, at, k);
     let first = last.at;
     if packet::tested::free_words(p, buf.len()) <= history::tested::pl(ring, first) {

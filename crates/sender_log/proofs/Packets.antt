@@ -13,7 +13,6 @@ use Rattle.config.specs.declared.answer.Outcome.{Outcome}
 use Rattle.config.specs.declared.answer.Outcome.the-variants.{Done, Refused}
 use Rattle.history.specs.Headers.{nextAt, headerAt, wordsFrom, entriesFrom}
 use Rattle.history.specs.Entries.{size, Holds}
-use Rattle.history.specs.Written.{dataPacket}
 use Rattle.history.specs.declared.history.SendHistory.{SendHistory}
 use Rattle.history.proofs.Entries.{take-entries, drop-entries, size-entries, holds-entries}
 use Rattle.history.proofs.Written.{holds-packet-at}
@@ -31,7 +30,7 @@ pub take-data : (k n : ℕ) (es : List (List ℕ)) → take k (dataFrom n es) �
 unfolding dataFrom
 take-data zero n es = refl
 take-data (suc k) n [] = refl
-take-data (suc k) n (e ∷ es) = ap (λ (l : List Packet). dataPacket n e ∷ l) (take-data k (after n 1) es)
+take-data (suc k) n (e ∷ es) = rw (take-data k (after n 1) es)
 
 pub drop-data : (k n : ℕ) (es : List (List ℕ)) → n < turn → drop k (dataFrom n es) ≡ dataFrom (after n k) (drop k es)
 unfolding dataFrom

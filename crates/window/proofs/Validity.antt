@@ -1,9 +1,9 @@
 -- The state test.
 use Prim.Native.Nat.{_^_}
-use mathlib.Core.Path.{_≡_, refl}
-use mathlib.Core.Bool.{Bool, true, false, not, _&&_}
+use mathlib.Core.Path.{_≡_}
+use mathlib.Core.Bool.{Bool, true, false}
 use lib.Dec.{ltb}
-use borrow.Author.Tests.{ltb-true}
+use borrow.Author.Tests.{ltb-true, not-true}
 use Rattle.config.specs.Range.{within, outside}
 use Rattle.config.specs.inner.Tests.{and-left, and-right}
 use Rattle.window.specs.Set.{maxWindow, val}
@@ -13,11 +13,7 @@ use Rattle.config.specs.inner.Ranges.{outside-not, within-range}
 
 pub valid-size : (w : ReceiveWindow) → outside 1 maxWindow (w .size) ≡ true → false ≡ validOf w
 unfolding validOf
-valid-size w e = go (within 1 maxWindow (w .size)) e
-  where
-    go : (t : Bool) → not t ≡ true → false ≡ (t && ltb (val (w .bits)) (2 ^ w .size))
-    go true e = cc
-    go false e = refl
+valid-size w e = rw (not-true (within 1 maxWindow (w .size)) e)
 
 pub valid-bits : (w : ReceiveWindow) → outside 1 maxWindow (w .size) ≡ false → ltb (val (w .bits)) (2 ^ w .size) ≡ validOf w
 unfolding validOf

@@ -1,29 +1,39 @@
--- The mark's own place, or the one that the walk from it or from the oldest finds.
+-- The headers of a tested state are as the walk wants them, so that it passes the entries from the mark on.
 use native.Mathlib.Omega.{arith}
-use Rattle.history.proofs.Past.{mark-here, mark-oldest}
+use Rattle.history.proofs.Past.{mark-nearest, walked-good}
+use Rattle.history.proofs.Room.{good-few}
 use borrow.Author.Needs.{needs}
 use Rattle.history.proofs.tested.index_of.Statement.{statement}
 use Rattle.history.proofs.tested.index_of.Tie as tie
 
+nearest-requires : tie.Need-nearest-requires
+nearest-requires c κs = search needs
+
+cast-add : tie.Need-cast-add
+cast-add c =
+    let p = c .before .before .before .pre in
+    let m = mark-nearest _ _ _ _ (p .0) (p .2) _ (c .before .nearest .ensures) in
+    omega (arith, m .1, p .1, good-few _ _ (p .0), p .0 .room, p .0 .most)
+
+add-requires : tie.Need-add-requires
+add-requires c κs = search needs
+
+sub-walk : tie.Need-sub-walk
+sub-walk c =
+    let p = c .before .before .before .before .before .pre in
+    mark-nearest _ _ _ _ (p .0) (p .2) _ (c .before .before .before .nearest .ensures) .1
+
+walk-requires : tie.Need-walk-requires
+walk-requires c κs =
+    let p = c .before .before .before .before .before .pre in
+    let m = mark-nearest _ _ _ _ (p .0) (p .2) _ (c .before .before .before .nearest .ensures) in
+    search needs
+
 returns : tie.Need-returns
-returns c = let start = c .before .before .before in mark-here (start .args .h) _ _ _ (start .pre .2) (c .if1 .taken)
-
-index-from-requires : tie.Need-index-from-requires
-index-from-requires c κs = let p = c .before .before .before .before .before .pre in (p .0, p .1, p .2, omega arith)
-
-returns-2 : tie.Need-returns-2
-returns-2 c = c .index-from .ensures
-
-oldest-requires : tie.Need-oldest-requires
-oldest-requires c κs = search needs
-
-index-from-requires-2 : tie.Need-index-from-requires-2
-index-from-requires-2 c κs =
+returns c =
     let p = c .before .before .before .before .before .before .pre in
-    rw (c .oldest .ensures) (p .0, p .1, mark-oldest _ _ (p .0), omega arith)
-
-returns-3 : tie.Need-returns-3
-returns-3 c = c .index-from2 .ensures
+    let m = mark-nearest _ _ _ _ (p .0) (p .2) _ (c .before .before .before .before .nearest .ensures) in
+    walked-good _ _ _ (p .0) (omega arith) (m .0) _ _ (m .1) (p .1) (rw (c .before .before .add .ensures) at (c .walk .ensures))
 
 pub index-of-spec : {M : Type 1} → statement M
-index-of-spec = tie.close (tie.spec returns index-from-requires returns-2 oldest-requires index-from-requires-2 returns-3)
+index-of-spec = tie.close (tie.spec nearest-requires cast-add add-requires sub-walk walk-requires returns)

@@ -19,11 +19,11 @@ cast-least c = search needs
 least-requires : tie.Need-least-requires
 least-requires c κs = search needs
 
-sub-index-of : tie.Need-sub-index-of
-sub-index-of c = search needs
+sub-place-of : tie.Need-sub-place-of
+sub-place-of c = search needs
 
-index-of-requires : tie.Need-index-of-requires
-index-of-requires c κs =
+place-of-requires : tie.Need-place-of-requires
+place-of-requires c κs =
     let p = c .before .before .before .before .before .before .before .before .before .pre in
     (valid-good _ _ (p .0), omega (arith, c .least .ensures), p .3)
 
@@ -31,7 +31,7 @@ walk-requires : tie.Need-walk-requires
 walk-requires c κs =
     let v = c .before .before .before .before .before .before .before .before .before .before .pre .0 in
     let few = least-few _ _ _ (c .before .least .ensures) in
-    let at = c .index-of .ensures .0 in
+    let at = c .place-of .ensures .0 in
     (last-standing _ _ v _ _ few at, last-words _ _ v _ _ few at)
 
 free-words-requires : tie.Need-free-words-requires
@@ -44,21 +44,21 @@ returns-2 : tie.Need-returns-2
 returns-2 c =
     let start = c .before .before .before .before .before .before .before .before .before .before .before .before .before .before .before .before in
     let w = c .before .before .before .before .before .walk .ensures in
-    let e = w .0 ∙ last-end _ _ (start .pre .0) _ _ (least-few _ _ _ (c .before .before .before .before .before .before .before .least .ensures)) (c .before .before .before .before .before .before .index-of .ensures .0) in
+    let e = w .0 ∙ last-end _ _ (start .pre .0) _ _ (least-few _ _ _ (c .before .before .before .before .before .before .before .least .ensures)) (c .before .before .before .before .before .before .place-of .ensures .0) in
     new-large (start .args .s) (start .args .cfg) (start .args .time) _ _ _ _ (c .before .before .before .before .before .before .before .before .before .before .before .before .if1 .left) _ e (omega (arith, c .before .before .if2 .taken, c .before .before .before .pl .ensures, c .before .before .before .before .free-words .ensures)) (c .if3 .taken)
 
 returns-3 : tie.Need-returns-3
 returns-3 c =
     let start = c .before .before .before .before .before .before .before .before .before .before .before .before .before .before .before .before in
     let w = c .before .before .before .before .before .walk .ensures in
-    let e = w .0 ∙ last-end _ _ (start .pre .0) _ _ (least-few _ _ _ (c .before .before .before .before .before .before .before .least .ensures)) (c .before .before .before .before .before .before .index-of .ensures .0) in
+    let e = w .0 ∙ last-end _ _ (start .pre .0) _ _ (least-few _ _ _ (c .before .before .before .before .before .before .before .least .ensures)) (c .before .before .before .before .before .before .place-of .ensures .0) in
     new-more (start .args .s) (start .args .cfg) (start .args .time) _ _ _ _ (c .before .before .before .before .before .before .before .before .before .before .before .before .if1 .left) _ e (omega (arith, c .before .before .if2 .taken, c .before .before .before .pl .ensures, c .before .before .before .before .free-words .ensures)) (c .if3 .left)
 
 repeats-requires : tie.Need-repeats-requires
 repeats-requires c κs =
     let v = c .before .before .before .before .before .before .before .before .before .before .before .before .before .before .before .pre .0 in
     let few = least-few _ _ _ (c .before .before .before .before .before .before .least .ensures) in
-    let at = c .before .before .before .before .before .index-of .ensures .0 in
+    let at = c .before .before .before .before .before .place-of .ensures .0 in
     let w = c .before .before .before .before .walk .ensures in
     (last-standing _ _ v _ _ few at, w .2, w .1, omega (arith, c .before .if2 .left, c .before .before .pl .ensures, c .before .before .before .free-words .ensures))
 
@@ -72,7 +72,7 @@ write-row-requires c κs =
       p .2,
       record {
         few = omega (arith, r .few, c .before .before .before .before .before .before .before .before .least .ensures);
-        place = again-place _ _ (p .0) _ _ few (c .before .before .before .before .before .before .before .index-of .ensures .0) _ _ (r .few) (r .place);
+        place = again-place _ _ (p .0) _ _ few (c .before .before .before .before .before .before .before .place-of .ensures .0) _ _ (r .few) (r .place);
         words = r .words;
         room = r .room;
       },
@@ -86,7 +86,7 @@ returns-4 c =
     let start = c .before .before .before .before .before .before .before .before .before .before .before .before .before .before .before .before .before .before .before .before in
     let v = start .pre .0 in
     let few = least-few _ _ _ (c .before .before .before .before .before .before .before .before .before .before .before .least .ensures) in
-    let at = c .before .before .before .before .before .before .before .before .before .before .index-of .ensures .0 in
+    let at = c .before .before .before .before .before .before .before .before .before .before .place-of .ensures .0 in
     let r = c .before .before .before .before .repeats .ensures in
     let e = c .before .before .before .before .before .before .before .before .before .walk .ensures .0 ∙ last-end _ _ v _ _ few at in
     let a = again-place _ _ v _ _ few at _ _ (r .few) (r .place) in
@@ -100,8 +100,8 @@ write-new-spec =
     sub-written
     cast-least
     least-requires
-    sub-index-of
-    index-of-requires
+    sub-place-of
+    place-of-requires
     walk-requires
     free-words-requires
     pl-requires
