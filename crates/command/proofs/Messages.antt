@@ -14,7 +14,6 @@ use Rattle.command.specs.Messages.{typeWords, messageWords, divided, mes
 use Rattle.command.specs.inner.Messages.{typeWords-range}
 use Rattle.command.specs.declared.message.UmpMessages.{UmpMessages}
 use Rattle.command.specs.declared.message.MessageItem.the-variants.{Message, Truncated, End}
-pub use Rattle.command.specs.inner.Messages.{words-append, words-one}
 
 -- ---- message lengths
 -- the code's digits, by type

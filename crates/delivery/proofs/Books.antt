@@ -21,7 +21,7 @@ use Rattle.sender.specs.Queueing.{wordsCheck}
 use Rattle.fronts.proofs.Fronts.{Divides, part-of, divides-behind}
 use Rattle.sender.proofs.Parts.{front-behind, commands-parts}
 use Rattle.sender.proofs.Queued.{check-divides, settings-few}
-use Rattle.command.proofs.Messages.{words-append, words-one}
+use Rattle.command.specs.inner.Messages.{words-append, words-one}
 use Rattle.sender_log.specs.Book.{Book, freed, pushedIn, pushedAllIn, joinedLast, joinedIn, roomIn, needIn, queuedIn, QueueIn, sentIn, absentIn, RequestIn, requestedIn}
 use Rattle.config.specs.inner.Choices.{by-cond, by-check}
 use Rattle.delivery.specs.Commands.{Command}

@@ -12,11 +12,11 @@ use borrow.Author.Tests.{not-true}
 use Rattle.config.specs.Sequence.{turn}
 use Rattle.config.specs.inner.Tests.{split, tests}
 use Rattle.packet.specs.Bytes.{wordsOf}
-use Rattle.command.specs.Messages.{messagesOf, wholeOf, wordsIn}
+use Rattle.command.specs.Messages.{messagesOf, wholeOf, wordsIn, wholeWords}
 use Rattle.window.specs.Arrival.{reach}
 use Rattle.window.specs.declared.window.Class.{Class}
 use Rattle.window.specs.declared.window.Class.the-variants.{New, Late, Duplicate}
-use Rattle.receiver.specs.Messages.{wholeWords, handedWords, handedBytes, handedCut}
+use Rattle.receiver.specs.Messages.{handedWords, handedBytes, handedCut}
 use Rattle.receiver.specs.declared.receiver.Hearing.the-variants.{Delivery as Delivered, Refused as HearingRefused}
 use Rattle.receiver_log.specs.Calls.{Entry, data-entry, poll-entry, error-entry, nak-entry, take-entry}
 use Rattle.receiver_log.specs.Log.{Report, reportOf, origin, place, high, times, lost, Missing}

@@ -9,9 +9,8 @@ use lib.Dec.{leb}
 use lib.ListN.{length, take, drop, length-append, length-drop, take-append-drop}
 use lib.Seq.{drop-append-le, drop-length, length-take-le}
 use Rattle.config.specs.inner.Tests.{split, tests}
-use Rattle.command.specs.Messages.{messageWords, wholeOf, wordsIn}
+use Rattle.command.specs.Messages.{messageWords, wholeOf, wordsIn, wholeWords}
 use Rattle.command.specs.inner.Messages.{messages-nil, messages-cons}
-use Rattle.receiver.specs.Messages.{wholeWords}
 use Rattle.fronts.specs.Commands.{front}
 use Rattle.fronts.proofs.Fronts.{First, first-of, front-nil, front-more, front-stop}
 

@@ -19,7 +19,7 @@ use Rattle.command.specs.declared.retransmit.RetransmitRequest.{RetransmitReque
 use Rattle.history.specs.Entries.{size}
 use Rattle.history.proofs.Flat.{size-append}
 use Rattle.command.specs.Messages.{wordsIn}
-use Rattle.command.proofs.Messages.{words-append}
+use Rattle.command.specs.inner.Messages.{words-append}
 use Rattle.idle.specs.declared.idle.IdleTimer.{IdleTimer}
 use Rattle.idle.specs.declared.idle.IdleTimer.the-variants.{Off, Waiting}
 use Rattle.rows.specs.Rows.{rowOf, fitAll}

@@ -8,10 +8,10 @@ use native.Mathlib.Omega.{arith}
 use lib.Dec.{ltb, eqb}
 use Rattle.config.specs.declared.settings.StreamConfig.{StreamConfig}
 use Rattle.config.specs.inner.Tests.{split, tests}
-use Rattle.command.specs.Messages.{divided, messagesOf, wordsIn}
+use Rattle.command.specs.Messages.{divided, messagesOf, wordsIn, wholeWords}
 use Rattle.window.specs.declared.window.Class.{Class}
 use Rattle.window.specs.declared.window.Class.the-variants.{New, Late, Duplicate}
-use Rattle.receiver.specs.Messages.{handedWords, wholeWords}
+use Rattle.receiver.specs.Messages.{handedWords}
 use Rattle.receiver.specs.declared.receiver.Delivery.{Delivery}
 use Rattle.receiver.specs.declared.receiver.Hearing.the-variants.{Delivery as Delivered, Refused as HearingRefused}
 use Rattle.receiver_log.specs.Calls.{Entry, data-entry, poll-entry, error-entry, nak-entry, take-entry}

@@ -12,7 +12,7 @@ use Rattle.config.specs.Sequence.{turn, after}
 use Rattle.config.specs.inner.Tests.{split, tests, lifts}
 use Rattle.history.specs.Ring.{slotOf}
 use Rattle.history.specs.Headers.{lengthAt, entrySize, nextAt, headerAt, wordsFrom, headerOk, numbered}
-use Rattle.history.specs.Walk.{newestFrom, passes, Past, Ran, Walked}
+use Rattle.history.specs.inner.Walk.{newestFrom, passes, Past, Ran, Walked}
 use Rattle.history.specs.State.{Good, Marks, oldestMark, nearestMark}
 use Rattle.history.specs.declared.history.Mark.{Mark}
 use Rattle.history.specs.declared.history.SendHistory.{SendHistory}

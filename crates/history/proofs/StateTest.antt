@@ -11,7 +11,7 @@ use lib.Dec.{leb, eqb, eqb·suc-zero}
 use Rattle.config.specs.Range.{within, outside}
 use Rattle.config.specs.inner.Tests.{split, tests}
 use Rattle.history.specs.Headers.{nextAt, headerAt, wordsFrom, numbered}
-use Rattle.history.specs.Walk.{newestFrom, passes, Past, Walked}
+use Rattle.history.specs.inner.Walk.{newestFrom, passes, Past, Walked}
 use Rattle.history.specs.State.{newestAt, unsentTake, walkOk, stateOk, backOf, Marks, Answers}
 use Rattle.history.specs.declared.history.SendHistory.{SendHistory}
 use Rattle.history.specs.declared.history.Tested.{Tested}

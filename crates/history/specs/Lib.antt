@@ -2,7 +2,6 @@
 pub mod inner
 pub mod Ring
 pub mod Headers
-pub mod Walk
 pub mod State
 pub mod Push
 pub mod Entries

@@ -9,7 +9,7 @@ ghost use mathlib.Core.Path.{_≡_};
 ghost use mathlib.Core.Bool.{true, cond};
 ghost use Prim.Native.Nat.{ℕ, _≤_, _<_};
 ghost use lib.ListN.{length};
-ghost use Rattle.history.specs.Walk.{Ran, Walked};
+ghost use Rattle.history.specs.inner.Walk.{Ran, Walked};
 use super::ring;
 use config::range::least;
 use config::sequence::SeqNum;

@@ -14,7 +14,8 @@ use Rattle.config.specs.inner.Tests.{split}
 use Rattle.sheet_blocks.specs.Bytes.{spliced}
 use Rattle.sheet_blocks.proofs.Splice.{spliced-append}
 use Rattle.loss_sheet.specs.Figures.{figures, figureBytes}
-use Rattle.loss_sheet.specs.Sheet.{allBelow, nextOf, pushed, held, lastOf, sheetBytes, Good}
+use Rattle.loss_sheet.specs.Sheet.{allBelow, nextOf, pushed, held, lastOf, sheetBytes}
+use Rattle.loss_sheet.specs.inner.Fits.{Good}
 use Rattle.loss_sheet.specs.declared.sheet.Sheet.{Sheet}
 use Rattle.loss_sheet.specs.declared.figures.Figures.{Figures}
 use Rattle.loss_sheet.proofs.Counts.{figures-swap, length-figures}

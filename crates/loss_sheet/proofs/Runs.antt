@@ -8,7 +8,8 @@ use Rattle.sheet_blocks.specs.Bytes.{spliced}
 use Rattle.sheet_blocks.proofs.Splice.{spliced-nil}
 use Rattle.sheet_blocks.specs.Records.{entryAt, entries}
 use Rattle.loss_sheet.specs.Figures.{figures, figureBytes}
-use Rattle.loss_sheet.specs.Sheet.{pushed, pushedAll, held, sheetBytes, Good}
+use Rattle.loss_sheet.specs.Sheet.{pushed, pushedAll, held, sheetBytes}
+use Rattle.loss_sheet.specs.inner.Fits.{Good}
 use Rattle.loss_sheet.specs.declared.sheet.Sheet.{Sheet}
 use Rattle.loss_sheet.specs.declared.figures.Figures.{Figures}
 use Rattle.sheet_blocks.proofs.Blocks.{entries-more, entries-none, length-entries}

@@ -14,7 +14,8 @@ use Rattle.config.specs.inner.Ranges.{outside-not, not-outside}
 use Rattle.config.specs.inner.Tests.{split, and-left, and-right}
 use Rattle.sheet_blocks.specs.Bytes.{spliced}
 use Rattle.sheet_blocks.specs.Records.{allRecords, isBlock, rows}
-use Rattle.loss_sheet.specs.Sheet.{allBelow, stateOk, Good, fresh, startOf, takenOf, answerOf, arrivals, blockOf, pushedAll, sheetBytes, held}
+use Rattle.loss_sheet.specs.Sheet.{allBelow, stateOk, fresh, startOf, takenOf, answerOf, arrivals, blockOf, pushedAll, sheetBytes, held}
+use Rattle.loss_sheet.specs.inner.Fits.{Good}
 use Rattle.loss_sheet.specs.declared.sheet.Sheet.{Sheet}
 use Rattle.loss_sheet.specs.declared.sheet.Answered.{Answered}
 

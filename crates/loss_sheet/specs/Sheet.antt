@@ -1,6 +1,5 @@
 -- 02, 10/14: figures over the last n arrivals, over all while there are fewer, equal to those worked afresh; they run on across blocks.
-use Prim.Native.Nat.{ℕ, _+_, _-_, _≤_, _<_}
-use mathlib.Core.Path.{_≡_}
+use Prim.Native.Nat.{ℕ, _+_, _-_}
 use mathlib.Core.Bool.{Bool, true, _&&_, _||_, cond}
 use mathlib.Core.List.{List, [], _∷_, _++_}
 use lib.ListN.{length, set, take, drop, replicate}
@@ -51,14 +50,6 @@ stateOk s b =
 -- the words held, oldest first
 unfoldable pub held : Sheet → List ℕ → List ℕ
 held s b = drop (s .head) (take (s .len) b) ++ take (s .head) b
-
--- what the loop needs of a state that passes the tests
-pub record Good (s : Sheet) (b : List ℕ) : Type 0 where
-  pub ring : length b ≡ s .n
-  pub most : s .n ≤ 4096
-  pub inside : s .head < s .n
-  pub room : s .len ≤ s .n
-  pub first : s .len < s .n → s .head ≡ 0
 
 -- the place after i in a ring of n
 unfoldable pub nextOf : ℕ → ℕ → ℕ

@@ -5,8 +5,7 @@ use mathlib.Core.Bool.{Bool, true, false, cond, _&&_}
 use mathlib.Core.List.{List, []}
 use lib.ListN.{length, take}
 use Rattle.packet.specs.Bytes.{wordsOf}
-use Rattle.command.specs.Messages.{messagesOf}
-unfoldable pub use Rattle.command.specs.Messages.{wholeWords}
+use Rattle.command.specs.Messages.{messagesOf, wholeWords}
 use Rattle.window.specs.declared.window.Class.{Class}
 use Rattle.window.specs.declared.window.Class.the-variants.{New, Late, Duplicate}
 

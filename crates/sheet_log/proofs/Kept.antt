@@ -14,7 +14,8 @@ use Rattle.config.specs.Range.{within, outside}
 use Rattle.config.specs.inner.Tests.{split, and-left, and-right}
 use Rattle.sheet_blocks.specs.Bytes.{spliced}
 use Rattle.sheet_blocks.specs.Records.{classAt, zeroAt, entryAt, entries, allRecords, rows}
-use Rattle.loss_sheet.specs.Sheet.{allBelow, stateOk, Good, fresh, pushed, pushedAll, held, lastOf, sheetBytes, takenOf, answerOf, arrivals, blockOf}
+use Rattle.loss_sheet.specs.Sheet.{allBelow, stateOk, fresh, pushed, pushedAll, held, lastOf, sheetBytes, takenOf, answerOf, arrivals, blockOf}
+use Rattle.loss_sheet.specs.inner.Fits.{Good}
 use Rattle.sheet_log.specs.Calls.{Call, allBytes, after, started}
 use Rattle.loss_sheet.specs.declared.sheet.Sheet.{Sheet}
 use Rattle.loss_sheet.specs.declared.sheet.Answered.{Answered}

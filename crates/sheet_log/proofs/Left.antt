@@ -12,7 +12,8 @@ use lib.Dec.{ltb, leb, eqb}
 use Rattle.config.specs.Range.{within}
 use Rattle.config.specs.inner.Tests.{split, and-left, and-right}
 use Rattle.sheet_blocks.specs.Records.{entryAt, entries, allRecords, isBlock, rows}
-use Rattle.loss_sheet.specs.Sheet.{allBelow, stateOk, Good, fresh, pushedAll, takenOf, arrivals}
+use Rattle.loss_sheet.specs.Sheet.{allBelow, stateOk, fresh, pushedAll, takenOf, arrivals}
+use Rattle.loss_sheet.specs.inner.Fits.{Good}
 use Rattle.sheet_log.specs.Calls.{Call, allBytes, after, started, LeftBy}
 use Rattle.loss_sheet.specs.declared.sheet.Sheet.{Sheet}
 use Rattle.loss_sheet.proofs.Ring.{push-grow, push-over, next-below}

@@ -1,7 +1,19 @@
--- What adding a word to figures and taking one away ask.
-use Prim.Native.Nat.{ℕ, _%_, _≤_}
+-- What the loops ask of a state, and adding a word and taking one away of figures.
+use Prim.Native.Nat.{ℕ, _%_, _≤_, _<_}
+use mathlib.Core.Path.{_≡_}
+use mathlib.Core.List.{List}
+use lib.ListN.{length}
 use Rattle.loss_sheet.specs.Figures.{isOf}
 use Rattle.loss_sheet.specs.declared.figures.Figures.{Figures}
+use Rattle.loss_sheet.specs.declared.sheet.Sheet.{Sheet}
+
+-- a state that passes the tests
+pub record Good (s : Sheet) (b : List ℕ) : Type 0 where
+  pub ring : length b ≡ s .n
+  pub most : s .n ≤ 4096
+  pub inside : s .head < s .n
+  pub room : s .len ≤ s .n
+  pub first : s .len < s .n → s .head ≡ 0
 
 -- no more than 4,096 words have these figures
 pub record Few (f : Figures) : Type 0 where

@@ -6,7 +6,7 @@ use native.Mathlib.Omega.{arith}
 use lib.ListN.{length, getD}
 use Rattle.config.specs.Sequence.{turn}
 use Rattle.history.specs.Ring.{slotOf}
-use Rattle.history.specs.Walk.{Past}
+use Rattle.history.specs.inner.Walk.{Past}
 use Rattle.history.proofs.Slots.{slot-to}
 use Rattle.history.proofs.Past.{past-start, number-next, header-right, past-wrong, past-turn, ran-lost, ran-on}
 use borrow.Author.Needs.{needs}

@@ -3,7 +3,7 @@ use mathlib.Core.Path.{refl}
 use Prim.Native.Nat.{_≤_, _<_, _-_}
 use native.Mathlib.Omega.{arith}
 use lib.ListN.{length}
-use Rattle.history.specs.Walk.{Past}
+use Rattle.history.specs.inner.Walk.{Past}
 use Rattle.history.proofs.Past.{past-here, walk-stops, walk-short, past-walk, walked-lost, walked-all}
 use borrow.Author.Needs.{needs}
 use Rattle.history.proofs.headers.walk.Statement.{statement}

@@ -5,7 +5,8 @@ use lib.ListN.{length, take, length-take}
 use Rattle.sheet_blocks.specs.Bytes.{spliced}
 use Rattle.sheet_blocks.specs.Records.{entries}
 use Rattle.loss_sheet.specs.Figures.{figures}
-use Rattle.loss_sheet.specs.Sheet.{Good, pushedAll, held, sheetBytes}
+use Rattle.loss_sheet.specs.Sheet.{pushedAll, held, sheetBytes}
+use Rattle.loss_sheet.specs.inner.Fits.{Good}
 use Rattle.loss_sheet.proofs.Runs.{good-turn, n-turn, all-turn, out-turn, all-done, out-done}
 use borrow.Author.Needs.{needs}
 use native.Mathlib.Omega.{arith}
