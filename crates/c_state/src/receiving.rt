@@ -138,7 +138,7 @@ fn hear_next(r: Receiver, cfg: StreamConfig, time: u64, seq: SeqNum, words: &mut
     ensures { λ h. ⌜ (h, now (words .exit)) ≡ heardInto (now (words .entry)) (heardOf r cfg time seq) ⌝ }
 {
     let before = r.window;
-    let taken = window::tested::accept_next(before, seq);
+    let taken = window::arrival::accept_next(before, seq);
     let window = taken.window;
     let class = taken.class;
     let lost = taken.lost;
@@ -157,9 +157,9 @@ fn hear_ahead(r: Receiver, cfg: StreamConfig, time: u64, seq: SeqNum, words: &mu
     ensures { λ h. ⌜ (h, now (words .exit)) ≡ heardInto (now (words .entry)) (heardOf r cfg time seq) ⌝ }
 {
     let before = r.window;
-    let lost = window::tested::lost_to(before, seq);
-    let window = window::tested::moved_to(before, seq);
-    let class = window::tested::class_ahead(before, seq);
+    let lost = window::arrival::lost_to(before, seq);
+    let window = window::arrival::moved_to(before, seq);
+    let class = window::arrival::class_ahead(before, seq);
     settle(r, cfg, time, window, class, words);
     Hearing::Delivery(Delivery {
         seq,
@@ -175,7 +175,7 @@ fn hear_behind(r: Receiver, cfg: StreamConfig, time: u64, seq: SeqNum, words: &m
     ensures { λ h. ⌜ (h, now (words .exit)) ≡ heardInto (now (words .entry)) (heardOf r cfg time seq) ⌝ }
 {
     let before = r.window;
-    let taken = window::tested::accept_behind(before, seq);
+    let taken = window::arrival::accept_behind(before, seq);
     let window = taken.window;
     let class = taken.class;
     let lost = taken.lost;
@@ -194,10 +194,10 @@ fn hear_valid(r: Receiver, cfg: StreamConfig, time: u64, seq: SeqNum, words: &mu
     ensures { λ h. ⌜ (h, now (words .exit)) ≡ heardInto (now (words .entry)) (heardOf r cfg time seq) ⌝ }
 {
     let before = r.window;
-    if window::tested::in_order(before, seq) {
+    if window::arrival::in_order(before, seq) {
         return hear_next(r, cfg, time, seq, words);
     }
-    if window::tested::is_ahead(before, seq) {
+    if window::arrival::is_ahead(before, seq) {
         return hear_ahead(r, cfg, time, seq, words);
     }
     hear_behind(r, cfg, time, seq, words)

@@ -42,7 +42,7 @@ pub record OneEnd : Type 0 where
   pub other : (st : List ℕ) → OtherEnd st
   pub whole : (st : List ℕ) → fits st ≡ true → WholeStream st
 
--- A call whose number is not 0 leaves all that was lent to it as it was. There is a field for each C function that changes what is lent. Of a write by number 3 there is less
+-- A call whose number is not 0 leaves all that was lent to it as it was. There is a field for each C function of this crate that changes what is lent. Of a write by number 3 there is less
 -- to say, 01's one refusal that changes something: the payload's words and bytes are as they were; and so is all that was lent where the due request is what does not fit.
 pub record RefusedKeeps : Type 0 where
   -- a stream's words, and the history

@@ -119,9 +119,9 @@ fn take_ahead(before: ReceiveWindow, seq: SeqNum, w: &mut [u64]) -> Acceptance
     requires { ⌜ (length (now w) ≡ 4) × Valid before × (within 1 reach (ahead (before .highest) seq) ≡ true) ⌝ }
     ensures { λ r. ⌜ (r, now (w .exit)) ≡ takenInto (acceptOf before seq) ⌝ }
 {
-    let lost = window::tested::lost_to(before, seq);
-    let window = window::tested::moved_to(before, seq);
-    let class = window::tested::class_ahead(before, seq);
+    let lost = window::arrival::lost_to(before, seq);
+    let window = window::arrival::moved_to(before, seq);
+    let class = window::arrival::class_ahead(before, seq);
     take(
         Arrival {
             window,
@@ -147,13 +147,13 @@ fn take_behind(before: ReceiveWindow, seq: SeqNum, w: &mut [u64]) -> Acceptance
     requires { ⌜ (length (now w) ≡ 4) × (windowAt (now w) ≡ before) × Valid before × (within 1 reach (ahead (before .highest) seq) ≡ false) ⌝ }
     ensures { λ r. ⌜ (r, now (w .exit)) ≡ takenInto (acceptOf before seq) ⌝ }
 {
-    if is_duplicate(window::tested::classify(before, seq)) {
+    if is_duplicate(window::arrival::classify(before, seq)) {
         return Acceptance::Heard {
             class: Class::Duplicate,
             lost: Span::Nothing,
         };
     }
-    take(window::tested::accept_behind(before, seq), w)
+    take(window::arrival::accept_behind(before, seq), w)
 }
 
 // A number arrives at a window: it is processed now, unless it is a duplicate.
@@ -162,10 +162,10 @@ fn accept(before: ReceiveWindow, seq: SeqNum, w: &mut [u64]) -> Acceptance
     ensures { λ r. ⌜ (r, now (w .exit)) ≡ acceptedAs (acceptAnswer before seq) ⌝ }
 {
     if window::tested::is_valid(before) {
-        if window::tested::in_order(before, seq) {
-            return take(window::tested::accept_next(before, seq), w);
+        if window::arrival::in_order(before, seq) {
+            return take(window::arrival::accept_next(before, seq), w);
         }
-        if window::tested::is_ahead(before, seq) {
+        if window::arrival::is_ahead(before, seq) {
             return take_ahead(before, seq, w);
         }
         return take_behind(before, seq, w);

@@ -174,10 +174,10 @@ pub fn on_ump_data(r: Receiver, cfg: StreamConfig, time: u64, seq: SeqNum) -> He
     ensures { λ h. ⌜ h ≡ heardOf r cfg time seq ⌝ }
 {
     let before = r.window;
-    if window::tested::in_order(before, seq) {
+    if window::arrival::in_order(before, seq) {
         return heard_next(r, cfg, time, seq);
     }
-    if window::tested::is_ahead(before, seq) {
+    if window::arrival::is_ahead(before, seq) {
         return heard_ahead(r, cfg, time, seq);
     }
     heard_behind(r, cfg, time, seq)
@@ -189,7 +189,7 @@ fn heard_next(r: Receiver, cfg: StreamConfig, time: u64, seq: SeqNum) -> Heard
     ensures { λ h. ⌜ h ≡ heardOf r cfg time seq ⌝ }
 {
     let before = r.window;
-    let taken = window::tested::accept_next(before, seq);
+    let taken = window::arrival::accept_next(before, seq);
     let window = taken.window;
     let class = taken.class;
     let lost = taken.lost;
@@ -210,9 +210,9 @@ fn heard_ahead(r: Receiver, cfg: StreamConfig, time: u64, seq: SeqNum) -> Heard
     ensures { λ h. ⌜ h ≡ heardOf r cfg time seq ⌝ }
 {
     let before = r.window;
-    let lost = window::tested::lost_to(before, seq);
-    let window = window::tested::moved_to(before, seq);
-    let class = window::tested::class_ahead(before, seq);
+    let lost = window::arrival::lost_to(before, seq);
+    let window = window::arrival::moved_to(before, seq);
+    let class = window::arrival::class_ahead(before, seq);
     Heard {
         receiver: settled(r, cfg, time, window, class),
         answer: Hearing::Delivery(Delivery {
@@ -230,7 +230,7 @@ fn heard_behind(r: Receiver, cfg: StreamConfig, time: u64, seq: SeqNum) -> Heard
     ensures { λ h. ⌜ h ≡ heardOf r cfg time seq ⌝ }
 {
     let before = r.window;
-    let taken = window::tested::accept_behind(before, seq);
+    let taken = window::arrival::accept_behind(before, seq);
     let window = taken.window;
     let class = taken.class;
     let lost = taken.lost;

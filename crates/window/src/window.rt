@@ -2,6 +2,7 @@
 ghost use mathlib.Core.Path.{_≡_};
 ghost use Rattle.window.specs.Marking.{inRange};
 ghost use Rattle.window.specs.Answers.{startAnswer, newAnswer, resetAnswer, classAnswer, heard as heardOf, acceptAnswer, processedAnswer, missingAnswer, requestAnswer, markAllAnswer, markAnswer};
+use super::arrival;
 use super::set;
 use super::set::Bits;
 use super::tested;
@@ -181,7 +182,7 @@ impl ReceiveWindow {
         if tested::is_valid(self) {
             return Classified {
                 window: self,
-                answer: Classification::Found(tested::classify(self, seq)),
+                answer: Classification::Found(arrival::classify(self, seq)),
             };
         }
         Classified {
@@ -195,20 +196,20 @@ impl ReceiveWindow {
         ensures { λ r. ⌜ r ≡ acceptAnswer self seq ⌝ }
     {
         if tested::is_valid(self) {
-            if tested::in_order(self, seq) {
-                return heard(tested::accept_next(self, seq));
+            if arrival::in_order(self, seq) {
+                return heard(arrival::accept_next(self, seq));
             }
-            if tested::is_ahead(self, seq) {
-                let lost = tested::lost_to(self, seq);
+            if arrival::is_ahead(self, seq) {
+                let lost = arrival::lost_to(self, seq);
                 return Accepted {
-                    window: tested::moved_to(self, seq),
+                    window: arrival::moved_to(self, seq),
                     answer: Acceptance::Heard {
-                        class: tested::class_ahead(self, seq),
+                        class: arrival::class_ahead(self, seq),
                         lost,
                     },
                 };
             }
-            return heard(tested::accept_behind(self, seq));
+            return heard(arrival::accept_behind(self, seq));
         }
         Accepted {
             window: self,

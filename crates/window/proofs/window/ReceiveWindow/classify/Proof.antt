@@ -1,4 +1,4 @@
--- The state is tested, and the rest is `tested::classify`.
+-- The state is tested, and the rest is `arrival::classify`.
 use mathlib.Core.Path.{sym, _∙_}
 use Rattle.window.proofs.Validity.{valid-of}
 use Rattle.window.proofs.Answers.{class-refused, class-found}

@@ -9,8 +9,8 @@ use Rattle.window.proofs.Words.{val-is}
 use Rattle.window.proofs.Arrivals.{new-lost-is}
 use Rattle.window.proofs.Accepts.{new-distance, accept-new-is}
 use borrow.Author.Needs.{needs}
-use Rattle.window.proofs.tested.lost_to.Statement.{statement}
-use Rattle.window.proofs.tested.lost_to.Tie as tie
+use Rattle.window.proofs.arrival.lost_to.Statement.{statement}
+use Rattle.window.proofs.arrival.lost_to.Tie as tie
 
 short : (c : tie.After-missing-set) → val (c .missing-set .result) < 2 ^ c .before .args .w .size
 unfolding missingOf

@@ -2,8 +2,8 @@
 use Prim.Native.Nat.{_^_, _<_}
 use native.Mathlib.Omega.{arith}
 use Rattle.window.proofs.InOrder.{accept-in-order}
-use Rattle.window.proofs.tested.accept_next.Statement.{statement}
-use Rattle.window.proofs.tested.accept_next.Tie as tie
+use Rattle.window.proofs.arrival.accept_next.Statement.{statement}
+use Rattle.window.proofs.arrival.accept_next.Tie as tie
 
 bound : (c : tie.Start) → c .args .w .bits .low < 2 ^ 64
 bound c = omega arith

@@ -5,8 +5,8 @@ use Rattle.window.specs.Arrival.{reach}
 use Rattle.config.specs.inner.Ranges.{within-range}
 use Rattle.window.proofs.Classes.{classify-new, classify-late, classify-duplicate}
 use borrow.Author.Needs.{needs}
-use Rattle.window.proofs.tested.classify.Statement.{statement}
-use Rattle.window.proofs.tested.classify.Tie as tie
+use Rattle.window.proofs.arrival.classify.Statement.{statement}
+use Rattle.window.proofs.arrival.classify.Tie as tie
 
 distance-requires : tie.Need-distance-requires
 distance-requires c κs = search needs

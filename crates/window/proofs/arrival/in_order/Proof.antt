@@ -2,8 +2,8 @@
 use mathlib.Core.Path.{_∙_}
 use Rattle.window.proofs.InOrder.{in-order-next, in-order-other}
 use borrow.Author.Needs.{needs}
-use Rattle.window.proofs.tested.in_order.Statement.{statement}
-use Rattle.window.proofs.tested.in_order.Tie as tie
+use Rattle.window.proofs.arrival.in_order.Statement.{statement}
+use Rattle.window.proofs.arrival.in_order.Tie as tie
 
 distance-requires : tie.Need-distance-requires
 distance-requires c κs = search needs

@@ -6,8 +6,8 @@ use Rattle.window.specs.Set.{maxWindow, val, setOf}
 use Rattle.window.proofs.Words.{val-is, push}
 use Rattle.window.proofs.Operations.{mod-times}
 use borrow.Author.Needs.{needs}
-use Rattle.window.proofs.tested.moved.Statement.{statement}
-use Rattle.window.proofs.tested.moved.Tie as tie
+use Rattle.window.proofs.arrival.moved.Statement.{statement}
+use Rattle.window.proofs.arrival.moved.Tie as tie
 
 shifted-requires : tie.Need-shifted-requires
 shifted-requires c κs = search needs

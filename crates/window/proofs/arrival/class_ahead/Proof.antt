@@ -5,8 +5,8 @@ use Rattle.window.specs.Arrival.{newOf}
 use Rattle.window.specs.declared.window.Arrival.{Arrival}
 use Rattle.window.proofs.Accepts.{new-distance, accept-new-is}
 use borrow.Author.Needs.{needs}
-use Rattle.window.proofs.tested.class_ahead.Statement.{statement}
-use Rattle.window.proofs.tested.class_ahead.Tie as tie
+use Rattle.window.proofs.arrival.class_ahead.Statement.{statement}
+use Rattle.window.proofs.arrival.class_ahead.Tie as tie
 
 distance-requires : tie.Need-distance-requires
 distance-requires c κs = search needs

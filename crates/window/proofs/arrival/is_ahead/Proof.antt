@@ -3,8 +3,8 @@ use mathlib.Core.Path.{ap, _∙_}
 use Rattle.config.specs.Range.{within}
 use Rattle.window.specs.Arrival.{reach}
 use borrow.Author.Needs.{needs}
-use Rattle.window.proofs.tested.is_ahead.Statement.{statement}
-use Rattle.window.proofs.tested.is_ahead.Tie as tie
+use Rattle.window.proofs.arrival.is_ahead.Statement.{statement}
+use Rattle.window.proofs.arrival.is_ahead.Tie as tie
 
 distance-requires : tie.Need-distance-requires
 distance-requires c κs = search needs

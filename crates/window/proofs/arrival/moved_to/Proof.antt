@@ -5,8 +5,8 @@ use Rattle.window.proofs.Moves.{moved-set-is}
 use Rattle.window.proofs.Arrivals.{new-window-is}
 use Rattle.window.proofs.Accepts.{new-distance, accept-new-is}
 use borrow.Author.Needs.{needs}
-use Rattle.window.proofs.tested.moved_to.Statement.{statement}
-use Rattle.window.proofs.tested.moved_to.Tie as tie
+use Rattle.window.proofs.arrival.moved_to.Statement.{statement}
+use Rattle.window.proofs.arrival.moved_to.Tie as tie
 
 distance-requires : tie.Need-distance-requires
 distance-requires c κs = search needs

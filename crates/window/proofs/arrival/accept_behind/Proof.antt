@@ -6,8 +6,8 @@ use Rattle.window.specs.Window.{processed}
 use Rattle.window.proofs.Positions.{unprocessed-in}
 use Rattle.window.proofs.Accepts.{behind-duplicate, behind-late}
 use borrow.Author.Needs.{needs}
-use Rattle.window.proofs.tested.accept_behind.Statement.{statement}
-use Rattle.window.proofs.tested.accept_behind.Tie as tie
+use Rattle.window.proofs.arrival.accept_behind.Statement.{statement}
+use Rattle.window.proofs.arrival.accept_behind.Tie as tie
 
 late : (c : tie.Else1) → processed (c .before .before .before .before .args .w) (c .before .before .distance .result) ≡ false
 late c = sym (c .before .processed-at .ensures) ∙ c .if1 .left

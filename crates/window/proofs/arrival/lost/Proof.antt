@@ -11,8 +11,8 @@ use Rattle.window.proofs.Ends.{top-from, bottom-le-top}
 use Rattle.window.proofs.Spans.{pos-of-not-empty}
 use Rattle.window.proofs.Losses.{loss-skipped, loss-both, loss-empty, loss-young, loss-old}
 use borrow.Author.Needs.{needs}
-use Rattle.window.proofs.tested.lost.Statement.{statement}
-use Rattle.window.proofs.tested.lost.Tie as tie
+use Rattle.window.proofs.arrival.lost.Statement.{statement}
+use Rattle.window.proofs.arrival.lost.Tie as tie
 
 -- something was missing before
 some : (c : tie.Else1) → 0 < val (c .before .before .args .m)

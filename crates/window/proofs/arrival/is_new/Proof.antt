@@ -2,8 +2,8 @@ use mathlib.Core.Path.{sym}
 use native.Mathlib.Omega.{arith}
 use Rattle.window.specs.Arrival.{reach}
 use Rattle.config.specs.inner.Ranges.{within-below, low-passed}
-use Rattle.window.proofs.tested.is_new.Statement.{statement}
-use Rattle.window.proofs.tested.is_new.Tie as tie
+use Rattle.window.proofs.arrival.is_new.Statement.{statement}
+use Rattle.window.proofs.arrival.is_new.Tie as tie
 
 returns : tie.Need-returns
 returns c = sym (within-below 1 reach (c .before .args .d) (omega arith))
