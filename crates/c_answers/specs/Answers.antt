@@ -22,8 +22,8 @@ use Rattle.config.specs.declared.answer.Answered.{Answered}
 use Rattle.config.specs.declared.answer.Answered.the-variants.{Is, Refused as NotKnown}
 use Rattle.config.specs.declared.answer.Deadline.{Deadline}
 use Rattle.config.specs.declared.answer.Deadline.the-variants.{Nothing as NoTime, At, Refused as NotTimed}
-use Rattle.sender.specs.declared.sender.Writing.{Writing}
-use Rattle.sender.specs.declared.sender.Writing.the-variants.{Written, Refused as NotWritten}
+use Rattle.writing.specs.declared.writing.Writing.{Writing}
+use Rattle.writing.specs.declared.writing.Writing.the-variants.{Written, Refused as NotWritten}
 use Rattle.c_answers.specs.declared.answers.COutcome.{COutcome}
 use Rattle.c_answers.specs.declared.answers.CEvent.{CEvent}
 use Rattle.c_answers.specs.declared.answers.CRequest.{CRequest}

@@ -9,10 +9,10 @@ use receiver::receiver::Hearing;
 use receiver::receiver::Request;
 use receiver::receiver::StreamEvent;
 use sender::sender::RequestOutcome;
-use sender::sender::Writing;
 use window::window::Acceptance;
 use window::window::Class;
 use window::window::Span;
+use writing::writing::Writing;
 
 // What became of a Retransmit Request: 0 queued, 1 one with its number waits, 2 every place is
 // taken, 3 the error to write, 4 not supported.

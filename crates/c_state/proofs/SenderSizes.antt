@@ -25,17 +25,17 @@ use Rattle.sender.specs.State.{validOf}
 use Rattle.sender.specs.Queueing.{joining, further, joinedTo, pushedAll, queuedTo, queuedOf, wordsCheck, placedOf, sentOf, needOf}
 use Rattle.sender.specs.Requests.{notWritten, withQueue, requestedOf, writtenCount}
 use Rattle.rows.specs.Rows.{rowOf, fitAll}
-use Rattle.sender.specs.Writing.{answerTo, restOf, Served, servedIn, servedOf, idledBy, idledOf, commandsAt, writtenOff, newBy, newOf, writtenBy}
+use Rattle.writing.specs.Writing.{answerTo, restOf, Served, servedIn, servedOf, idledBy, idledOf, commandsAt, writtenOff, newBy, newOf, writtenBy}
 use Rattle.sender.specs.Answers.{sendAnswer, requestAnswer}
 use Rattle.sender.specs.declared.sender.Sender.{Sender}
 use Rattle.sender.specs.declared.sender.Sent.{Sent}
 use Rattle.sender.specs.declared.sender.RequestHeard.{RequestHeard}
-use Rattle.sender.specs.declared.sender.Wrote.{Wrote}
+use Rattle.writing.specs.declared.writing.Wrote.{Wrote}
 use Rattle.idle.specs.declared.idle.IdleTimer.{IdleTimer}
 use Rattle.idle.specs.declared.idle.IdleTimer.the-variants.{Off, Waiting}
 use Rattle.sender.proofs.Validity.{valid-good, valid-fit, valid-unsent, valid-words, valid-few}
 use Rattle.sender.proofs.Queued.{popped-number, pushed-good, settings-few}
-use Rattle.sender.proofs.Serving.{popped-fit}
+use Rattle.writing.proofs.Serving.{popped-fit}
 use Rattle.sender.proofs.Kept.{request-kept, sent-kept}
 use Rattle.c_state.specs.Sender.{NarrowSender}
 use Rattle.config.specs.inner.Choices.{by-check}

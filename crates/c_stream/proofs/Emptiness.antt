@@ -17,12 +17,12 @@ use Rattle.packet.proofs.Outcomes.{outcome}
 use Rattle.history.specs.Queue.{request, popped}
 use Rattle.rows.specs.Rows.{oneMore, rowOf, fitAll}
 use Rattle.sender.specs.Requests.{writtenCount, withQueue}
-use Rattle.sender.specs.Writing.{Served, commandsAt, answerTo, servedIn, servedOf, idledOf, newBy, newOf, writtenBy}
+use Rattle.writing.specs.Writing.{Served, commandsAt, answerTo, servedIn, servedOf, idledOf, newBy, newOf, writtenBy}
 use Rattle.sender.specs.declared.sender.Sender.{Sender}
-use Rattle.sender.specs.declared.sender.Written.{Written as Count}
-use Rattle.sender.specs.declared.sender.Writing.{Writing}
-use Rattle.sender.specs.declared.sender.Writing.the-variants.{Written, Refused as NotWritten}
-use Rattle.sender.specs.declared.sender.Wrote.{Wrote}
+use Rattle.writing.specs.declared.writing.Written.{Written as Count}
+use Rattle.writing.specs.declared.writing.Writing.{Writing}
+use Rattle.writing.specs.declared.writing.Writing.the-variants.{Written, Refused as NotWritten}
+use Rattle.writing.specs.declared.writing.Wrote.{Wrote}
 use Rattle.c_words.proofs.Guards.{either}
 
 -- ---- a payload and its bytes since p and b: the same, or no longer empty

@@ -47,7 +47,7 @@ use Rattle.sender.specs.Answers as sender
 use Rattle.sender.specs.declared.sender.Sender.{Sender}
 use Rattle.sender.specs.declared.sender.Sent.{Sent}
 use Rattle.sender.specs.declared.sender.RequestHeard.{RequestHeard}
-use Rattle.sender.specs.declared.sender.Writing.{Writing}
+use Rattle.writing.specs.declared.writing.Writing.{Writing}
 use Rattle.stream.specs.State.{validOf as streamValid, withReceiver as withReceiverOf}
 use Rattle.stream.specs.Ends.{sendAnswer, requestAnswer, dataAnswer, errorAnswer, nakAnswer, pollAnswer, takeAnswer}
 use Rattle.stream.specs.Answers.{newAnswer, resetRefused, resetAnswer}

@@ -33,8 +33,9 @@ use Rattle.rows.specs.Choice.{repeatsOf}
 use Rattle.fronts.specs.Commands.{fitting, front, behind, commandsIn, commandsOf, longer as longMessage, above}
 use Rattle.sender.specs.State.{validOf as senderValid}
 use Rattle.sender.specs.Queueing.{roomOf, needOf, joinedTo, pushedAll, queuedTo, queuedOf, wordsCheck, placedOf, sentOf}
-use Rattle.sender.specs.Writing.{servedIn, servedOf, idledOf, writtenOff, newOf as newSent, writtenBy}
-use Rattle.sender.specs.Answers.{sendAnswer, writeAnswer}
+use Rattle.writing.specs.Writing.{servedIn, servedOf, idledOf, writtenOff, newOf as newSent, writtenBy}
+use Rattle.sender.specs.Answers.{sendAnswer}
+use Rattle.writing.specs.Answers.{writeAnswer}
 use Rattle.cases.specs.Cases.{range, Table, PayloadTest, duesFrom, IdleTimes}
 
 -- the lost set has 32,702 positions: its ends come from laws and are not computed

@@ -24,12 +24,13 @@ use Rattle.window.specs.declared.window.Started.the-variants.{Window}
 use Rattle.idle.specs.declared.idle.IdleTimer.{IdleTimer}
 use Rattle.idle.specs.declared.idle.IdleTimer.the-variants.{Off, Waiting}
 use Rattle.sender.specs.State.{fresh as freshSender}
-use Rattle.sender.specs.Answers.{sendAnswer, writeAnswer}
+use Rattle.sender.specs.Answers.{sendAnswer}
+use Rattle.writing.specs.Answers.{writeAnswer}
 use Rattle.sender.specs.declared.sender.Sender.{Sender}
 use Rattle.sender.specs.declared.sender.Sent.{Sent}
-use Rattle.sender.specs.declared.sender.Wrote.{Wrote}
-use Rattle.sender.specs.declared.sender.Writing.{Writing}
-use Rattle.sender.specs.declared.sender.Writing.the-variants.{Written}
+use Rattle.writing.specs.declared.writing.Wrote.{Wrote}
+use Rattle.writing.specs.declared.writing.Writing.{Writing}
+use Rattle.writing.specs.declared.writing.Writing.the-variants.{Written}
 
 -- ---- the receive window
 -- the window after a number has arrived

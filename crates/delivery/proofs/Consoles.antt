@@ -20,9 +20,10 @@ use Rattle.packet.specs.declared.writer.Opened.{Opened}
 use Rattle.packet.specs.declared.writer.Opened.the-variants.{Payload}
 use Rattle.command.specs.declared.retransmit.RetransmitRequest.{RetransmitRequest}
 use Rattle.sender.specs.State.{validOf}
-use Rattle.sender.specs.Answers.{newAnswer, writeAnswer}
+use Rattle.sender.specs.Answers.{newAnswer}
+use Rattle.writing.specs.Answers.{writeAnswer}
 use Rattle.sender.specs.declared.sender.Sender.{Sender}
-use Rattle.sender.specs.declared.sender.Wrote.{Wrote}
+use Rattle.writing.specs.declared.writing.Wrote.{Wrote}
 use Rattle.sender_log.specs.Book.{Book, nothing, sentIn, requestedIn}
 use Rattle.sender_log.specs.Writes.{writeIn}
 use Rattle.sender_log.specs.Calls.{TypedConfig}

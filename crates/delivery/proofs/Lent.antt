@@ -14,7 +14,7 @@ use Rattle.config.specs.declared.answer.Outcome.{Outcome}
 use Rattle.config.specs.declared.answer.Outcome.the-variants.{Done, Refused}
 use Rattle.command.specs.Calls.{Call, callOf, commandOf, Typed, accepts}
 use Rattle.command.proofs.RoundTrip.{call-outcome, typed-words}
-use Rattle.sender.specs.declared.sender.Writing.{Writing}
+use Rattle.writing.specs.declared.writing.Writing.{Writing}
 use Rattle.delivery.specs.Commands.{Command, isData, dataIn, dataOf}
 use Rattle.delivery.specs.Console.{Lent, bytes, noPayload, lentAgain, putInto, Entry, queued, wrote, stood, noted, Tag, held, added, tagged, Was, was-wrote, was-stood, was}
 use Rattle.delivery.proofs.Lists.{length-none}

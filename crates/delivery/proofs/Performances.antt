@@ -20,11 +20,12 @@ use Rattle.history.specs.Written.{entryPacket}
 use Rattle.idle.specs.Schedule.{idleNext}
 use Rattle.rows.specs.Rows.{rowOf, packetsFrom, sizesOf, anyWords}
 use Rattle.rows.specs.Choice.{repeatsOf}
-use Rattle.sender.specs.Answers.{newAnswer, sendAnswer, writeAnswer}
+use Rattle.sender.specs.Answers.{newAnswer, sendAnswer}
+use Rattle.writing.specs.Answers.{writeAnswer}
 use Rattle.fronts.specs.Commands.{fitting, front, behind, commandsIn, commandsOf, longer as longMessage, above}
 use Rattle.sender.specs.State.{validOf}
 use Rattle.sender.specs.Queueing.{roomOf, needOf, joinedTo, pushedAll, queuedTo, queuedOf, wordsCheck, placedOf, sentOf}
-use Rattle.sender.specs.Writing.{servedIn, servedOf, idledOf, writtenOff, newOf, writtenBy}
+use Rattle.writing.specs.Writing.{servedIn, servedOf, idledOf, writtenOff, newOf, writtenBy}
 use Rattle.delivery.specs.Commands.{dataIn, wholesIn, dataOf}
 use Rattle.delivery.specs.Positions.{opens}
 use Rattle.delivery.specs.Console.{Call, open-payload, queue-words, write-into, Entry, stepOf, logFrom, freshConsole, accepted, positions}

@@ -22,9 +22,9 @@ use Rattle.packet.specs.declared.writer.Wrote.{Wrote}
 use Rattle.packet.proofs.Outcomes.{outcome, valid-max}
 use Rattle.command.specs.declared.retransmit.RetransmitRequest.{RetransmitRequest}
 use Rattle.rows.specs.Rows.{oneMore, rowOf, fitAll}
-use Rattle.sender.specs.Answers.{writeAnswer}
-use Rattle.sender.specs.declared.sender.Writing.{Writing}
-use Rattle.sender.specs.declared.sender.Writing.the-variants.{Written, Refused as NotWritten}
+use Rattle.writing.specs.Answers.{writeAnswer}
+use Rattle.writing.specs.declared.writing.Writing.{Writing}
+use Rattle.writing.specs.declared.writing.Writing.the-variants.{Written, Refused as NotWritten}
 use Rattle.sender_log.specs.Answers.{bookOf}
 use Rattle.sender_log.specs.Book.{Book, withWaiting}
 use Rattle.sender_log.specs.Calls.{Call, run, AllTyped, TypedConfig}

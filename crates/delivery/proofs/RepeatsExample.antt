@@ -17,12 +17,13 @@ use Rattle.history.specs.State.{stateOk, walkOk}
 use Rattle.history.specs.Push.{popOne, popped, grown, pushed, longer, appended}
 use Rattle.history.specs.Queue.{request, requests, asks, pushAnswer}
 use Rattle.history.specs.Written.{entryPacket}
-use Rattle.sender.specs.Answers.{newAnswer, sendAnswer, requestAnswer, writeAnswer}
+use Rattle.sender.specs.Answers.{newAnswer, sendAnswer, requestAnswer}
+use Rattle.writing.specs.Answers.{writeAnswer}
 use Rattle.fronts.specs.Commands.{fitting, front, behind, commandsIn, commandsOf, longer as longMessage, above}
 use Rattle.sender.specs.State.{validOf}
 use Rattle.sender.specs.Queueing.{roomOf, needOf, joinedTo, pushedAll, queuedTo, queuedOf, wordsCheck, placedOf, sentOf}
 use Rattle.sender.specs.Requests.{requestedOf}
-use Rattle.sender.specs.Writing.{servedIn, servedOf, idledOf, writtenOff, newOf, writtenBy}
+use Rattle.writing.specs.Writing.{servedIn, servedOf, idledOf, writtenOff, newOf, writtenBy}
 use Rattle.config.specs.declared.answer.Outcome.the-variants.{Done}
 use Rattle.window.specs.declared.window.Class.{Class}
 use Rattle.window.specs.declared.window.Class.the-variants.{New, Duplicate}

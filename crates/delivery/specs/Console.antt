@@ -18,9 +18,10 @@ use Rattle.packet.specs.declared.writer.Opened.the-variants.{Payload, Refused a
 use Rattle.command.specs.Calls.{callOf, commandOf, Typed as WriteTyped}
 use Rattle.command.specs.Calls as Writes
 use Rattle.command.specs.declared.retransmit.RetransmitRequest.{RetransmitRequest}
-use Rattle.sender.specs.Answers.{newAnswer, sendAnswer, requestAnswer, writeAnswer}
+use Rattle.sender.specs.Answers.{newAnswer, sendAnswer, requestAnswer}
+use Rattle.writing.specs.Answers.{writeAnswer}
 use Rattle.sender.specs.declared.sender.Sender.{Sender}
-use Rattle.sender.specs.declared.sender.Writing.{Writing}
+use Rattle.writing.specs.declared.writing.Writing.{Writing}
 use Rattle.sender_log.specs.Calls.{TypedConfig}
 use Rattle.delivery.specs.Commands.{Command, isData, dataOf}
 use Rattle.delivery.specs.Positions.{contents, position}

@@ -27,11 +27,11 @@ use Rattle.command.specs.declared.retransmit.RetransmitError.{RetransmitError}
 use Rattle.sender.specs.Answers as sender
 use Rattle.sender.specs.Queueing.{unsent, sentOf}
 use Rattle.sender.specs.State.{validOf as senderValid}
-use Rattle.sender.specs.Writing.{Served, servedIn, servedOf, idledBy, idledOf, newBy, newOf, wrote, writtenBy, commandsAt}
+use Rattle.writing.specs.Writing.{Served, servedIn, servedOf, idledBy, idledOf, newBy, newOf, wrote, writtenBy, commandsAt}
 use Rattle.sender.specs.Requests.{writtenCount}
 use Rattle.sender.specs.declared.sender.Sender.{Sender}
 use Rattle.sender.specs.declared.sender.Sent.{Sent}
-use Rattle.sender.specs.declared.sender.Wrote.{Wrote as SenderWrote}
+use Rattle.writing.specs.declared.writing.Wrote.{Wrote as SenderWrote}
 use Rattle.stream.specs.Ends.{sendAnswer, pollAnswer, toldBy}
 use Rattle.stream.specs.State.{validOf, withSender, withReceiver}
 use Rattle.stream.specs.Writing.{afterRequest, sentAfter, dataWritten, writeAnswer, writeRefused, countedAlso}

@@ -28,7 +28,7 @@ use Rattle.fronts.specs.Commands.{fitting, front, behind, commandsIn, commandsO
 use Rattle.sender.specs.State.{validOf as senderValid}
 use Rattle.sender.specs.Queueing.{roomOf, needOf, joinedTo, pushedAll, queuedTo, queuedOf, wordsCheck, placedOf, sentOf}
 use Rattle.sender.specs.Requests.{requestedOf}
-use Rattle.sender.specs.Writing.{servedIn, servedOf, idledOf, writtenOff, newOf as newWritten, writtenBy}
+use Rattle.writing.specs.Writing.{servedIn, servedOf, idledOf, writtenOff, newOf as newWritten, writtenBy}
 use Rattle.stream.specs.State.{validOf as streamValid}
 use Rattle.stream.specs.Ends.{sendAnswer, requestAnswer, dataAnswer, errorAnswer, pollAnswer}
 use Rattle.stream.specs.Writing.{sentAfter, dataWritten, writeAnswer}

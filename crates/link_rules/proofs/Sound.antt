@@ -51,17 +51,18 @@ use Rattle.receiver.specs.declared.receiver.Timer.the-variants.{Stopped, Runnin
 use Rattle.receiver.specs.declared.receiver.Told.{Told}
 use Rattle.receiver_log.proofs.Follows.{passes}
 use Rattle.sender.specs.Answers as sender
+use Rattle.writing.specs.Answers as writing
 use Rattle.fronts.specs.Commands.{front, behind, commandsIn, commandsOf, longer, above}
 use Rattle.sender.specs.Queueing.{roomOf, needOf, queuedOf, wordsCheck, placedOf as queuePlaced, sentOf}
 use Rattle.sender.specs.Requests.{notWritten, outcomeOf, requestedOf}
 use Rattle.sender.specs.State.{validOf as senderValid}
-use Rattle.sender.specs.Writing.{writtenBy}
+use Rattle.writing.specs.Writing.{writtenBy}
 use Rattle.sender.specs.declared.sender.RequestHeard.{RequestHeard as SenderRequested}
 use Rattle.sender.specs.declared.sender.Sender.{Sender}
 use Rattle.sender.specs.declared.sender.Sent.{Sent}
-use Rattle.sender.specs.declared.sender.Writing.{Writing}
-use Rattle.sender.specs.declared.sender.Writing.the-variants.{Written, Refused as NotWritten}
-use Rattle.sender.specs.declared.sender.Wrote.{Wrote as SenderWrote}
+use Rattle.writing.specs.declared.writing.Writing.{Writing}
+use Rattle.writing.specs.declared.writing.Writing.the-variants.{Written, Refused as NotWritten}
+use Rattle.writing.specs.declared.writing.Wrote.{Wrote as SenderWrote}
 use Rattle.sender_log.specs.Book.{Book, oldestIn, withWaiting}
 use Rattle.sender_log.specs.Calls.{TypedConfig}
 use Rattle.sender_log.specs.Writes.{dataFrom, answerIn, ServedIn, servedIn, idledIn, WriteIn, newBy, newWritten, writtenIn, writeIn}
@@ -323,8 +324,8 @@ module _ (cfg : StreamConfig) (ok : checkOf cfg ≡ Done) (typed : TypedConfig c
   counted n (Written w) e = e
   counted n (NotWritten why) e = e
 
-  write-is : (p : PayloadWriter) (b : List ℕ) → Room p b → sender.writeAnswer (s .sender) cfg time p b ring ≡ writtenBy (s .sender) cfg time p b ring
-  unfolding sender.writeAnswer
+  write-is : (p : PayloadWriter) (b : List ℕ) → Room p b → writing.writeAnswer (s .sender) cfg time p b ring ≡ writtenBy (s .sender) cfg time p b ring
+  unfolding writing.writeAnswer
   write-is p b m = rw (ok, follows-valid c q (s .sender) ring (i .book) (i .follows), m .valid)
 
   held : size (i .book .written) + size (i .book .unwritten) ≤ c
@@ -338,13 +339,13 @@ module _ (cfg : StreamConfig) (ok : checkOf cfg ≡ Done) (typed : TypedConfig c
   sent-after : (n : ℕ) (r : Receiver) (p : PayloadWriter) (b : List ℕ) → Valid (r .window) → Room p b → startOf p ≤ 20 → WriteSound (sentAfter n (withReceiver s r) cfg time p b ring)
   unfolding sentAfter
   sent-after n r p b v m low =
-      let e : sender.writeAnswer (s .sender) cfg time p b ring ≡ writtenBy (s .sender) cfg time p b ring = write-is p b m in
+      let e : writing.writeAnswer (s .sender) cfg time p b ring ≡ writtenBy (s .sender) cfg time p b ring = write-is p b m in
       let k = write-follows c q (s .sender) ring (i .book) (i .follows) cfg typed time p b in
       let small = follows-small c q (s .sender) ring (i .book) (i .follows) in
       let t = write-taken cfg ok time c (i .book) small p b m in
       let d = write-calm c cfg ok time (i .book) small (i .follows .least) held few p b m low in
       subst (λ (w : SenderWrote × List ℕ × List ℕ). WriteSound (record { stream = withSender (withReceiver s r) (w .0 .sender); payload = w .0 .payload; answer = countedAlso n (w .0 .answer) }, w .1, w .2)) e
-      (record { stream = record { book = _; follows = k .0; window = v }; answer = counted n (sender.writeAnswer (s .sender) cfg time p b ring .0 .answer) (ap writeRefuses (k .1) ∙ t); calm = omega (arith, k .0 .unsent-words, d) })
+      (record { stream = record { book = _; follows = k .0; window = v }; answer = counted n (writing.writeAnswer (s .sender) cfg time p b ring .0 .answer) (ap writeRefuses (k .1) ∙ t); calm = omega (arith, k .0 .unsent-words, d) })
 
   pub written-sound : (p : PayloadWriter) (b : List ℕ) → Room p b → p .len ≤ 12 → WriteSound (writeAnswer s cfg time p b ring)
   unfolding writeAnswer dataWritten

@@ -12,8 +12,8 @@ use Rattle.receiver.specs.declared.receiver.StreamEvent.{StreamEvent}
 use Rattle.receiver.specs.declared.receiver.StreamEvent.the-variants.{Nothing as NoEvent, DataLoss, ErrorLoss, RetransmitError as ErrorOnly, Refused as NotTold}
 use Rattle.sender.specs.declared.sender.RequestOutcome.{RequestOutcome}
 use Rattle.sender.specs.declared.sender.RequestOutcome.the-variants.{Queued, Ignored, Error, NotSupported, Refused as NotTaken}
-use Rattle.sender.specs.declared.sender.Writing.{Writing}
-use Rattle.sender.specs.declared.sender.Writing.the-variants.{Written, Refused as NotWritten}
+use Rattle.writing.specs.declared.writing.Writing.{Writing}
+use Rattle.writing.specs.declared.writing.Writing.the-variants.{Written, Refused as NotWritten}
 use Rattle.sender_log.specs.Calls.{TypedConfig}
 use Rattle.stream.specs.Answers.{sizesOut}
 use Rattle.link_rules.specs.Arriving.{Answer, heard, told, requested}

@@ -7,17 +7,13 @@ use lib.ListN.{length}
 use borrow.Author.Tests.{eq-eqb, ne-eqb}
 use Rattle.config.specs.Range.{outside}
 use Rattle.config.specs.declared.refusal.Refusal.the-variants.{InvalidState}
-use Rattle.config.specs.declared.answer.Outcome.the-variants.{Done, Refused}
+use Rattle.config.specs.declared.answer.Outcome.the-variants.{Done}
 use Rattle.config.specs.inner.Ranges.{not-outside}
 use Rattle.sender.specs.State.{validOf, startOf, resetOf}
-use Rattle.sender.specs.Answers.{notStarted, newAnswer, resetRefused, resetAnswer, writeRefused, writeAnswer}
+use Rattle.sender.specs.Answers.{notStarted, newAnswer, resetRefused, resetAnswer}
 use Rattle.sender.specs.declared.sender.Sender.{Sender}
 use Rattle.sender.specs.declared.sender.Started.{Started}
 use Rattle.sender.specs.declared.sender.WasReset.{WasReset}
-use Rattle.config.specs.Settings.{checkOf}
-use Rattle.config.specs.declared.refusal.Refusal.{Refusal}
-use Rattle.config.specs.declared.settings.StreamConfig.{StreamConfig}
-use Rattle.packet.specs.declared.writer.PayloadWriter.{PayloadWriter}
 
 -- ---- starting
 module _ (words places : ℕ) (ring : List ℕ) (r : Started) where
@@ -66,9 +62,3 @@ module _ (s : Sender) (ring : List ℕ) where
         let one = ap (λ (x : Sender × List ℕ). x .0) e in
         let two = ap (λ (x : Sender × List ℕ). x .1) e in
         rw (v, one, two)
-
--- ---- a write
-pub write-settings : (s : Sender) (cfg : StreamConfig) (time : ℕ) (p : PayloadWriter) (b ring : List ℕ) (why : Refusal) → checkOf cfg ≡ Refused why
-    → writeRefused s p b ring why ≡ writeAnswer s cfg time p b ring
-unfolding writeAnswer
-write-settings s cfg time p b ring why e = rw e

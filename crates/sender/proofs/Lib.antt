@@ -5,8 +5,4 @@ mod Questions
 mod Answers
 pub mod Parts
 pub mod Kept
-pub mod Serving
-pub mod Idling
-pub mod Repeating
 mod Figures
-pub mod Places

@@ -1,6 +1,6 @@
 -- 01, "Numbers of each operation": calls given settings test 9, 7, 8; each call given a state then tests 13. A refused call hands the state back as it was.
 use Prim.Native.Nat.{ℕ}
-use mathlib.Core.Bool.{cond, not, _||_, _&&_}
+use mathlib.Core.Bool.{cond, not, _||_}
 use mathlib.Core.List.{List}
 use lib.ListN.{length}
 use lib.Dec.{eqb}
@@ -10,13 +10,10 @@ use Rattle.config.specs.Settings.{checkOf}
 use Rattle.config.specs.declared.refusal.Refusal.{Refusal}
 use Rattle.config.specs.declared.refusal.Refusal.the-variants.{SizeNotAllowed}
 use Rattle.config.specs.declared.settings.StreamConfig.{StreamConfig}
-use Rattle.packet.specs.Write.{validOf as payloadValid}
-use Rattle.packet.specs.declared.writer.PayloadWriter.{PayloadWriter}
 use Rattle.command.specs.declared.retransmit.RetransmitRequest.{RetransmitRequest}
 use Rattle.sender.specs.State.{validOf, fresh, startOf, resetOf}
 use Rattle.sender.specs.Queueing.{unsent, sentOf}
 use Rattle.sender.specs.Requests.{told, requestedOf, deadlineOf, wantsOf, nextOf}
-use Rattle.sender.specs.Writing.{writtenBy}
 use Rattle.sender.specs.declared.sender.Sender.{Sender}
 use Rattle.config.specs.declared.answer.Outcome.the-variants.{Done, Refused}
 use Rattle.config.specs.declared.answer.Answered.{Answered}
@@ -30,8 +27,6 @@ use Rattle.sender.specs.declared.sender.RequestOutcome.the-variants.{Ref
 use Rattle.sender.specs.declared.sender.RequestHeard.{RequestHeard}
 use Rattle.sender.specs.declared.sender.Next.{Next}
 use Rattle.sender.specs.declared.sender.Next.the-variants.{Number, Refused as NextRefused}
-use Rattle.sender.specs.declared.sender.Writing.the-variants.{Refused as WritingRefused}
-use Rattle.sender.specs.declared.sender.Wrote.{Wrote}
 
 -- what stands in for a sender where the start is refused: one that every call refuses
 abbrev pub unstarted : Sender
@@ -69,11 +64,3 @@ wantsAnswer s ring time = onState (validOf s ring) AnsweredRefused (Is (wantsOf 
 
 unfoldable pub nextAnswer : Sender → List ℕ → Next
 nextAnswer s ring = onState (validOf s ring) NextRefused (Number (nextOf s))
-
--- the sender with the payload, the payload's bytes and the lent history
-abbrev pub writeRefused : Sender → PayloadWriter → List ℕ → List ℕ → Refusal → Wrote × List ℕ × List ℕ
-writeRefused s p b ring why = (record { sender = s; payload = p; answer = WritingRefused why }, b, ring)
-
-unfoldable pub writeAnswer : Sender → StreamConfig → ℕ → PayloadWriter → List ℕ → List ℕ → Wrote × List ℕ × List ℕ
-writeAnswer s cfg time p b ring =
-    entry (checkOf cfg) (validOf s ring && payloadValid p (length b)) (writeRefused s p b ring) (writtenBy s cfg time p b ring)

@@ -2,6 +2,4 @@
 pub mod State
 pub mod Queueing
 pub mod Requests
-pub mod Writing
-pub mod Placing
 pub mod Answers

@@ -9,16 +9,11 @@
 //                 +-----------------------------------------------+
 //
 // The history's words lie in a slice that the caller lends, here `ring`. Times are given by the
-// caller, in ms. Settings are given with each call. The idle schedule is crate `idle`, what is written
-// of the history crate `rows`, and how words divide into messages and commands crate `fronts`.
+// caller, in ms. Settings are given with each call. The idle schedule is crate `idle`, how words divide
+// into messages and commands crate `fronts`, and the write crate `writing`.
 //
 //   sender    the entry points: 9, 7, 8 for settings, then 13 for a state that no call has left; 5, 3
 //             and 6 for words that are not queued; 12 for sizes that a start does not take
-//   tested    the same over settings and a state that were tested; `test` is the state test, and hands
-//             on the mark from which a write walks
-//   writing   the write over settings, a state and a payload that were tested, for the stream
-//   placing   the mark from which a write walks, after words were queued
-pub mod placing;
+//   tested    the same over settings and a state that were tested; `is_valid` is the state test
 pub mod sender;
 pub mod tested;
-pub mod writing;

@@ -1,9 +1,8 @@
 // The sender and its calls. Each takes the sender by value and hands it back with its answer; the
 // history's words lie in the lent slice `ring`.
 ghost use mathlib.Core.Path.{_≡_};
-ghost use Rattle.sender.specs.Answers.{newAnswer, resetAnswer, sendAnswer, requestAnswer, deadlineAnswer, wantsAnswer, nextAnswer, writeAnswer};
+ghost use Rattle.sender.specs.Answers.{newAnswer, resetAnswer, sendAnswer, requestAnswer, deadlineAnswer, wantsAnswer, nextAnswer};
 use super::tested;
-use super::writing;
 use command::retransmit::RetransmitError;
 use command::retransmit::RetransmitRequest;
 use config::answer::Answered;
@@ -20,7 +19,6 @@ use history::queue::Ignored;
 use history::queue::PLACES;
 use history::queue::RetransmitQueue;
 use idle::idle::IdleTimer;
-use packet::writer::PayloadWriter;
 
 //   history:  | written .. | unsent .. |      newest
 pub struct Sender {
@@ -67,24 +65,6 @@ pub struct RequestHeard {
 pub enum Next {
     Number(SeqNum),
     Refused(Refusal),
-}
-
-// What a write has written into the payload.
-pub struct Written {
-    pub commands: usize,
-    // The next command in order did not fit.
-    pub more: bool,
-}
-
-pub enum Writing {
-    Written(Written),
-    Refused(Refusal),
-}
-
-pub struct Wrote {
-    pub sender: Sender,
-    pub payload: PayloadWriter,
-    pub answer: Writing,
 }
 
 impl Sender {
@@ -166,46 +146,6 @@ impl Sender {
                 RequestHeard {
                     sender: self,
                     outcome: RequestOutcome::Refused(Refusal::InvalidState),
-                }
-            }
-        }
-    }
-
-    // Writes into the payload: waiting retransmits, up to R repeats, and new commands, after a due idle
-    // command was queued. 3 when the first new command is too large for an empty payload.
-    pub fn write(
-        self,
-        cfg: StreamConfig,
-        time: u64,
-        p: PayloadWriter,
-        buf: &mut [u8],
-        ring: &mut [u32],
-    ) -> Wrote
-        ensures { λ r. ⌜ (r, now (buf .exit), now (ring .exit)) ≡ writeAnswer self cfg time p (now (buf .entry)) (now (ring .entry)) ⌝ }
-    {
-        match cfg.check() {
-            Outcome::Refused(why) => Wrote {
-                sender: self,
-                payload: p,
-                answer: Writing::Refused(why),
-            },
-            Outcome::Done => {
-                let found = tested::test(self, &ring[..], cfg.fec_repeats as usize);
-                if found.ok {
-                    if packet::tested::is_valid(p, buf.len()) {
-                        let mark = found.mark;
-                        return writing::write(self, cfg, time, p, buf, ring, mark);
-                    }
-                    return Wrote {
-                        sender: self,
-                        payload: p,
-                        answer: Writing::Refused(Refusal::InvalidState),
-                    };
-                }
-                Wrote {
-                    sender: self,
-                    payload: p,
-                    answer: Writing::Refused(Refusal::InvalidState),
                 }
             }
         }

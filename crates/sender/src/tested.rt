@@ -1,5 +1,5 @@
-// The calls over settings and a state that were tested: `is_valid` and `test` are the test of the
-// state, and the others require what it says.
+// The calls over settings and a state that were tested: `is_valid` is the test of the state, and the
+// others require what it says.
 ghost use mathlib.Core.Path.{_≡_};
 ghost use mathlib.Core.Bool.{true, false};
 ghost use Prim.Native.Nat.{_+_, _≤_, _<_};
@@ -9,13 +9,12 @@ ghost use Rattle.config.specs.declared.answer.Outcome.the-variants.{Done};
 ghost use Rattle.config.specs.Sequence.{turn};
 ghost use Rattle.command.specs.Messages.{wholeOf};
 ghost use Rattle.fronts.specs.Commands.{commandsOf, above};
-ghost use Rattle.history.specs.State.{Good, Answers};
+ghost use Rattle.history.specs.State.{Good};
 ghost use Rattle.history.specs.Headers.{lengthAt};
-ghost use Rattle.history.specs.Queue.{Fit, request};
+ghost use Rattle.history.specs.Queue.{Fit};
 ghost use Rattle.sender.specs.State.{validOf, startOf, resetOf};
 ghost use Rattle.sender.specs.Queueing.{roomOf, joinedTo, pushedAll, wordsCheck, placedOf, sentOf};
 ghost use Rattle.sender.specs.Requests.{outcomeOf, requestedOf, dueAt, deadlineOf, wantsOf, nextOf};
-ghost use Rattle.sender.specs.Writing.{beginsOf};
 ghost use Rattle.sender.specs.Answers.{notStarted};
 use super::sender::RequestHeard;
 use super::sender::RequestOutcome;
@@ -32,9 +31,7 @@ use config::refusal::Refusal;
 use config::sequence;
 use config::sequence::SeqNum;
 use config::settings::StreamConfig;
-use history::history::Mark;
 use history::history::SendHistory;
-use history::history::Tested;
 use history::queue::Push;
 use history::queue::RetransmitQueue;
 use idle::idle::IdleTimer;
@@ -53,73 +50,6 @@ pub fn is_valid(s: Sender, ring: &[u32]) -> bool
         return false;
     }
     false
-}
-
-// The number that the oldest request asks for.
-fn asked(queue: RetransmitQueue) -> SeqNum
-    requires { ⌜ Fit queue ⌝ }
-    ensures { λ r. ⌜ r ≡ request queue 0 .seq ⌝ }
-{
-    let head = queue.head;
-    let req = queue.items[head];
-    req.seq
-}
-
-// The fewest commands of a history that are worth a look at the request.
-const WORTH: usize = 8;
-
-// How far before the unwritten commands a write begins: `back`, or further where the oldest request that
-// waits asks for an earlier command. A short history is walked again as fast.
-fn begins(s: Sender, back: usize) -> usize
-    requires { ⌜ Fit (s .queue) ⌝ }
-    ensures { λ r. ⌜ r ≡ beginsOf s back ⌝ }
-{
-    let history = s.history;
-    let queue = s.queue;
-    if queue.len == 0 {
-        return back;
-    }
-    if history.count < WORTH {
-        return back;
-    }
-    if history.count < s.unsent {
-        return back;
-    }
-    let written = history.count - s.unsent;
-    let k = sequence::distance(history.oldest, asked(queue)) as usize;
-    if written <= k {
-        return back;
-    }
-    let far = written - k;
-    if far <= back {
-        return back;
-    }
-    far
-}
-
-// The state test, and from its walk the header where a write begins that repeats the last `back` written
-// commands, or the oldest where fewer are written.
-pub fn test(s: Sender, ring: &[u32], back: usize) -> Tested
-    ensures { λ r. ⌜ Answers (validOf s (now (ring .entry))) (s .history) (now (ring .entry)) (s .unsent) (beginsOf s back) r ⌝ }
-{
-    let history = s.history;
-    let queue = s.queue;
-    if queue.state_ok() {
-        let tested = history.state_walk(ring, s.unsent, s.unsent_words, begins(s, back));
-        if tested.ok {
-            let idle = s.idle;
-            let mark = tested.mark;
-            return Tested {
-                ok: idle.state_ok(),
-                mark,
-            };
-        }
-        return tested;
-    }
-    Tested {
-        ok: false,
-        mark: Mark { entry: 0, at: 0 },
-    }
 }
 
 // A sender of sizes 0, which the state test refuses.

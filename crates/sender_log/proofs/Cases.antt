@@ -22,8 +22,8 @@ use Rattle.rows.specs.Choice.{repeatsOf}
 use Rattle.fronts.specs.Commands.{fitting, front, behind, commandsIn, commandsOf, longer, above}
 use Rattle.sender.specs.Queueing.{wordsCheck}
 use Rattle.sender.specs.declared.sender.RequestOutcome.the-variants.{Queued as Waits, Error}
-use Rattle.sender.specs.declared.sender.Writing.{Writing}
-use Rattle.sender.specs.declared.sender.Writing.the-variants.{Written}
+use Rattle.writing.specs.declared.writing.Writing.{Writing}
+use Rattle.writing.specs.declared.writing.Writing.the-variants.{Written}
 use Rattle.sender_log.specs.Book.{Book, nothing, freed, pushedIn, pushedAllIn, joinedLast, joinedIn, roomIn, queuedIn, sentIn, requestedIn}
 use Rattle.sender_log.specs.Writes.{dataFrom, answerIn, restIn, servedIn, idledIn, writtenOn, WriteIn, newWritten, writtenIn, writeIn}
 use Rattle.sender_log.specs.Calls.{Call, queue-words, retransmit-request, write, Entry}

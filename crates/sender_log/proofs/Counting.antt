@@ -27,9 +27,9 @@ use Rattle.command.specs.declared.retransmit.RetransmitRequest.{RetransmitReque
 use Rattle.history.specs.Entries.{Short}
 use Rattle.rows.specs.Rows.{Row, rowOf, sizesOf, fitAll}
 use Rattle.rows.specs.Choice.{repeatsOf}
-use Rattle.sender.specs.declared.sender.Writing.{Writing}
-use Rattle.sender.specs.declared.sender.Writing.the-variants.{Written, Refused}
-use Rattle.sender.specs.declared.sender.Written.{Written as Amount}
+use Rattle.writing.specs.declared.writing.Writing.{Writing}
+use Rattle.writing.specs.declared.writing.Writing.the-variants.{Written, Refused}
+use Rattle.writing.specs.declared.writing.Written.{Written as Amount}
 use Rattle.sender_log.specs.Book.{Book, oldestIn, indexIn, absentIn, withWaiting}
 use Rattle.sender_log.specs.Writes.{writtenFrom, newIn, reachIn, answerIn, restIn, ServedIn, servedIn, servedAlso, idledIn, againIn, WriteIn, newBy, newWritten, refused, writtenIn, writeIn}
 use Rattle.sender_log.specs.Promise.{NoRoom}

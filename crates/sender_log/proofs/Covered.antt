@@ -17,7 +17,8 @@ use Rattle.packet.specs.Layout.{Words32}
 use Rattle.packet.specs.Write.{limitOf, startOf, validOf as payloadValid}
 use Rattle.packet.specs.declared.writer.PayloadWriter.{PayloadWriter}
 use Rattle.command.specs.declared.retransmit.RetransmitRequest.{RetransmitRequest}
-use Rattle.sender.specs.Answers.{newAnswer, writeAnswer}
+use Rattle.sender.specs.Answers.{newAnswer}
+use Rattle.writing.specs.Answers.{writeAnswer}
 use Rattle.history.specs.Entries.{Short}
 use Rattle.idle.specs.declared.idle.IdleTimer.the-variants.{Waiting}
 use Rattle.sender.specs.declared.sender.Sender.{Sender}

@@ -17,7 +17,7 @@ use Rattle.idle.specs.declared.idle.IdleTimer.{IdleTimer}
 use Rattle.idle.specs.declared.idle.IdleTimer.the-variants.{Off, Waiting}
 use Rattle.idle.proofs.Steps.{next-ok}
 use Rattle.sender.specs.Queueing.{holding}
-use Rattle.sender.specs.Writing.{withIdle, idledBy, idledOf}
+use Rattle.writing.specs.Writing.{withIdle, idledBy, idledOf}
 use Rattle.sender.specs.declared.sender.Sender.{Sender}
 use Rattle.sender_log.specs.Book.{Book, freed, pushedIn}
 use Rattle.sender_log.specs.Writes.{isEmpty, withIdle as withTimer, idledBy as idledByIn, idledIn}

@@ -35,8 +35,8 @@ use Rattle.idle.specs.declared.idle.IdleTimer.the-variants.{Off, Waiting}
 use Rattle.rows.specs.Rows.{Row, rowOf, sizesOf, fitAll}
 use Rattle.sender.specs.declared.sender.Sender.{Sender}
 use Rattle.sender_log.specs.Book.{Book, oldestIn, freed, pushedIn, indexIn, absentIn, errorIn, withWaiting}
-use Rattle.sender.specs.declared.sender.Written.{Written as Amount}
-use Rattle.sender.specs.declared.sender.Writing.the-variants.{Written}
+use Rattle.writing.specs.declared.writing.Written.{Written as Amount}
+use Rattle.writing.specs.declared.writing.Writing.the-variants.{Written}
 use Rattle.sender_log.specs.Writes.{dataFrom, writtenFrom, newIn, reachIn, answerIn, restIn, ServedIn, servedAlso, servedIn, isEmpty, withIdle, idledBy, idledIn, againIn, writtenOn, WriteIn, wrote, refused, newBy, newWritten, writtenIn, writeIn}
 use Rattle.sender_log.specs.Calls.{run}
 use Rattle.sender_log.specs.Answers.{bookOf}

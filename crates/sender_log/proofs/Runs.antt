@@ -11,7 +11,8 @@ use Rattle.config.specs.declared.refusal.Refusal.{Refusal}
 use Rattle.history.specs.State.{stateOk}
 use Rattle.history.proofs.Entries.{holds-entries}
 use Rattle.sender.specs.State.{validOf, startOf}
-use Rattle.sender.specs.Answers.{unstarted, notStarted, newAnswer, resetAnswer, sendAnswer, requestAnswer, deadlineAnswer, wantsAnswer, nextAnswer, writeAnswer}
+use Rattle.sender.specs.Answers.{unstarted, notStarted, newAnswer, resetAnswer, sendAnswer, requestAnswer, deadlineAnswer, wantsAnswer, nextAnswer}
+use Rattle.writing.specs.Answers.{writeAnswer}
 use Rattle.sender.specs.declared.sender.Sender.{Sender}
 use Rattle.config.specs.declared.answer.Outcome.the-variants.{Done, Refused}
 use Rattle.sender.specs.declared.sender.Started.{Started as StartAnswer}

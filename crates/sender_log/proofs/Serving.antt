@@ -17,7 +17,7 @@ use Rattle.history.proofs.Slots.{slot-in}
 use Rattle.history.proofs.Queues.{waiting-popped, waiting-fronted}
 use Rattle.rows.specs.Rows.{Row, rowOf}
 use Rattle.sender.specs.Requests.{writtenCount, indexOf, notInBuffer, withQueue}
-use Rattle.sender.specs.Writing.{commandsAt, reachOf, answerTo, restOf, Served, servedAlso, servedIn}
+use Rattle.writing.specs.Writing.{commandsAt, reachOf, answerTo, restOf, Served, servedAlso, servedIn}
 use Rattle.sender.specs.declared.sender.Sender.{Sender}
 use Rattle.sender_log.specs.Book.{Book, oldestIn, indexIn, absentIn, errorIn, withWaiting}
 use Rattle.sender_log.specs.Writes.{dataFrom, writtenFrom, reachIn, answerIn, restIn, ServedIn, servedIn as servedBy, servedAlso as servedByAlso}

@@ -27,10 +27,10 @@ use Rattle.idle.specs.declared.idle.IdleTimer.{IdleTimer}
 use Rattle.idle.specs.declared.idle.IdleTimer.the-variants.{Waiting}
 use Rattle.rows.specs.Rows.{Row, rowOf, packetsFrom, fitAll, anyWords}
 use Rattle.sender.specs.Requests.{writtenCount}
-use Rattle.sender.specs.Writing.{commandsAt, Served, servedIn, servedOf, idledOf, idleAfter, writtenOff, wrote, refused, newBy, newOf, writtenBy}
-use Rattle.sender.specs.Answers.{writeRefused, writeAnswer}
+use Rattle.writing.specs.Writing.{commandsAt, Served, servedIn, servedOf, idledOf, idleAfter, writtenOff, wrote, refused, newBy, newOf, writtenBy}
+use Rattle.writing.specs.Answers.{writeRefused, writeAnswer}
 use Rattle.sender.specs.declared.sender.Sender.{Sender}
-use Rattle.sender.specs.declared.sender.Wrote.{Wrote}
+use Rattle.writing.specs.declared.writing.Wrote.{Wrote}
 use Rattle.sender_log.specs.Book.{Book, oldestIn, withWaiting}
 use Rattle.sender_log.specs.Writes.{dataFrom, writtenFrom, newIn, ServedIn, servedIn as servedBy, idledIn, againIn, writtenOn, WriteIn, wrote as wroteIn, refused as refusedIn, newBy as newByIn, newWritten, writtenIn, writeIn}
 use Rattle.sender_log.specs.Calls.{TypedConfig}

@@ -6,11 +6,12 @@ use Rattle.config.specs.declared.settings.StreamConfig.{StreamConfig}
 use Rattle.packet.specs.Layout.{Words32}
 use Rattle.packet.specs.declared.writer.PayloadWriter.{PayloadWriter}
 use Rattle.command.specs.declared.retransmit.RetransmitRequest.{RetransmitRequest}
-use Rattle.sender.specs.Answers.{newAnswer, sendAnswer, requestAnswer, writeAnswer}
+use Rattle.sender.specs.Answers.{newAnswer, sendAnswer, requestAnswer}
+use Rattle.writing.specs.Answers.{writeAnswer}
 use Rattle.sender.specs.declared.sender.Sender.{Sender}
 use Rattle.config.specs.declared.answer.Outcome.{Outcome}
 use Rattle.sender.specs.declared.sender.RequestOutcome.{RequestOutcome}
-use Rattle.sender.specs.declared.sender.Writing.{Writing}
+use Rattle.writing.specs.declared.writing.Writing.{Writing}
 
 -- a call, each argument free
 pub data Call : Type 0 where

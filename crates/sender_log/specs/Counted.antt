@@ -12,9 +12,9 @@ use Rattle.packet.specs.Read.{itemsOf, placed}
 use Rattle.packet.specs.Write.{startOf, bytesIn}
 use Rattle.packet.specs.declared.writer.PayloadWriter.{PayloadWriter}
 use Rattle.rows.specs.Rows.{fitAll}
-use Rattle.sender.specs.Answers.{writeAnswer}
-use Rattle.sender.specs.declared.sender.Writing.{Writing}
-use Rattle.sender.specs.declared.sender.Writing.the-variants.{Written, Refused}
+use Rattle.writing.specs.Answers.{writeAnswer}
+use Rattle.writing.specs.declared.writing.Writing.{Writing}
+use Rattle.writing.specs.declared.writing.Writing.the-variants.{Written, Refused}
 use Rattle.sender_log.specs.Calls.{Call, AllTyped, TypedConfig, run}
 use Rattle.sender_log.specs.Promise.{NoRoom, Started}
 use Rattle.sender_log.specs.Added.{itemsAdded}

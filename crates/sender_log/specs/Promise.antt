@@ -18,14 +18,15 @@ use Rattle.config.specs.declared.settings.StreamConfig.{StreamConfig}
 use Rattle.sender.specs.State.{validOf, resetOf}
 use Rattle.sender.specs.Queueing.{unsent, sentOf}
 use Rattle.sender.specs.Requests.{requestedOf, deadlineOf, wantsOf, nextOf}
-use Rattle.sender.specs.Writing.{writtenBy}
-use Rattle.sender.specs.Answers.{newAnswer, resetAnswer, sendAnswer, requestRefused, requestAnswer, deadlineAnswer, wantsAnswer, nextAnswer, writeRefused, writeAnswer}
+use Rattle.writing.specs.Writing.{writtenBy}
+use Rattle.sender.specs.Answers.{newAnswer, resetAnswer, sendAnswer, requestRefused, requestAnswer, deadlineAnswer, wantsAnswer, nextAnswer}
+use Rattle.writing.specs.Answers.{writeRefused, writeAnswer}
 use Rattle.sender.specs.declared.sender.Sender.{Sender}
 use Rattle.config.specs.declared.answer.Outcome.the-variants.{Done, Refused}
 use Rattle.config.specs.declared.answer.Answered.the-variants.{Is, Refused as AnsweredRefused}
 use Rattle.config.specs.declared.answer.Deadline.the-variants.{Refused as DeadlineRefused}
 use Rattle.sender.specs.declared.sender.Next.the-variants.{Number, Refused as NextRefused}
-use Rattle.sender.specs.declared.sender.Writing.the-variants.{Written}
+use Rattle.writing.specs.declared.writing.Writing.the-variants.{Written}
 use Rattle.sender_log.specs.Book.{Book, oldestIn, nothing}
 use Rattle.sender_log.specs.Writes.{newIn, answerIn, writeIn}
 use Rattle.sender_log.specs.Calls.{Call, AllTyped, Typed, stepOf, run}

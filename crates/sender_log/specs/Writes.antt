@@ -22,9 +22,9 @@ use Rattle.idle.specs.declared.idle.IdleTimer.{IdleTimer}
 use Rattle.idle.specs.declared.idle.IdleTimer.the-variants.{Off, Waiting}
 use Rattle.rows.specs.Rows.{rowOf, fitAll}
 use Rattle.rows.specs.Choice.{repeatsOf}
-use Rattle.sender.specs.Writing.{idleAfter}
-use Rattle.sender.specs.declared.sender.Writing.{Writing}
-use Rattle.sender.specs.declared.sender.Writing.the-variants.{Written, Refused}
+use Rattle.writing.specs.Writing.{idleAfter}
+use Rattle.writing.specs.declared.writing.Writing.{Writing}
+use Rattle.writing.specs.declared.writing.Writing.the-variants.{Written, Refused}
 use Rattle.sender_log.specs.Book.{Book, oldestIn, pushedIn, indexIn, absentIn, errorIn, withWaiting}
 
 -- commands as data commands, numbered from n on

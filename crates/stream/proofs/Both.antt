@@ -25,7 +25,7 @@ use Rattle.sender.specs.declared.sender.Sender.{Sender}
 use Rattle.sender.specs.declared.sender.Sent.{Sent as SenderSent}
 use Rattle.sender.proofs.Queued.{settings-few}
 use Rattle.sender.proofs.Kept.{sent-kept}
-use Rattle.sender.proofs.Places.{Follows, sent-follows}
+use Rattle.writing.proofs.Places.{Follows, sent-follows}
 use Rattle.stream.specs.State.{validOf, withSender}
 use Rattle.stream.specs.Ends.{sendAnswer}
 use Rattle.stream.specs.Writing.{writeAnswer}

@@ -12,8 +12,8 @@ use Rattle.packet.specs.declared.writer.PayloadWriter.{PayloadWriter}
 use Rattle.receiver.specs.Receiver.{takenOf}
 use Rattle.receiver.specs.Answers.{takeAnswer}
 use Rattle.receiver.specs.declared.receiver.RequestWritten.{RequestWritten}
-use Rattle.sender.specs.Answers.{writeAnswer}
-use Rattle.sender.specs.Writing.{writtenBy}
+use Rattle.writing.specs.Answers.{writeAnswer}
+use Rattle.writing.specs.Writing.{writtenBy}
 use Rattle.stream.specs.State.{validOf}
 use Rattle.stream.specs.Theorems.{WriteCallsEnds}
 use Rattle.stream.specs.declared.stream.DataStream.{DataStream}

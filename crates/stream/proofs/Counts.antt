@@ -17,13 +17,13 @@ use Rattle.rows.specs.Rows.{rowOf, fitAll}
 use Rattle.rows.proofs.Filling.{row-valid, row-grows, start-most}
 use Rattle.sender.specs.State.{validOf as senderValid}
 use Rattle.sender.specs.Requests.{writtenCount}
-use Rattle.sender.specs.Writing.{commandsAt, servedOf, idledOf, newBy, newOf, writtenBy}
+use Rattle.writing.specs.Writing.{commandsAt, servedOf, idledOf, newBy, newOf, writtenBy}
 use Rattle.sender.specs.declared.sender.Sender.{Sender}
-use Rattle.sender.specs.declared.sender.Writing.{Writing}
-use Rattle.sender.specs.declared.sender.Writing.the-variants.{Written as Counted, Refused}
-use Rattle.sender.specs.declared.sender.Written.{Written}
-use Rattle.sender.specs.declared.sender.Wrote.{Wrote}
-use Rattle.sender.proofs.Serving.{served-sound}
+use Rattle.writing.specs.declared.writing.Writing.{Writing}
+use Rattle.writing.specs.declared.writing.Writing.the-variants.{Written as Counted, Refused}
+use Rattle.writing.specs.declared.writing.Written.{Written}
+use Rattle.writing.specs.declared.writing.Wrote.{Wrote}
+use Rattle.writing.proofs.Serving.{served-sound}
 
 -- none where the write is refused
 abbrev commandsIn : Writing → ℕ

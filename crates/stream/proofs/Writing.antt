@@ -7,9 +7,9 @@ use Rattle.packet.specs.declared.writer.PayloadWriter.{PayloadWriter}
 use Rattle.receiver.specs.Receiver.{takenOf}
 use Rattle.receiver.specs.declared.receiver.Request.{Request}
 use Rattle.receiver.specs.declared.receiver.RequestWritten.{RequestWritten}
-use Rattle.sender.specs.Writing.{writtenBy}
-use Rattle.sender.specs.declared.sender.Writing.{Writing}
-use Rattle.sender.specs.declared.sender.Wrote.{Wrote as SenderWrote}
+use Rattle.writing.specs.Writing.{writtenBy}
+use Rattle.writing.specs.declared.writing.Writing.{Writing}
+use Rattle.writing.specs.declared.writing.Wrote.{Wrote as SenderWrote}
 use Rattle.stream.specs.State.{withSender, withReceiver}
 use Rattle.stream.specs.Writing.{countedAlso, sentAfter, afterRequest, dataWritten, writeRefused, writeAnswer}
 use Rattle.stream.specs.declared.stream.DataStream.{DataStream}

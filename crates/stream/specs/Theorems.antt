@@ -11,8 +11,8 @@ use Rattle.packet.specs.Write.{validOf as payloadValid}
 use Rattle.packet.specs.declared.writer.PayloadWriter.{PayloadWriter}
 use Rattle.receiver.specs.Receiver.{takenOf}
 use Rattle.receiver.specs.Answers.{takeAnswer}
-use Rattle.sender.specs.Writing.{writtenBy}
-use Rattle.sender.specs.Answers as Sender
+use Rattle.writing.specs.Writing.{writtenBy}
+use Rattle.writing.specs.Answers as writing
 use Rattle.stream.specs.State.{validOf}
 use Rattle.stream.specs.declared.stream.DataStream.{DataStream}
 
@@ -21,7 +21,7 @@ use Rattle.stream.specs.declared.stream.DataStream.{DataStream}
 pub record EndsCalled (s : DataStream) (cfg : StreamConfig) (p : PayloadWriter) (b ring : List ℕ) : Type 0 where
   pub take-request : takenOf (s .receiver) cfg p b ≡ takeAnswer (s .receiver) cfg p b
   pub write : (time : ℕ) → let t = takeAnswer (s .receiver) cfg p b in
-      writtenBy (s .sender) cfg time (t .0 .payload) (t .1) ring ≡ Sender.writeAnswer (s .sender) cfg time (t .0 .payload) (t .1) ring
+      writtenBy (s .sender) cfg time (t .0 .payload) (t .1) ring ≡ writing.writeAnswer (s .sender) cfg time (t .0 .payload) (t .1) ring
 
 abbrev pub WriteCallsEnds : Type 0
 WriteCallsEnds =

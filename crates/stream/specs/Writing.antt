@@ -14,9 +14,9 @@ use Rattle.packet.specs.declared.writer.PayloadWriter.{PayloadWriter}
 use Rattle.receiver.specs.Receiver.{takenOf}
 use Rattle.receiver.specs.declared.receiver.Request.{Request}
 use Rattle.receiver.specs.declared.receiver.Request.the-variants.{Nothing as NotDue, Written as Taken, More as NoSpace, Refused as NotTaken}
-use Rattle.sender.specs.Writing.{writtenBy}
-use Rattle.sender.specs.declared.sender.Writing.{Writing}
-use Rattle.sender.specs.declared.sender.Writing.the-variants.{Written, Refused}
+use Rattle.writing.specs.Writing.{writtenBy}
+use Rattle.writing.specs.declared.writing.Writing.{Writing}
+use Rattle.writing.specs.declared.writing.Writing.the-variants.{Written, Refused}
 use Rattle.stream.specs.State.{validOf, withSender, withReceiver}
 use Rattle.stream.specs.declared.stream.DataStream.{DataStream}
 use Rattle.stream.specs.declared.stream.Wrote.{Wrote}

@@ -16,7 +16,7 @@ use config::refusal::Refusal;
 use config::settings::StreamConfig;
 use history::history::Mark;
 use packet::writer::PayloadWriter;
-use sender::sender::Writing;
+use writing::writing::Writing;
 
 pub enum SendAndWrite {
     // What `send_ump` refuses: nothing is queued and nothing written.
@@ -81,7 +81,7 @@ impl DataStream {
                 let before = self.sender;
                 let receiver = self.receiver;
                 let back = cfg.fec_repeats as usize;
-                let found = sender::tested::test(before, &ring[..], back);
+                let found = writing::placing::test(before, &ring[..], back);
                 if found.ok {
                     let sent = sender::tested::send_ump(before, cfg, ring, words);
                     let sender = sent.sender;
@@ -95,7 +95,7 @@ impl DataStream {
                             };
                         }
                         Outcome::Done => {
-                            let mark = sender::placing::mark_queued(before, sender, found.mark);
+                            let mark = writing::placing::mark_queued(before, sender, found.mark);
                             let wrote = write_queued(
                                 DataStream { sender, receiver },
                                 cfg,

@@ -22,9 +22,9 @@ use receiver::receiver::StreamEvent;
 use receiver::receiver::Timer;
 use sender::sender::RequestOutcome;
 use sender::sender::Sender;
-use sender::sender::Writing;
 use window::set;
 use window::window::ReceiveWindow;
+use writing::writing::Writing;
 
 pub struct DataStream {
     pub sender: Sender,

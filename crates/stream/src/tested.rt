@@ -8,7 +8,7 @@ ghost use Rattle.config.specs.declared.answer.Outcome.the-variants.{Done};
 ghost use Rattle.packet.specs.Write.{validOf as payloadValid};
 ghost use Rattle.history.specs.State.{Marks, Answers};
 ghost use Rattle.sender.specs.State.{validOf as senderValid};
-ghost use Rattle.sender.specs.Writing.{beginsOf};
+ghost use Rattle.writing.specs.Placing.{beginsOf};
 ghost use Rattle.stream.specs.State.{validOf};
 ghost use Rattle.stream.specs.Answers.{earlier as earlierOf};
 ghost use Rattle.stream.specs.Writing.{sentAfter, dataWritten};
@@ -20,8 +20,8 @@ use history::history::Mark;
 use history::history::Tested;
 use packet::writer::PayloadWriter;
 use receiver::receiver::Request;
-use sender::sender::Writing;
-use sender::sender::Written;
+use writing::writing::Writing;
+use writing::writing::Written;
 
 // The state test: that of each end.
 pub fn is_valid(s: DataStream, ring: &[u32]) -> bool
@@ -43,7 +43,7 @@ pub fn test(s: DataStream, ring: &[u32], back: usize) -> Tested
     let receiver = s.receiver;
     let sender = s.sender;
     if receiver::tested::is_valid(receiver) {
-        return sender::tested::test(sender, ring, back);
+        return writing::placing::test(sender, ring, back);
     }
     Tested {
         ok: false,
@@ -91,7 +91,7 @@ fn write_after(
 {
     let before = s.sender;
     let receiver = s.receiver;
-    let wrote = sender::writing::write(before, cfg, time, p, buf, ring, from);
+    let wrote = writing::tested::write(before, cfg, time, p, buf, ring, from);
     let sender = wrote.sender;
     let payload = wrote.payload;
     let answer = wrote.answer;

@@ -23,7 +23,7 @@ use Rattle.receiver_log.specs.Answers.{answerOf as receiverAnswer}
 use Rattle.receiver_log.specs.Promise.{logOf}
 use Rattle.receiver_log.proofs.Runs.{answered as receiver-answered}
 use Rattle.sender.specs.Requests.{deadlineOf as senderDeadline, wantsOf}
-use Rattle.sender.specs.Answers as sender
+use Rattle.writing.specs.Answers as writing
 use Rattle.sender.specs.declared.sender.Sender.{Sender}
 use Rattle.sender_log.specs.Writes.{isEmpty, writeIn}
 use Rattle.sender_log.specs.Calls as Sender
@@ -75,7 +75,7 @@ module _ (W c q : ℕ) (ring₀ : List ℕ) (least : 1 ≤ W) (most : W ≤ maxW
   module _ (cfg : StreamConfig) (typed : Sender.TypedConfig cfg) (time : ℕ) where
     -- the sender's write
     pub sender-wrote : (p : PayloadWriter) (b : List ℕ)
-        → (let w = sender.writeAnswer (s .sender) cfg time p b ring in
+        → (let w = writing.writeAnswer (s .sender) cfg time p b ring in
         let v = writeIn c cfg time (bookOf c q (e .sent)) p b in
         (w .0 .answer ≡ v .answer) × (w .0 .payload ≡ v .payload) × (w .1 ≡ v .bytes))
     unfolding Sender.stepOf toldOf

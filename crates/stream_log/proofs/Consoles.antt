@@ -30,6 +30,7 @@ use Rattle.config.specs.inner.Choices.{by-cond}
 use Rattle.receiver_log.proofs.Follows.{AskedOk}
 use Rattle.receiver_log.proofs.Runs.{run-ok as receiver-run}
 use Rattle.sender.specs.Answers as sender
+use Rattle.writing.specs.Answers as writing
 use Rattle.sender.specs.declared.sender.Sender.{Sender}
 use Rattle.sender_log.specs.Promise as Sent
 use Rattle.delivery.specs.Console.{Lent, noPayload, freshConsole, AllAllowed}
@@ -63,14 +64,14 @@ module _ (d : Delivery.Console) (k : ℕ) (there : ltb k (length (d .payloads)) 
 -- into a payload that was just written
 write-again : (d : Delivery.Console) (k : ℕ) (x : Lent) (cfg : StreamConfig) (time : ℕ) → ltb k (length (d .payloads)) ≡ true
     → Delivery.writeStep (Delivery.withPayload d k x) k cfg time .console
-    ≡ (let w = sender.writeAnswer (d .sender) cfg time (x .payload) (x .buffer) (d .ring) in
+    ≡ (let w = writing.writeAnswer (d .sender) cfg time (x .payload) (x .buffer) (d .ring) in
     record { sender = w .0 .sender; ring = w .2; payloads = set (d .payloads) k record { payload = w .0 .payload; buffer = w .1 } })
 write-again d k x cfg time there =
     let e : getD (set (d .payloads) k x) k noPayload ≡ x = getD-set-same (d .payloads) k x noPayload (omega (arith, tests)) in
-    let u : Lent → Lent = λ v. let w = sender.writeAnswer (d .sender) cfg time (v .payload) (v .buffer) (d .ring) in record { payload = w .0 .payload; buffer = w .1 } in
-    ap (λ (v : Lent). let w = sender.writeAnswer (d .sender) cfg time (v .payload) (v .buffer) (d .ring) in
+    let u : Lent → Lent = λ v. let w = writing.writeAnswer (d .sender) cfg time (v .payload) (v .buffer) (d .ring) in record { payload = w .0 .payload; buffer = w .1 } in
+    ap (λ (v : Lent). let w = writing.writeAnswer (d .sender) cfg time (v .payload) (v .buffer) (d .ring) in
     record { sender = w .0 .sender; ring = w .2; payloads = set (set (d .payloads) k x) k (u v) }) e
-    ∙ ap (λ (vs : List Lent). let w = sender.writeAnswer (d .sender) cfg time (x .payload) (x .buffer) (d .ring) in record { sender = w .0 .sender; ring = w .2; payloads = vs }) (set-set (d .payloads) k x (u x))
+    ∙ ap (λ (vs : List Lent). let w = writing.writeAnswer (d .sender) cfg time (x .payload) (x .buffer) (d .ring) in record { sender = w .0 .sender; ring = w .2; payloads = vs }) (set-set (d .payloads) k x (u x))
 
 -- a call on the payloads leaves the sender and its history
 open-rest : (d : Delivery.Console) (buffer : List ℕ) (o : Opened)

@@ -31,10 +31,10 @@ use Rattle.receiver_log.specs.Calls as Receiver
 use Rattle.receiver_log.specs.Promise.{logOf}
 use Rattle.receiver_log.proofs.Follows.{Follows as ReceiverFollows, AskedOk}
 use Rattle.receiver_log.proofs.Runs.{step-ok as receiver-step, run-ok as receiver-run}
-use Rattle.sender.specs.Answers as sender
+use Rattle.writing.specs.Answers as writing
 use Rattle.sender.specs.declared.sender.Sender.{Sender}
-use Rattle.sender.specs.declared.sender.Writing.{Writing}
-use Rattle.sender.specs.declared.sender.Writing.the-variants.{Written, Refused}
+use Rattle.writing.specs.declared.writing.Writing.{Writing}
+use Rattle.writing.specs.declared.writing.Writing.the-variants.{Written, Refused}
 use Rattle.sender_log.specs.Book.{Book}
 use Rattle.sender_log.specs.Calls.{TypedConfig}
 use Rattle.sender_log.specs.Answers.{bookOf}
@@ -95,11 +95,11 @@ module _ (W c q : ℕ) (most : W ≤ maxWindow) (s : DataStream) (ring : List �
   small = follows-small c q (s .sender) ring bk g
 
   -- the sender's write into a payload
-  sender-out : (p₁ : PayloadWriter) (b₁ : List ℕ) → (let w = sender.writeAnswer (s .sender) cfg time p₁ b₁ ring in Out (wantedIn c cfg time x′ p₁ b₁) p₁ b₁ (w .0 .answer) (w .0 .payload) (w .1))
+  sender-out : (p₁ : PayloadWriter) (b₁ : List ℕ) → (let w = writing.writeAnswer (s .sender) cfg time p₁ b₁ ring in Out (wantedIn c cfg time x′ p₁ b₁) p₁ b₁ (w .0 .answer) (w .0 .payload) (w .1))
   sender-out p₁ b₁ = let w = write-follows c q (s .sender) ring bk g cfg typed time p₁ b₁ in rw (w .1, w .2, w .3) (wanted-out c c-some cfg time bk small x′ agree p₁ b₁)
 
   sender-taken : (p₁ : PayloadWriter) (b₁ : List ℕ) → checkOf cfg ≡ Done → payloadValid p₁ (length b₁) ≡ true → (p₁ .len ≡ 0 → ⊥) → (why : Refusal)
-      → sender.writeAnswer (s .sender) cfg time p₁ b₁ ring .0 .answer ≡ Refused why → ⊥
+      → writing.writeAnswer (s .sender) cfg time p₁ b₁ ring .0 .answer ≡ Refused why → ⊥
   sender-taken p₁ b₁ k v o why e =
       let w = write-follows c q (s .sender) ring bk g cfg typed time p₁ b₁ in
       write-taken c cfg time bk small p₁ b₁ o v k why (sym (w .1) ∙ e)

@@ -48,14 +48,15 @@ use Rattle.receiver_log.specs.Answers.{answerOf, saidOf}
 use Rattle.receiver_log.specs.Promise.{logOf}
 use Rattle.receiver_log.proofs.Runs.{run-said}
 use Rattle.sender.specs.Answers as sender
+use Rattle.writing.specs.Answers as writing
 use Rattle.fronts.specs.Commands.{fitting, front, behind, commandsIn, commandsOf, longer as longMessage, above}
 use Rattle.sender.specs.State.{validOf}
 use Rattle.sender.specs.Queueing.{roomOf, needOf, joinedTo, pushedAll, queuedTo, queuedOf, wordsCheck, placedOf, sentOf}
 use Rattle.sender.specs.Requests.{requestedOf}
-use Rattle.sender.specs.Writing.{servedIn, servedOf, idledOf, writtenOff, newOf, writtenBy}
+use Rattle.writing.specs.Writing.{servedIn, servedOf, idledOf, writtenOff, newOf, writtenBy}
 use Rattle.config.specs.declared.answer.Outcome.the-variants.{Done}
-use Rattle.sender.specs.declared.sender.Writing.{Writing}
-use Rattle.sender.specs.declared.sender.Writing.the-variants.{Written}
+use Rattle.writing.specs.declared.writing.Writing.{Writing}
+use Rattle.writing.specs.declared.writing.Writing.the-variants.{Written}
 use Rattle.sender_log.specs.Calls as Sender
 use Rattle.delivery.specs.Commands.{Command, dataIn, wholesIn, dataOf}
 use Rattle.delivery.specs.Positions.{opens, position, newestWith}
@@ -141,7 +142,7 @@ sent =
     ∷ []
 
 counted-log : logFrom (freshConsole 65 4 (zeros 65)) [] counted ≡ sent
-unfolding logFrom Delivery.stepOf sender.newAnswer sender.requestAnswer requestedOf request requests asks pushAnswer openedOf typeWords divided messagesOf wholeOf slotOf ringStored ringRead headerAt wordsFrom numbered stateOk walkOk popOne popped grown pushed longer appended entryPacket fitting front behind commandsIn commandsOf longMessage above validOf roomOf needOf joinedTo pushedAll queuedTo queuedOf wordsCheck placedOf sentOf rowOf packetsFrom servedIn servedOf idleNext idledOf sizesOf repeatsOf anyWords writtenOff newOf writtenBy sender.sendAnswer sender.writeAnswer checkOf payloadValid writtenOf bytesOf spliced
+unfolding logFrom Delivery.stepOf sender.newAnswer sender.requestAnswer requestedOf request requests asks pushAnswer openedOf typeWords divided messagesOf wholeOf slotOf ringStored ringRead headerAt wordsFrom numbered stateOk walkOk popOne popped grown pushed longer appended entryPacket fitting front behind commandsIn commandsOf longMessage above validOf roomOf needOf joinedTo pushedAll queuedTo queuedOf wordsCheck placedOf sentOf rowOf packetsFrom servedIn servedOf idleNext idledOf sizesOf repeatsOf anyWords writtenOff newOf writtenBy sender.sendAnswer writing.writeAnswer checkOf payloadValid writtenOf bytesOf spliced
 counted-log = refl
 
 sent-is : sentBy console ≡ sent

@@ -16,8 +16,8 @@ use Rattle.receiver.specs.declared.receiver.Request.{Request}
 use Rattle.receiver_log.specs.Calls as Receiver
 use Rattle.receiver_log.specs.Timing.{dueIn}
 use Rattle.receiver_log.specs.Promise.{logOf}
-use Rattle.sender.specs.declared.sender.Writing.{Writing}
-use Rattle.sender.specs.declared.sender.Writing.the-variants.{Written, Refused}
+use Rattle.writing.specs.declared.writing.Writing.{Writing}
+use Rattle.writing.specs.declared.writing.Writing.the-variants.{Written, Refused}
 use Rattle.sender_log.specs.Book.{Book}
 use Rattle.sender_log.specs.Writes.{writeIn}
 use Rattle.sender_log.specs.Calls as Sender

@@ -52,8 +52,8 @@ use Rattle.fronts.specs.Commands.{above}
 use Rattle.sender.specs.Queueing.{wordsCheck}
 use Rattle.sender.specs.Requests.{dueAt}
 use Rattle.sender.specs.declared.sender.RequestOutcome.the-variants.{Queued, Ignored, Error, NotSupported}
-use Rattle.sender.specs.declared.sender.Writing.{Writing}
-use Rattle.sender.specs.declared.sender.Writing.the-variants.{Written, Refused as NotWritten}
+use Rattle.writing.specs.declared.writing.Writing.{Writing}
+use Rattle.writing.specs.declared.writing.Writing.the-variants.{Written, Refused as NotWritten}
 use Rattle.sender_log.specs.Book.{Book, needIn, sentIn, absentIn, errorIn as absentError, withWaiting, RequestIn, requestedIn}
 use Rattle.sender_log.specs.Writes.{newIn, servedIn, isEmpty, idledIn, newBy, newWritten, writtenIn, writeIn}
 use Rattle.sender_log.specs.Answers.{toldOf, bookOf}

@@ -15,9 +15,9 @@ use Rattle.receiver.specs.declared.receiver.Receiver.{Receiver}
 use Rattle.receiver.specs.declared.receiver.Request.{Request}
 use Rattle.receiver.specs.declared.receiver.Request.the-variants.{Nothing as NotDue, Written as Taken, More as NoSpace, Refused as NotTaken}
 use Rattle.receiver.specs.declared.receiver.RequestWritten.{RequestWritten}
-use Rattle.sender.specs.Writing.{writtenBy}
-use Rattle.sender.specs.Answers as sender
-use Rattle.sender.specs.declared.sender.Writing.the-variants.{Written}
+use Rattle.writing.specs.Writing.{writtenBy}
+use Rattle.writing.specs.Answers as writing
+use Rattle.writing.specs.declared.writing.Writing.the-variants.{Written}
 use Rattle.stream.specs.State.{validOf, withSender, withReceiver}
 use Rattle.stream.specs.Writing.{writeRefused, countedAlso, sentAfter, afterRequest, dataWritten, writeAnswer}
 use Rattle.stream.specs.declared.stream.DataStream.{DataStream}
@@ -30,7 +30,7 @@ use Rattle.stream.proofs.Calls.{write-calls-ends}
 -- the sender's write, behind n commands
 abbrev pub sentBehind : ℕ → DataStream → StreamConfig → ℕ → PayloadWriter → List ℕ → List ℕ → Wrote × List ℕ × List ℕ
 sentBehind n s cfg time p b ring =
-    let w = sender.writeAnswer (s .sender) cfg time p b ring in
+    let w = writing.writeAnswer (s .sender) cfg time p b ring in
     (record { stream = withSender s (w .0 .sender); payload = w .0 .payload; answer = countedAlso n (w .0 .answer) }, w .1, w .2)
 
 abbrev pub behindTake : Request → DataStream → StreamConfig → ℕ → PayloadWriter → List ℕ → List ℕ → Wrote × List ℕ × List ℕ
@@ -47,7 +47,7 @@ Joined s ring =
 -- ---- of a stream that passes the state test
 
 module _ (s : DataStream) (ring : List ℕ) (cfg : StreamConfig) (time : ℕ) where
-  same-behind : (p : PayloadWriter) (b : List ℕ) → writtenBy (s .sender) cfg time p b ring ≡ sender.writeAnswer (s .sender) cfg time p b ring
+  same-behind : (p : PayloadWriter) (b : List ℕ) → writtenBy (s .sender) cfg time p b ring ≡ writing.writeAnswer (s .sender) cfg time p b ring
       → (r : Receiver) (a : Request) → afterRequest a (withReceiver s r) cfg time p b ring ≡ behindTake a (withReceiver s r) cfg time p b ring
   unfolding sentAfter
   same-behind p b e r (NotTaken why) = refl

@@ -29,8 +29,8 @@ use Rattle.config.specs.declared.answer.Outcome.the-variants.{Done}
 use Rattle.config.specs.declared.answer.Answered.the-variants.{Is}
 use Rattle.config.specs.declared.answer.Deadline.{Deadline}
 use Rattle.config.specs.declared.answer.Deadline.the-variants.{Nothing}
-use Rattle.sender.specs.declared.sender.Writing.{Writing}
-use Rattle.sender.specs.declared.sender.Writing.the-variants.{Written, Refused}
+use Rattle.writing.specs.declared.writing.Writing.{Writing}
+use Rattle.writing.specs.declared.writing.Writing.the-variants.{Written, Refused}
 use Rattle.sender_log.specs.Book.{Book}
 use Rattle.sender_log.specs.Writes.{isEmpty, writeIn}
 use Rattle.sender_log.specs.Calls as Sender

@@ -8,7 +8,7 @@ use Rattle.packet.specs.declared.writer.PayloadWriter.{PayloadWriter}
 use Rattle.command.specs.declared.retransmit.RetransmitRequest.{RetransmitRequest}
 use Rattle.command.specs.declared.retransmit.RetransmitError.{RetransmitError}
 use Rattle.receiver_log.specs.Calls as Receiver
-use Rattle.sender.specs.declared.sender.Writing.{Writing}
+use Rattle.writing.specs.declared.writing.Writing.{Writing}
 use Rattle.sender_log.specs.Calls.{TypedConfig}
 use Rattle.sender_log.specs.Calls as Sender
 use Rattle.stream.specs.Ends.{sendAnswer, requestAnswer, dataAnswer, errorAnswer, nakAnswer, pollAnswer, takeAnswer}

@@ -19,7 +19,7 @@ use Rattle.receiver_log.specs.Timing.{dueIn}
 use Rattle.receiver_log.specs.Promise.{logOf}
 use Rattle.receiver_log.specs.Promise as Received
 use Rattle.sender.specs.Requests.{deadlineOf as senderDeadline, wantsOf}
-use Rattle.sender.specs.declared.sender.Writing.the-variants.{Written}
+use Rattle.writing.specs.declared.writing.Writing.the-variants.{Written}
 use Rattle.sender_log.specs.Calls.{TypedConfig}
 use Rattle.sender_log.specs.Calls as Sender
 use Rattle.sender_log.specs.Answers.{bookOf}

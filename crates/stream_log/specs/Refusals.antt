@@ -14,8 +14,8 @@ use Rattle.config.specs.declared.answer.Deadline.{Deadline}
 use Rattle.config.specs.declared.answer.Deadline.the-variants.{Nothing, At, Refused as DeadlineRefused}
 use Rattle.sender.specs.declared.sender.RequestOutcome.{RequestOutcome}
 use Rattle.sender.specs.declared.sender.RequestOutcome.the-variants.{Queued, Ignored, Error, NotSupported, Refused as NotRequested}
-use Rattle.sender.specs.declared.sender.Writing.{Writing}
-use Rattle.sender.specs.declared.sender.Writing.the-variants.{Written, Refused as NotWritten}
+use Rattle.writing.specs.declared.writing.Writing.{Writing}
+use Rattle.writing.specs.declared.writing.Writing.the-variants.{Written, Refused as NotWritten}
 use Rattle.sender_log.specs.Calls.{queue-entry, request-entry, write-entry}
 use Rattle.stream_log.specs.Calls.{Entry, by-sender, by-receiver, wrote, deadline, wants, was-reset}
 

@@ -1,0 +1,4 @@
+-- The definitions that the contracts of `writing` cite.
+pub mod Writing
+pub mod Placing
+pub mod Answers
