@@ -29,8 +29,7 @@ use Rattle.read_command.specs.Words.{wholeCount, lengthsOf}
 use Rattle.read_command.specs.Next.{firstOf, commandRead, wholeRead, itemRead, readAt}
 use Rattle.read_command.specs.declared.next.Read.{Read}
 use Rattle.c_words.specs.Payload.{payloadIn, payloadWords}
-use Rattle.c_words.proofs.Guards.{fit-true}
-use Rattle.c_words.proofs.Kept.{Kept, KeptOne, KeptTwo, itself, as-was, done, by-test, guard-keeps, payload-same}
+use Rattle.c_words.proofs.Kept.{Kept, KeptOne, KeptTwo, itself, as-was, done, by-test, call-keeps, payload-same}
 use Rattle.c_codec.specs.Exports.{openedInto, openExport, commandExport}
 
 -- ---- a payload
@@ -38,7 +37,7 @@ module _ (p : List ℕ) where
   pub open-keeps : (max : ℕ) → KeptOne itself p (openExport p max)
   unfolding openExport openedOf
   open-keeps max =
-      guard-keeps _ _ (λ (e : Opened). openedInto e p) _ _ (openedOf max) (λ _. by-test (outside 8 1400 max) _ _ (λ _. as-was refl) (done refl)) refl
+      call-keeps _ _ (λ (e : Opened). openedInto e p) _ (openedOf max) (λ n. refl) (λ _ _. by-test (outside 8 1400 max) _ _ (λ _. as-was refl) (done refl))
 
 module _ (p b : List ℕ) where
   abbrev PutKept : Wrote × List ℕ → Type 0
@@ -69,8 +68,8 @@ module _ (p b : List ℕ) where
   command-keeps : (write : PayloadWriter → Wrote × List ℕ) → (payloadWords (payloadIn p) ≡ p → PutKept (write (payloadIn p))) → KeptTwo itself p b (commandExport write p b)
   unfolding commandExport
   command-keeps write f =
-      guard-keeps _ _ (λ (e : Wrote × List ℕ). (outcomeNumber (e .0 .answer), payloadWords (e .0 .payload), e .1)) _ _ (write (payloadIn p))
-      (λ z. f (payload-same p (fit-true _ z))) (refl, refl)
+      call-keeps _ _ (λ (e : Wrote × List ℕ). (outcomeNumber (e .0 .answer), payloadWords (e .0 .payload), e .1)) _ (write (payloadIn p)) (λ n. (refl, refl))
+      (λ _ two. f (payload-same p two))
 
   pub packet-keeps : (c : Packet) → KeptTwo itself p b (commandExport (λ w. packetWritten w b c) p b)
   packet-keeps c = command-keeps (λ w. packetWritten w b c) (λ same. packet-kept (payloadIn p) same c)

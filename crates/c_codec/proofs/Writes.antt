@@ -8,7 +8,7 @@ use Rattle.config.specs.Refusals.{outcomeNumber}
 use Rattle.packet.specs.declared.writer.PayloadWriter.{PayloadWriter}
 use Rattle.packet.specs.declared.writer.Wrote.{Wrote}
 use Rattle.c_words.specs.Payload.{payloadIn, payloadWords}
-use Rattle.c_words.proofs.Guards.{made-fit, refused-fit}
+use Rattle.c_words.proofs.Entries.{made, words-refused}
 use Rattle.c_codec.specs.Exports.{commandExport}
 
 module _ (write : PayloadWriter → Wrote × List ℕ) (p b : List ℕ) where
@@ -18,8 +18,8 @@ module _ (write : PayloadWriter → Wrote × List ℕ) (p b : List ℕ) where
   unfolding commandExport
   written x w bytes p′ n two e f g h =
       let q : (w, bytes) ≡ write (payloadIn p) = f ∙ ap write e in
-      made-fit _ _ _ _ (eq-eqb _ 2 two) (rw (h, g, ← q))
+      made _ _ refl (eq-eqb _ 2 two) (rw (h, g, ← q))
 
   pub not-written : (length p ≡ 2 → ⊥) → (13, p, b) ≡ commandExport write p b
   unfolding commandExport
-  not-written h = refused-fit _ _ _ _ (ne-eqb _ 2 h) refl
+  not-written h = words-refused _ _ refl (ne-eqb _ 2 h) refl

@@ -1,6 +1,5 @@
 -- Words that were not queued: all that was lent is as it was.
 use mathlib.Core.Path.{_≡_, refl}
-use mathlib.Core.Bool.{_&&_}
 use mathlib.Core.List.{List}
 use Prim.Native.Nat.{ℕ}
 use native.Mathlib.Omega.{arith}
@@ -16,9 +15,9 @@ use Rattle.stream.specs.declared.stream.DataStream.{DataStream}
 use Rattle.stream.proofs.Both.{both-refused, both-accepted}
 use Rattle.c_state.specs.Stream.{fits, loaded, stored}
 use Rattle.c_state.proofs.Streams.{stream-same}
-use Rattle.c_words.specs.Settings.{readyNumber, settingsOf}
+use Rattle.c_words.specs.Settings.{settingsOf}
 use Rattle.c_words.specs.Payload.{payloadFits, payloadIn, payloadWords}
-use Rattle.c_words.proofs.Guards.{by-number, ready-fits}
+use Rattle.c_words.proofs.Entries.{call-any}
 use Rattle.c_words.proofs.Kept.{payload-same}
 use Rattle.c_answers.specs.Sending.{sentWrittenOf}
 use Rattle.c_answers.specs.declared.sending.CSentWritten.{CSentWritten}
@@ -41,11 +40,8 @@ module _ (st ws p b ring : List ℕ) where
   kept : (cfg : List ℕ) (time : ℕ) → Same (sendAndWriteExport st cfg time ws p b ring)
   unfolding sendAndWriteExport
   kept cfg time =
-      by-number (readyNumber cfg (fits st && payloadFits p)) _ _ Same
-      (λ z.
-      let f = ready-fits cfg (fits st && payloadFits p) z in
-      sent-same (payloadIn p) (payload-same p (and-right (fits st) (payloadFits p) f)) (loaded st) (settingsOf cfg) time (stream-same st (and-left (fits st) (payloadFits p) f)))
-      (λ _. (refl, refl, refl, refl))
+      call-any Same _ _ (λ n _. (refl, refl, refl, refl))
+      (λ _ f. sent-same (payloadIn p) (payload-same p (and-right (fits st) (payloadFits p) f)) (loaded st) (settingsOf cfg) time (stream-same st (and-left (fits st) (payloadFits p) f)))
 
 pub not-queued-keeps : NotQueuedKeeps
 not-queued-keeps = record { kept = λ st cfg time ws p b ring. kept st ws p b ring cfg time }

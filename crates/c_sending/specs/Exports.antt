@@ -7,8 +7,8 @@ use mathlib.Core.List.{List}
 use Rattle.stream.specs.Sending.{sendAndWriteAnswer}
 use Rattle.stream.specs.declared.sending.SentAndWrote.{SentAndWrote}
 use Rattle.c_state.specs.Stream.{fits, loaded, stored}
-use Rattle.c_words.specs.Guard.{guarded}
-use Rattle.c_words.specs.Settings.{readyNumber, settingsOf}
+use Rattle.c_words.specs.Entry.{wordsEntry}
+use Rattle.c_words.specs.Settings.{settingsCheck, settingsOf}
 use Rattle.c_words.specs.Payload.{payloadFits, payloadIn, payloadWords}
 use Rattle.c_answers.specs.Sending.{sentWrittenOf, sentWrittenRefused}
 use Rattle.c_answers.specs.declared.sending.CSentWritten.{CSentWritten}
@@ -19,7 +19,7 @@ sentWroteInto e = (sentWrittenOf (e .0 .answer), stored (e .0 .stream), payloadW
 
 unfoldable pub sendAndWriteExport : List ℕ → List ℕ → ℕ → List ℕ → List ℕ → List ℕ → List ℕ → CSentWritten × List ℕ × List ℕ × List ℕ × List ℕ
 sendAndWriteExport st cfg time ws p b ring =
-    guarded (readyNumber cfg (fits st && payloadFits p)) (λ n. (sentWrittenRefused n, st, p, b, ring))
+    wordsEntry (settingsCheck cfg) (fits st && payloadFits p) (λ n. (sentWrittenRefused n, st, p, b, ring))
     (sentWroteInto (sendAndWriteAnswer (loaded st) (settingsOf cfg) time ws (payloadIn p) b ring))
 
 -- Where no words were queued, all that was lent is as it was: the call was refused by its tests or by those of the queueing.

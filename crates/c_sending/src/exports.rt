@@ -22,25 +22,28 @@ pub extern "C" fn sirmjold_stream_send_and_write(
 ) -> CSentWritten
     ensures { λ r. ⌜ (r, now (s .exit), now (p .exit), now (buf .exit), now (ring .exit)) ≡ sendAndWriteExport (now (s .entry)) (now (cfg .entry)) time (now (words .entry)) (now (p .entry)) (now (buf .entry)) (now (ring .entry)) ⌝ }
 {
-    let number = guard::ready(cfg, guard::both(state::fits(&s[..]), payload::fits(&p[..])));
+    let number = settings::number(cfg);
     if number == 0 {
-        let before = state::load(&s[..]);
-        let asking = before.receiver;
-        let due = asking.request_due;
-        let done = before.send_and_write(
-            settings::load(cfg),
-            time,
-            words,
-            payload::load(&p[..]),
-            buf,
-            ring,
-        );
-        let stream = done.stream;
-        let written = done.payload;
-        let answer = done.answer;
-        state::store_written(due, stream, s);
-        payload::store(written, p);
-        return sending::of_send_and_write(answer);
+        if guard::both(state::fits(&s[..]), payload::fits(&p[..])) {
+            let before = state::load(&s[..]);
+            let asking = before.receiver;
+            let due = asking.request_due;
+            let done = before.send_and_write(
+                settings::load(cfg),
+                time,
+                words,
+                payload::load(&p[..]),
+                buf,
+                ring,
+            );
+            let stream = done.stream;
+            let written = done.payload;
+            let answer = done.answer;
+            state::store_written(due, stream, s);
+            payload::store(written, p);
+            return sending::of_send_and_write(answer);
+        }
+        return sending::refused_sent_written(guard::INVALID_STATE);
     }
     sending::refused_sent_written(number)
 }

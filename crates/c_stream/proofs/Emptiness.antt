@@ -7,6 +7,7 @@ use native.Mathlib.Omega.{arith}
 use lib.Dec.{eqb}
 use lib.ListN.{length}
 use borrow.Author.Tests.{eqb-true}
+use Rattle.config.specs.inner.Choices.{by-cond}
 use Rattle.config.specs.declared.settings.StreamConfig.{StreamConfig}
 use Rattle.config.specs.declared.refusal.Refusal.the-variants.{TooLarge}
 use Rattle.packet.specs.Layout.{Packet, sizeOf}
@@ -23,7 +24,6 @@ use Rattle.writing.specs.declared.writing.Written.{Written as Count}
 use Rattle.writing.specs.declared.writing.Writing.{Writing}
 use Rattle.writing.specs.declared.writing.Writing.the-variants.{Written, Refused as NotWritten}
 use Rattle.writing.specs.declared.writing.Wrote.{Wrote}
-use Rattle.c_words.proofs.Guards.{either}
 
 -- ---- a payload and its bytes since p and b: the same, or no longer empty
 pub data Since (p : PayloadWriter) (b : List ℕ) : PayloadWriter → List ℕ → Type 0 where
@@ -60,9 +60,9 @@ served-since (suc n) s ring p b =
     let r = request (s .queue) 0 in
     let out = rowOf p b (answerTo s ring r) in
     let row = row-since p b (answerTo s ring r) in
-    either (λ (v : Served). Since p b (v .payload) (v .bytes)) (out .whole || eqb (out .payload .len) 0) _ _
+    by-cond (λ (v : Served). Since p b (v .payload) (v .bytes)) (out .whole || eqb (out .payload .len) 0) _ _
     (λ _. then row (served-since n (withQueue s (popped (s .queue))) ring (out .payload) (out .bytes)))
-    row
+    (λ _. row)
 
 -- ---- the sender's part: it is done, or too large for a payload that is empty
 pub data Tried (p : PayloadWriter) (b : List ℕ) : Writing → PayloadWriter → List ℕ → Type 0 where
@@ -78,9 +78,9 @@ new-tried : (s : Sender) (cfg : StreamConfig) (time n : ℕ) (p : PayloadWriter)
     → let e = newBy s cfg time n p b ring cs in Tried p b (e .0 .answer) (e .0 .payload) (e .1)
 new-tried s cfg time n p b ring [] = wrote _
 new-tried s cfg time n p b ring (first ∷ others) =
-    either (λ (e : Wrote × List ℕ). Tried p b (e .0 .answer) (e .0 .payload) (e .1)) (not (fitAll p b (first ∷ []))) _ _
-    (λ _. either (λ (e : Wrote). Tried p b (e .answer) (e .payload) b) (eqb (p .len) 0) _ _ (λ z. large (eqb-true _ _ z)) (wrote _))
-    (wrote _)
+    by-cond (λ (e : Wrote × List ℕ). Tried p b (e .0 .answer) (e .0 .payload) (e .1)) (not (fitAll p b (first ∷ []))) _ _
+    (λ _. by-cond (λ (e : Wrote). Tried p b (e .answer) (e .payload) b) (eqb (p .len) 0) _ _ (λ z. large (eqb-true _ _ z)) (λ _. wrote _))
+    (λ _. wrote _)
 
 pub written-tried : (s : Sender) (cfg : StreamConfig) (time : ℕ) (p : PayloadWriter) (b ring : List ℕ)
     → let e = writtenBy s cfg time p b ring in Tried p b (e .0 .answer) (e .0 .payload) (e .1)
@@ -89,6 +89,6 @@ written-tried s cfg time p b ring =
     let served = servedIn (s .queue .len) s ring p b in
     let idled = idledOf (served .sender) cfg time ring in
     let unwritten = commandsAt (idled .0) (idled .1) (writtenCount (idled .0)) (idled .0 .unsent) in
-    either (λ (e : Wrote × List ℕ × List ℕ). Tried p b (e .0 .answer) (e .0 .payload) (e .1)) (served .more) _ _ (λ _. wrote _)
-    (tried-since (served-since (s .queue .len) s ring p b)
+    by-cond (λ (e : Wrote × List ℕ × List ℕ). Tried p b (e .0 .answer) (e .0 .payload) (e .1)) (served .more) _ _ (λ _. wrote _)
+    (λ _. tried-since (served-since (s .queue .len) s ring p b)
     (new-tried (idled .0) cfg time (served .written) (served .payload) (served .bytes) (idled .1) unwritten))

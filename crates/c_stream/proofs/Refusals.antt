@@ -1,12 +1,12 @@
 -- A refused call hands back what it was given, and words that fit are stored back as they were.
-use mathlib.Core.Path.{_≡_, refl, ap, _∙_}
+use mathlib.Core.Path.{_≡_, refl, ap, sym, _∙_}
 use mathlib.Core.Bool.{Bool, true, false, not, _&&_}
 use mathlib.Core.List.{List}
 use Prim.Native.Nat.{ℕ, _-_}
 use lib.ListN.{length}
 use lib.Dec.{eqb, leb, ltb}
 use Rattle.config.specs.Entry.{entry}
-use Rattle.config.specs.inner.Choices.{and-both, by-check}
+use Rattle.config.specs.inner.Choices.{and-both, by-cond, by-check}
 use Rattle.config.specs.inner.Tests.{and-left, and-right}
 use Rattle.config.specs.Refusals.{outcomeNumber}
 use Rattle.config.specs.Settings.{checkOf}
@@ -55,8 +55,8 @@ use Rattle.stream.specs.Writing.{writeRefused, countedAlso, sentAfter, afterReq
 use Rattle.stream.specs.declared.stream.DataStream.{DataStream}
 use Rattle.stream.specs.declared.stream.WasReset.{WasReset}
 use Rattle.stream.specs.declared.stream.Wrote.{Wrote}
-use Rattle.c_state.specs.Stream.{receiverFits, senderFits, fits, receiverIn, senderIn, loaded, stored, withReceiver, withSender}
-use Rattle.c_words.specs.Settings.{readyNumber, settingsOf}
+use Rattle.c_state.specs.Stream.{receiverFits, fits, receiverIn, senderIn, loaded, stored, withReceiver, withSender}
+use Rattle.c_words.specs.Settings.{settingsOf}
 use Rattle.c_words.specs.Payload.{payloadFits, payloadIn, payloadWords}
 use Rattle.c_answers.specs.Answers.{deliveryOf, outcomeOf, eventOf, requestOf, writtenOf}
 use Rattle.c_stream.specs.Exports.{startedInto as streamInto, newExport, resetExport, sendExport, requestExport, dataExport, errorExport, nakExport, pollExport, takeExport, writeExport}
@@ -65,8 +65,8 @@ use Rattle.c_answers.specs.declared.answers.COutcome.{COutcome}
 use Rattle.c_answers.specs.declared.answers.CEvent.{CEvent}
 use Rattle.c_answers.specs.declared.answers.CRequest.{CRequest}
 use Rattle.c_answers.specs.declared.answers.CWritten.{CWritten}
-use Rattle.c_words.proofs.Guards.{either, by-number, guarded-made, fit-true, ready-settings, ready-fits, ready-of}
-use Rattle.c_words.proofs.Kept.{Kept, KeptOne, KeptTwo, itself, as-was, done, by-test, by-state, by-entry, guard-keeps, payload-same}
+use Rattle.c_words.proofs.Entries.{made, call-any}
+use Rattle.c_words.proofs.Kept.{Kept, KeptOne, KeptTwo, itself, as-was, done, by-test, by-entry, call-keeps, payload-same}
 use Rattle.c_stream.proofs.Emptiness.{Since, as-before, not-empty, some-after, Tried, wrote, large, tried-since, written-tried}
 use Rattle.c_state.proofs.Ends.{both-receiver}
 use Rattle.c_state.proofs.Streams.{receiver-same, sender-same, stream-same}
@@ -109,25 +109,25 @@ module _ (st : List ℕ) where
   module _ (r : Receiver) (same : withReceiver st r ≡ st) where
     heard-kept : (cfg : StreamConfig) (time seq : ℕ) → HeardKept (receiver.dataAnswer r cfg time seq)
     unfolding receiver.dataAnswer heardOf
-    heard-kept cfg time seq = by-entry (checkOf cfg) (receiverValid r) (receiver.hearingRefused r) _ (λ why. as-was same) (done refl)
+    heard-kept cfg time seq = by-entry (checkOf cfg) (receiverValid r) (receiver.hearingRefused r) _ (λ why. same) (done refl)
 
     polled-kept : (cfg : StreamConfig) (time : ℕ) → ToldKept (receiver.pollAnswer r cfg time)
     unfolding receiver.pollAnswer polledOf
-    polled-kept cfg time = by-entry (checkOf cfg) (receiverValid r) (receiver.eventRefused r) _ (λ why. as-was same) (polled r cfg time (r .timer))
+    polled-kept cfg time = by-entry (checkOf cfg) (receiverValid r) (receiver.eventRefused r) _ (λ why. same) (polled r cfg time (r .timer))
 
     error-kept : (e : RetransmitError) → ToldKept (receiver.errorAnswer r e)
     unfolding receiver.errorAnswer errorOf
-    error-kept e = by-state (receiverValid r) (receiver.eventRefused r) _ (λ why. as-was same) (error-told r e (r .asked))
+    error-kept e = by-entry Done (receiverValid r) (receiver.eventRefused r) _ (λ why. same) (error-told r e (r .asked))
 
     nak-kept : ToldKept (receiver.nakAnswer r)
     unfolding receiver.nakAnswer nakOf
-    nak-kept = by-state (receiverValid r) (receiver.eventRefused r) _ (λ why. as-was same) (nak-told r (r .asked))
+    nak-kept = by-entry Done (receiverValid r) (receiver.eventRefused r) _ (λ why. same) (nak-told r (r .asked))
 
   pub hear-keeps : (cfg : List ℕ) (time seq : ℕ) → KeptOne (λ (a : CDelivery). a .refusal) st (dataExport st cfg time seq)
   unfolding dataExport dataAnswer loaded
   hear-keeps cfg time seq =
-      guard-keeps _ _ (λ (e : Heard). (deliveryOf (e .answer), withReceiver st (e .receiver))) _ _ (receiver.dataAnswer (receiverIn st) (settingsOf cfg) time seq)
-      (λ z. heard-kept (receiverIn st) (receiver-same st (ready-fits cfg (receiverFits st) z)) (settingsOf cfg) time seq) refl
+      call-keeps _ _ (λ (e : Heard). (deliveryOf (e .answer), withReceiver st (e .receiver))) _ (receiver.dataAnswer (receiverIn st) (settingsOf cfg) time seq) (λ n. refl)
+      (λ _ f. heard-kept (receiverIn st) (receiver-same st f) (settingsOf cfg) time seq)
 
   abbrev toldOf : Told → CEvent × List ℕ
   toldOf e = (eventOf (e .event), withReceiver st (e .receiver))
@@ -135,18 +135,18 @@ module _ (st : List ℕ) where
   pub poll-keeps : (cfg : List ℕ) (time : ℕ) → KeptOne (λ (a : CEvent). a .refusal) st (pollExport st cfg time)
   unfolding pollExport pollAnswer loaded
   poll-keeps cfg time =
-      guard-keeps _ _ toldOf _ _ (receiver.pollAnswer (receiverIn st) (settingsOf cfg) time)
-      (λ z. polled-kept (receiverIn st) (receiver-same st (ready-fits cfg (receiverFits st) z)) (settingsOf cfg) time) refl
+      call-keeps _ _ toldOf _ (receiver.pollAnswer (receiverIn st) (settingsOf cfg) time) (λ n. refl)
+      (λ _ f. polled-kept (receiverIn st) (receiver-same st f) (settingsOf cfg) time)
 
   pub error-keeps : (reason seq : ℕ) → KeptOne (λ (a : CEvent). a .refusal) st (errorExport st reason seq)
   unfolding errorExport errorAnswer loaded
   error-keeps reason seq =
-      guard-keeps _ _ toldOf _ _ (receiver.errorAnswer (receiverIn st) record { reason = reason; seq = seq })
-      (λ z. error-kept (receiverIn st) (receiver-same st (fit-true _ z)) record { reason = reason; seq = seq }) refl
+      call-keeps _ _ toldOf _ (receiver.errorAnswer (receiverIn st) record { reason = reason; seq = seq }) (λ n. refl)
+      (λ _ f. error-kept (receiverIn st) (receiver-same st f) record { reason = reason; seq = seq })
 
   pub nak-keeps : KeptOne (λ (a : CEvent). a .refusal) st (nakExport st)
   unfolding nakExport nakAnswer loaded
-  nak-keeps = guard-keeps _ _ toldOf _ _ (receiver.nakAnswer (receiverIn st)) (λ z. nak-kept (receiverIn st) (receiver-same st (fit-true _ z))) refl
+  nak-keeps = call-keeps _ _ toldOf _ (receiver.nakAnswer (receiverIn st)) (λ n. refl) (λ _ f. nak-kept (receiverIn st) (receiver-same st f))
 
 -- ---- the sender's calls, and a reset
 module _ (st ring : List ℕ) where
@@ -172,7 +172,7 @@ module _ (st ring : List ℕ) where
     unfolding sender.sendAnswer sentOf placedOf queuedOf
     sent-kept ws =
         let max : ℕ = cfg .«max_command_words» in
-        by-entry (checkOf cfg) (senderValid s ring) (unsent s ring) _ (λ why. as-was (same, refl))
+        by-entry (checkOf cfg) (senderValid s ring) (unsent s ring) _ (λ why. (same, refl))
         (by-test (eqb (length ws) 0) _ _ (λ _. done refl)
         (by-check SentKept (wordsCheck max ws) (unsent s ring) _ (λ why. as-was (same, refl))
         (λ _. by-test (ltb (s .history .size - s .«unsent_words») (needOf s ring max ws)) _ _ (λ _. as-was (same, refl)) (done refl))))
@@ -180,7 +180,7 @@ module _ (st ring : List ℕ) where
     requested-kept : (r : RetransmitRequest) → RequestedKept (sender.requestAnswer s cfg ring r)
     unfolding sender.requestAnswer requestedOf
     requested-kept r =
-        by-entry (checkOf cfg) (senderValid s ring) (sender.requestRefused s) _ (λ why. as-was same)
+        by-entry (checkOf cfg) (senderValid s ring) (sender.requestRefused s) _ (λ why. same)
         (by-test (not (cfg .retransmit)) _ _ (λ _. done refl)
         (by-test (notWritten s (r .seq)) _ _ (λ _. done refl)
         (record { kept = pushed-kept s r .kept })))
@@ -188,28 +188,28 @@ module _ (st ring : List ℕ) where
   pub send-keeps : (cfg ws : List ℕ) → KeptTwo itself st ring (sendExport st cfg ring ws)
   unfolding sendExport sendAnswer loaded
   send-keeps cfg ws =
-      guard-keeps _ _ (λ (e : Sent × List ℕ). (outcomeNumber (e .0 .answer), withSender st (e .0 .sender), e .1)) _ _ (sender.sendAnswer (senderIn st) (settingsOf cfg) ring ws)
-      (λ z. sent-kept (senderIn st) (settingsOf cfg) (sender-same st (ready-fits cfg (senderFits st) z)) ws) (refl, refl)
+      call-keeps _ _ (λ (e : Sent × List ℕ). (outcomeNumber (e .0 .answer), withSender st (e .0 .sender), e .1)) _ (sender.sendAnswer (senderIn st) (settingsOf cfg) ring ws)
+      (λ n. (refl, refl)) (λ _ f. sent-kept (senderIn st) (settingsOf cfg) (sender-same st f) ws)
 
   pub request-keeps : (cfg : List ℕ) (seq count : ℕ) → KeptOne (λ (a : COutcome). a .refusal) st (requestExport st cfg ring seq count)
   unfolding requestExport requestAnswer loaded
   request-keeps cfg seq count =
-      guard-keeps _ _ (λ (e : RequestHeard). (outcomeOf (e .outcome), withSender st (e .sender))) _ _
+      call-keeps _ _ (λ (e : RequestHeard). (outcomeOf (e .outcome), withSender st (e .sender))) _
       (sender.requestAnswer (senderIn st) (settingsOf cfg) ring record { seq = seq; count = count })
-      (λ z. requested-kept (senderIn st) (settingsOf cfg) (sender-same st (ready-fits cfg (senderFits st) z)) record { seq = seq; count = count }) refl
+      (λ n. refl) (λ _ f. requested-kept (senderIn st) (settingsOf cfg) (sender-same st f) record { seq = seq; count = count })
 
   abbrev ResetKept : WasReset × List ℕ → Type 0
   ResetKept = Kept (λ (e : WasReset × List ℕ). outcomeNumber (e .0 .answer)) (λ (e : WasReset × List ℕ). (stored (e .0 .stream) ≡ st) × (e .1 ≡ ring))
 
   was-reset-kept : stored (loaded st) ≡ st → ResetKept (resetAnswer (loaded st) ring)
   unfolding resetAnswer
-  was-reset-kept same = by-state (streamValid (loaded st) ring) (resetRefused (loaded st) ring) _ (λ why. as-was (same, refl)) (done refl)
+  was-reset-kept same = by-entry Done (streamValid (loaded st) ring) (resetRefused (loaded st) ring) _ (λ why. (same, refl)) (done refl)
 
   pub reset-keeps : KeptTwo itself st ring (resetExport st ring)
   unfolding resetExport
   reset-keeps =
-      guard-keeps _ _ (λ (e : WasReset × List ℕ). (outcomeNumber (e .0 .answer), stored (e .0 .stream), e .1)) _ _ (resetAnswer (loaded st) ring)
-      (λ z. was-reset-kept (stream-same st (fit-true _ z))) (refl, refl)
+      call-keeps _ _ (λ (e : WasReset × List ℕ). (outcomeNumber (e .0 .answer), stored (e .0 .stream), e .1)) _ (resetAnswer (loaded st) ring)
+      (λ n. (refl, refl)) (λ _ f. was-reset-kept (stream-same st f))
 
 -- ---- a start
 module _ (st ring : List ℕ) where
@@ -221,7 +221,7 @@ module _ (st ring : List ℕ) where
   unfolding newExport
   new-keeps cfg window places =
       let e = newAnswer (settingsOf cfg) window (length ring) places ring in
-      guard-keeps _ _ (λ (a : ℕ × List ℕ × List ℕ). a) _ _ (streamInto (e .0 .answer) (e .0 .stream) (e .1) st ring) (λ _. started-kept (e .0 .answer) (e .0 .stream) (e .1)) (refl, refl)
+      call-keeps _ _ (λ (a : ℕ × List ℕ × List ℕ). a) _ (streamInto (e .0 .answer) (e .0 .stream) (e .1) st ring) (λ n. (refl, refl)) (λ _ _. started-kept (e .0 .answer) (e .0 .stream) (e .1))
 
 -- ---- the write of a due request
 -- what it can come to after the tests: a refusal changes nothing
@@ -235,7 +235,7 @@ module _ (r : Receiver) (p : PayloadWriter) (b : List ℕ) where
   offered : (q : RetransmitRequest) (w : CommandWrote × List ℕ) → WriteEnds p b (requestPacket q) w
       → Taking r p b (takenBy r q (w .0 .payload) (w .0 .answer), w .1)
   offered q w (notPut why) =
-      either (λ (a : Request). Taking r p b (record { receiver = r; payload = p; answer = a }, b)) (eqb (p .len) 0) _ _ (λ _. refused TooLarge) more
+      by-cond (λ (a : Request). Taking r p b (record { receiver = r; payload = p; answer = a }, b)) (eqb (p .len) 0) _ _ (λ _. refused TooLarge) (λ _. more)
   offered q w (put f l) = taken _ _ _ (some-after p (requestPacket q))
 
   taken-span : (s : Span) → Taking r p b (takenSpan r p b s)
@@ -248,9 +248,9 @@ module _ (r : Receiver) (p : PayloadWriter) (b : List ℕ) where
   taking : (cfg : StreamConfig) → Taking r p b (takenOf r cfg p b)
   unfolding takenOf
   taking cfg =
-      either (Taking r p b) (not (r .«request_due»)) _ _ (λ _. none r)
-      (either (Taking r p b) (not (enabledOf r cfg)) _ _ (λ _. none _)
-      (taken-span (spanRequest (r .window))))
+      by-cond (Taking r p b) (not (r .«request_due»)) _ _ (λ _. none r)
+      (λ _. by-cond (Taking r p b) (not (enabledOf r cfg)) _ _ (λ _. none _)
+      (λ _. taken-span (spanRequest (r .window))))
 
 module _ (st p b : List ℕ) where
   abbrev TakenKept : ReceiverTaken × List ℕ → Type 0
@@ -273,17 +273,15 @@ module _ (st p b : List ℕ) where
     take-kept : (cfg : StreamConfig) → TakenKept (receiver.takeAnswer r cfg x b)
     unfolding receiver.takeAnswer
     take-kept cfg =
-        by-entry (checkOf cfg) (receiverValid r && payloadValid x (length b)) (receiver.requestRefused r x b) _ (λ why. as-was (same, whole, refl))
+        by-entry (checkOf cfg) (receiverValid r && payloadValid x (length b)) (receiver.requestRefused r x b) _ (λ why. (same, whole, refl))
         (taken-kept _ (taking r x b cfg))
 
   pub take-keeps : (cfg : List ℕ) → TakeKept (takeExport st cfg p b)
   unfolding takeExport takeAnswer loaded
   take-keeps cfg =
-      guard-keeps _ _ (λ (e : ReceiverTaken × List ℕ). (requestOf (e .0 .answer), withReceiver st (e .0 .receiver), payloadWords (e .0 .payload), e .1)) _ _
-      (receiver.takeAnswer (receiverIn st) (settingsOf cfg) (payloadIn p) b)
-      (λ z. let f = ready-fits cfg (receiverFits st && payloadFits p) z in
-      take-kept (receiverIn st) (payloadIn p) (receiver-same st (and-left (receiverFits st) (payloadFits p) f)) (payload-same p (and-right (receiverFits st) (payloadFits p) f)) (settingsOf cfg))
-      (refl, refl, refl)
+      call-keeps _ _ (λ (e : ReceiverTaken × List ℕ). (requestOf (e .0 .answer), withReceiver st (e .0 .receiver), payloadWords (e .0 .payload), e .1)) _
+      (receiver.takeAnswer (receiverIn st) (settingsOf cfg) (payloadIn p) b) (λ n. (refl, refl, refl))
+      (λ _ f. take-kept (receiverIn st) (payloadIn p) (receiver-same st (and-left (receiverFits st) (payloadFits p) f)) (payload-same p (and-right (receiverFits st) (payloadFits p) f)) (settingsOf cfg))
 
 -- ---- a write
 module _ (st p b ring : List ℕ) where
@@ -337,7 +335,7 @@ module _ (st p b ring : List ℕ) where
       unfolding writeAnswer streamWritten
       wrote-kept =
           by-entry (checkOf cfg) (streamValid d ring && payloadValid x (length b)) (writeRefused d x b ring) _
-          (λ why. as-was (whole, refl, λ g. (same, whole, refl, refl)))
+          (λ why. (whole, refl, λ g. (same, whole, refl, refl)))
           (request-kept _ (taking (d .receiver) x b cfg))
 
       -- the tests of the request's write are among those of the whole write
@@ -361,21 +359,16 @@ module _ (st p b ring : List ℕ) where
     pub write-keeps : WriteKept (writeExport st cfg time p b ring)
     unfolding writeExport
     write-keeps =
-        guard-keeps _ _ (λ (e : Wrote × List ℕ × List ℕ). (writtenOf (e .0 .answer), stored (e .0 .stream), payloadWords (e .0 .payload), e .1, e .2)) _ _
-        (writeAnswer (loaded st) (settingsOf cfg) time (payloadIn p) b ring)
-        (λ z. let f = ready-fits cfg (fits st && payloadFits p) z in
-        wrote-kept (payloadIn p) (payload-same p (and-right (fits st) (payloadFits p) f)) (loaded st) (settingsOf cfg) time (stream-same st (and-left (fits st) (payloadFits p) f)))
-        (refl, refl, λ g. (refl, refl, refl, refl))
+        call-keeps _ _ (λ (e : Wrote × List ℕ × List ℕ). (writtenOf (e .0 .answer), stored (e .0 .stream), payloadWords (e .0 .payload), e .1, e .2)) _
+        (writeAnswer (loaded st) (settingsOf cfg) time (payloadIn p) b ring) (λ n. (refl, refl, λ g. (refl, refl, refl, refl)))
+        (λ _ f. wrote-kept (payloadIn p) (payload-same p (and-right (fits st) (payloadFits p) f)) (loaded st) (settingsOf cfg) time (stream-same st (and-left (fits st) (payloadFits p) f)))
 
     pub write-request-keeps : (takeExport st cfg p b .0 .refusal ≡ 0 → ⊥) → WriteSame (writeExport st cfg time p b ring)
     unfolding writeExport takeExport takeAnswer loaded
     write-request-keeps n =
-        by-number (readyNumber cfg (fits st && payloadFits p)) _ _ WriteSame
-        (λ e.
-        let f = ready-fits cfg (fits st && payloadFits p) e in
+        call-any WriteSame _ _ (λ m. (refl, refl, refl, refl))
+        (λ c f.
         let whole = and-left (fits st) (payloadFits p) f in
         let two = and-right (fits st) (payloadFits p) f in
-        let z = ready-of cfg (receiverFits st && payloadFits p) (ready-settings cfg (fits st && payloadFits p) e) (and-both (both-receiver st whole) two) in
         wrote-same (payloadIn p) (payload-same p two) (loaded st) (settingsOf cfg) time (stream-same st whole)
-        (λ k. n (ap (λ (a : CRequest × List ℕ × List ℕ × List ℕ). a .0 .refusal) (guarded-made (readyNumber cfg (receiverFits st && payloadFits p)) _ _ z) ∙ k)))
-        (refl, refl, refl, refl)
+        (λ k. n (ap (λ (a : CRequest × List ℕ × List ℕ × List ℕ). a .0 .refusal) (sym (made _ _ c (and-both (both-receiver st whole) two) refl)) ∙ k)))

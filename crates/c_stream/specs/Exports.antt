@@ -21,8 +21,8 @@ use Rattle.stream.specs.declared.stream.RequestHeard.{RequestHeard}
 use Rattle.stream.specs.declared.stream.Told.{Told}
 use Rattle.stream.specs.declared.stream.RequestWritten.{RequestWritten}
 use Rattle.c_state.specs.Stream.{streamWords, fits, receiverFits, senderFits, loaded, stored, withReceiver, withSender}
-use Rattle.c_words.specs.Guard.{guarded, fitNumber}
-use Rattle.c_words.specs.Settings.{readyNumber, settingsOf}
+use Rattle.c_words.specs.Entry.{wordsEntry, onWords}
+use Rattle.c_words.specs.Settings.{settingsCheck, settingsOf}
 use Rattle.c_words.specs.Payload.{payloadFits, payloadIn, payloadWords}
 use Rattle.c_answers.specs.Answers.{deliveryOf, deliveryRefused, writtenOf, writtenRefused, outcomeOf, outcomeRefused, eventOf, eventRefused, requestOf, requestRefused, deadlineOf, deadlineRefused, wantsOf, wantsRefused}
 use Rattle.c_answers.specs.declared.answers.CDelivery.{CDelivery}
@@ -44,13 +44,13 @@ startedInto (Refused why) stream after st ring = (numberOf why, st, ring)
 unfoldable pub newExport : List ℕ → List ℕ → ℕ → ℕ → List ℕ → ℕ × List ℕ × List ℕ
 newExport st cfg window places ring =
     let e = newAnswer (settingsOf cfg) window (length ring) places ring in
-    guarded (readyNumber cfg (eqb (length st) streamWords)) (λ n. (n, st, ring)) (startedInto (e .0 .answer) (e .0 .stream) (e .1) st ring)
+    wordsEntry (settingsCheck cfg) (eqb (length st) streamWords) (λ n. (n, st, ring)) (startedInto (e .0 .answer) (e .0 .stream) (e .1) st ring)
 
 abbrev resetInto : WasReset × List ℕ → ℕ × List ℕ × List ℕ
 resetInto e = (outcomeNumber (e .0 .answer), stored (e .0 .stream), e .1)
 
 unfoldable pub resetExport : List ℕ → List ℕ → ℕ × List ℕ × List ℕ
-resetExport st ring = guarded (fitNumber (fits st)) (λ n. (n, st, ring)) (resetInto (resetAnswer (loaded st) ring))
+resetExport st ring = onWords (fits st) (λ n. (n, st, ring)) (resetInto (resetAnswer (loaded st) ring))
 
 -- ---- the sender's calls
 abbrev sentInto : List ℕ → Sent × List ℕ → ℕ × List ℕ × List ℕ
@@ -58,14 +58,14 @@ sentInto st e = (outcomeNumber (e .0 .answer), withSender st (e .0 .stream .send
 
 unfoldable pub sendExport : List ℕ → List ℕ → List ℕ → List ℕ → ℕ × List ℕ × List ℕ
 sendExport st cfg ring ws =
-    guarded (readyNumber cfg (senderFits st)) (λ n. (n, st, ring)) (sentInto st (sendAnswer (loaded st) (settingsOf cfg) ring ws))
+    wordsEntry (settingsCheck cfg) (senderFits st) (λ n. (n, st, ring)) (sentInto st (sendAnswer (loaded st) (settingsOf cfg) ring ws))
 
 abbrev requestedInto : List ℕ → RequestHeard → COutcome × List ℕ
 requestedInto st e = (outcomeOf (e .outcome), withSender st (e .stream .sender))
 
 unfoldable pub requestExport : List ℕ → List ℕ → List ℕ → ℕ → ℕ → COutcome × List ℕ
 requestExport st cfg ring seq count =
-    guarded (readyNumber cfg (senderFits st)) (λ n. (outcomeRefused n, st))
+    wordsEntry (settingsCheck cfg) (senderFits st) (λ n. (outcomeRefused n, st))
     (requestedInto st (requestAnswer (loaded st) (settingsOf cfg) ring record { seq = seq; count = count }))
 
 -- ---- the receiver's calls
@@ -74,21 +74,21 @@ heardInto st e = (deliveryOf (e .answer), withReceiver st (e .stream .receiver))
 
 unfoldable pub dataExport : List ℕ → List ℕ → ℕ → ℕ → CDelivery × List ℕ
 dataExport st cfg time seq =
-    guarded (readyNumber cfg (receiverFits st)) (λ n. (deliveryRefused n, st)) (heardInto st (dataAnswer (loaded st) (settingsOf cfg) time seq))
+    wordsEntry (settingsCheck cfg) (receiverFits st) (λ n. (deliveryRefused n, st)) (heardInto st (dataAnswer (loaded st) (settingsOf cfg) time seq))
 
 abbrev toldInto : List ℕ → Told → CEvent × List ℕ
 toldInto st e = (eventOf (e .event), withReceiver st (e .stream .receiver))
 
 unfoldable pub errorExport : List ℕ → ℕ → ℕ → CEvent × List ℕ
 errorExport st reason seq =
-    guarded (fitNumber (receiverFits st)) (λ n. (eventRefused n, st)) (toldInto st (errorAnswer (loaded st) record { reason = reason; seq = seq }))
+    onWords (receiverFits st) (λ n. (eventRefused n, st)) (toldInto st (errorAnswer (loaded st) record { reason = reason; seq = seq }))
 
 unfoldable pub nakExport : List ℕ → CEvent × List ℕ
-nakExport st = guarded (fitNumber (receiverFits st)) (λ n. (eventRefused n, st)) (toldInto st (nakAnswer (loaded st)))
+nakExport st = onWords (receiverFits st) (λ n. (eventRefused n, st)) (toldInto st (nakAnswer (loaded st)))
 
 unfoldable pub pollExport : List ℕ → List ℕ → ℕ → CEvent × List ℕ
 pollExport st cfg time =
-    guarded (readyNumber cfg (receiverFits st)) (λ n. (eventRefused n, st)) (toldInto st (pollAnswer (loaded st) (settingsOf cfg) time))
+    wordsEntry (settingsCheck cfg) (receiverFits st) (λ n. (eventRefused n, st)) (toldInto st (pollAnswer (loaded st) (settingsOf cfg) time))
 
 -- the answer, the stream's words, the payload's words and its bytes
 abbrev takenInto : List ℕ → RequestWritten × List ℕ → CRequest × List ℕ × List ℕ × List ℕ
@@ -96,7 +96,7 @@ takenInto st e = (requestOf (e .0 .answer), withReceiver st (e .0 .stream .recei
 
 unfoldable pub takeExport : List ℕ → List ℕ → List ℕ → List ℕ → CRequest × List ℕ × List ℕ × List ℕ
 takeExport st cfg p b =
-    guarded (readyNumber cfg (receiverFits st && payloadFits p)) (λ n. (requestRefused n, st, p, b))
+    wordsEntry (settingsCheck cfg) (receiverFits st && payloadFits p) (λ n. (requestRefused n, st, p, b))
     (takenInto st (takeAnswer (loaded st) (settingsOf cfg) (payloadIn p) b))
 
 -- ---- both ends again: a write, and questions
@@ -106,11 +106,11 @@ wroteInto e = (writtenOf (e .0 .answer), stored (e .0 .stream), payloadWords (e 
 
 unfoldable pub writeExport : List ℕ → List ℕ → ℕ → List ℕ → List ℕ → List ℕ → CWritten × List ℕ × List ℕ × List ℕ × List ℕ
 writeExport st cfg time p b ring =
-    guarded (readyNumber cfg (fits st && payloadFits p)) (λ n. (writtenRefused n, st, p, b, ring))
+    wordsEntry (settingsCheck cfg) (fits st && payloadFits p) (λ n. (writtenRefused n, st, p, b, ring))
     (wroteInto (writeAnswer (loaded st) (settingsOf cfg) time (payloadIn p) b ring))
 
 unfoldable pub deadlineExport : List ℕ → List ℕ → CDeadline
-deadlineExport st ring = guarded (fitNumber (fits st)) deadlineRefused (deadlineOf (deadlineAnswer (loaded st) ring))
+deadlineExport st ring = onWords (fits st) deadlineRefused (deadlineOf (deadlineAnswer (loaded st) ring))
 
 unfoldable pub wantsExport : List ℕ → List ℕ → ℕ → CWants
-wantsExport st ring time = guarded (fitNumber (fits st)) wantsRefused (wantsOf (wantsAnswer (loaded st) ring time))
+wantsExport st ring time = onWords (fits st) wantsRefused (wantsOf (wantsAnswer (loaded st) ring time))

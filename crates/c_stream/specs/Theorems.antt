@@ -5,10 +5,11 @@ use Prim.Native.Nat.{ℕ}
 use mathlib.Core.Bool.{true}
 use mathlib.Core.List.{List}
 use Rattle.config.specs.Refusals.{outcomeNumber}
+use Rattle.config.specs.declared.answer.Outcome.the-variants.{Done}
 use Rattle.stream.specs.Ends.{sendAnswer, requestAnswer, dataAnswer, errorAnswer, nakAnswer, pollAnswer, takeAnswer}
 use Rattle.c_answers.specs.Answers.{outcomeOf, deliveryOf, eventOf, requestOf}
 use Rattle.c_words.specs.Payload.{payloadFits, payloadIn, payloadWords}
-use Rattle.c_words.specs.Settings.{settingsNumber, settingsOf}
+use Rattle.c_words.specs.Settings.{settingsCheck, settingsOf}
 use Rattle.c_stream.specs.Exports.{newExport, resetExport, sendExport, requestExport, dataExport, errorExport, nakExport, pollExport, takeExport, writeExport}
 use Rattle.c_state.specs.Stream.{fits, loaded, receiverPart, senderPart, stored}
 
@@ -24,18 +25,18 @@ pub record OtherEnd (st : List ℕ) : Type 0 where
 
 -- and answers as the library's call on the whole stream does, whose stream is what it stores
 pub record WholeStream (st : List ℕ) : Type 0 where
-  pub send : (cfg ring ws : List ℕ) → settingsNumber cfg ≡ 0 → let e = sendAnswer (loaded st) (settingsOf cfg) ring ws in
+  pub send : (cfg ring ws : List ℕ) → settingsCheck cfg ≡ Done → let e = sendAnswer (loaded st) (settingsOf cfg) ring ws in
       sendExport st cfg ring ws ≡ (outcomeNumber (e .0 .answer), stored (e .0 .stream), e .1)
-  pub request : (cfg ring : List ℕ) (seq count : ℕ) → settingsNumber cfg ≡ 0 → let e = requestAnswer (loaded st) (settingsOf cfg) ring record { seq = seq; count = count } in
+  pub request : (cfg ring : List ℕ) (seq count : ℕ) → settingsCheck cfg ≡ Done → let e = requestAnswer (loaded st) (settingsOf cfg) ring record { seq = seq; count = count } in
       requestExport st cfg ring seq count ≡ (outcomeOf (e .outcome), stored (e .stream))
-  pub hear : (cfg : List ℕ) (time seq : ℕ) → settingsNumber cfg ≡ 0 → let e = dataAnswer (loaded st) (settingsOf cfg) time seq in
+  pub hear : (cfg : List ℕ) (time seq : ℕ) → settingsCheck cfg ≡ Done → let e = dataAnswer (loaded st) (settingsOf cfg) time seq in
       dataExport st cfg time seq ≡ (deliveryOf (e .answer), stored (e .stream))
   pub error : (reason seq : ℕ) → let e = errorAnswer (loaded st) record { reason = reason; seq = seq } in
       errorExport st reason seq ≡ (eventOf (e .event), stored (e .stream))
   pub nak : let e = nakAnswer (loaded st) in nakExport st ≡ (eventOf (e .event), stored (e .stream))
-  pub poll : (cfg : List ℕ) (time : ℕ) → settingsNumber cfg ≡ 0 → let e = pollAnswer (loaded st) (settingsOf cfg) time in
+  pub poll : (cfg : List ℕ) (time : ℕ) → settingsCheck cfg ≡ Done → let e = pollAnswer (loaded st) (settingsOf cfg) time in
       pollExport st cfg time ≡ (eventOf (e .event), stored (e .stream))
-  pub take : (cfg p b : List ℕ) → settingsNumber cfg ≡ 0 → payloadFits p ≡ true → let e = takeAnswer (loaded st) (settingsOf cfg) (payloadIn p) b in
+  pub take : (cfg p b : List ℕ) → settingsCheck cfg ≡ Done → payloadFits p ≡ true → let e = takeAnswer (loaded st) (settingsOf cfg) (payloadIn p) b in
       takeExport st cfg p b ≡ (requestOf (e .0 .answer), stored (e .0 .stream), payloadWords (e .0 .payload), e .1)
 
 pub record OneEnd : Type 0 where

@@ -33,20 +33,23 @@ pub extern "C" fn sirmjold_stream_new(
 ) -> u8
     ensures { λ r. ⌜ (r, now (s .exit), now (ring .exit)) ≡ newExport (now (s .entry)) (now (cfg .entry)) window places (now (ring .entry)) ⌝ }
 {
-    let number = guard::ready(cfg, s.len() == state::WORDS);
+    let number = settings::number(cfg);
     if number == 0 {
-        let started = DataStream::new(settings::load(cfg), window, ring.len(), places, ring);
-        let stream = started.stream;
-        let answer = started.answer;
-        match answer {
-            Outcome::Done => {
-                state::store(stream, s);
-                return 0;
-            }
-            Outcome::Refused(why) => {
-                return why.number();
+        if s.len() == state::WORDS {
+            let started = DataStream::new(settings::load(cfg), window, ring.len(), places, ring);
+            let stream = started.stream;
+            let answer = started.answer;
+            match answer {
+                Outcome::Done => {
+                    state::store(stream, s);
+                    return 0;
+                }
+                Outcome::Refused(why) => {
+                    return why.number();
+                }
             }
         }
+        return guard::INVALID_STATE;
     }
     number
 }
@@ -196,19 +199,19 @@ pub extern "C" fn sirmjold_stream_write_request(
 ) -> CRequest
     ensures { λ r. ⌜ (r, now (s .exit), now (p .exit), now (buf .exit)) ≡ takeExport (now (s .entry)) (now (cfg .entry)) (now (p .entry)) (now (buf .entry)) ⌝ }
 {
-    let number = guard::ready(
-        cfg,
-        guard::both(state::receiver_fits(&s[..]), payload::fits(&p[..])),
-    );
+    let number = settings::number(cfg);
     if number == 0 {
-        let before = state::receiver_in(&s[..]);
-        let done = before.write_request(settings::load(cfg), payload::load(&p[..]), buf);
-        let receiver = done.receiver;
-        let written = done.payload;
-        let answer = done.answer;
-        state::store_receiver(receiver, s);
-        payload::store(written, p);
-        return answers::of_request(answer);
+        if guard::both(state::receiver_fits(&s[..]), payload::fits(&p[..])) {
+            let before = state::receiver_in(&s[..]);
+            let done = before.write_request(settings::load(cfg), payload::load(&p[..]), buf);
+            let receiver = done.receiver;
+            let written = done.payload;
+            let answer = done.answer;
+            state::store_receiver(receiver, s);
+            payload::store(written, p);
+            return answers::of_request(answer);
+        }
+        return answers::refused_request(guard::INVALID_STATE);
     }
     answers::refused_request(number)
 }

@@ -12,9 +12,8 @@ use Rattle.window.specs.declared.window.Started.{Started}
 use Rattle.window.specs.declared.window.Accepted.{Accepted}
 use Rattle.c_answers.specs.Answers.{acceptanceOf}
 use Rattle.c_answers.specs.declared.answers.CDelivery.{CDelivery}
-use Rattle.c_words.proofs.Guards.{fit-true}
 use Rattle.c_words.proofs.Runs.{run-all}
-use Rattle.c_words.proofs.Kept.{Kept, KeptOne, itself, as-was, done, by-test, guard-keeps}
+use Rattle.c_words.proofs.Kept.{Kept, KeptOne, itself, as-was, done, by-test, call-keeps}
 use Rattle.c_window.specs.Window.{windowFits, windowAt, windowWords, startedInto, startExport, acceptExport}
 use Rattle.c_window.proofs.Windows.{window-known}
 
@@ -33,10 +32,10 @@ module _ (w : List ℕ) where
   pub start-keeps : (size highest : ℕ) → KeptOne itself w (startExport w size highest)
   unfolding startExport startAnswer
   start-keeps size highest =
-      guard-keeps _ _ (λ (e : Started). startedInto e w) _ _ (startAnswer size highest) (λ _. by-test (outside 1 maxWindow size) _ _ (λ _. as-was refl) (done refl)) refl
+      call-keeps _ _ (λ (e : Started). startedInto e w) _ (startAnswer size highest) (λ n. refl) (λ _ _. by-test (outside 1 maxWindow size) _ _ (λ _. as-was refl) (done refl))
 
   pub accept-keeps : (seq : ℕ) → KeptOne (λ (a : CDelivery). a .refusal) w (acceptExport w seq)
   unfolding acceptExport
   accept-keeps seq =
-      guard-keeps _ _ (λ (e : Accepted). (acceptanceOf (e .answer), windowWords (e .window))) _ _ (acceptAnswer (windowAt w) seq)
-      (λ z. accepted-kept (windowAt w) (window-same (fit-true _ z)) seq) refl
+      call-keeps _ _ (λ (e : Accepted). (acceptanceOf (e .answer), windowWords (e .window))) _ (acceptAnswer (windowAt w) seq) (λ n. refl)
+      (λ _ fit. accepted-kept (windowAt w) (window-same fit) seq)

@@ -16,7 +16,7 @@ use Rattle.window.specs.declared.window.Started.{Started}
 use Rattle.window.specs.declared.window.Started.the-variants.{Window, Refused}
 use Rattle.config.specs.Refusals.{numberOf}
 use lib.Dec.{eqb}
-use Rattle.c_words.specs.Guard.{guarded, fitNumber}
+use Rattle.c_words.specs.Entry.{onWords}
 use Rattle.c_words.specs.Limits.{within}
 use Rattle.c_answers.specs.Answers.{acceptanceOf, deliveryRefused}
 use Rattle.c_answers.specs.declared.answers.CDelivery.{CDelivery}
@@ -59,7 +59,7 @@ abbrev acceptedInto : Accepted → CDelivery × List ℕ
 acceptedInto e = (acceptanceOf (e .answer), windowWords (e .window))
 
 unfoldable pub acceptExport : List ℕ → ℕ → CDelivery × List ℕ
-acceptExport ws seq = guarded (fitNumber (windowFits ws)) (λ n. (deliveryRefused n, ws)) (acceptedInto (acceptAnswer (windowAt ws) seq))
+acceptExport ws seq = onWords (windowFits ws) (λ n. (deliveryRefused n, ws)) (acceptedInto (acceptAnswer (windowAt ws) seq))
 
 -- ---- a start: a window that is not started leaves the words as they were
 abbrev pub startedInto : Started → List ℕ → ℕ × List ℕ
@@ -67,4 +67,4 @@ startedInto (Window w) ws = (0, windowWords w)
 startedInto (Refused why) ws = (numberOf why, ws)
 
 unfoldable pub startExport : List ℕ → ℕ → ℕ → ℕ × List ℕ
-startExport ws size highest = guarded (fitNumber (eqb (length ws) 4)) (λ n. (n, ws)) (startedInto (startAnswer size highest) ws)
+startExport ws size highest = onWords (eqb (length ws) 4) (λ n. (n, ws)) (startedInto (startAnswer size highest) ws)

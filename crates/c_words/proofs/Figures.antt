@@ -1,25 +1,24 @@
 -- The test of eight words, by its tests.
-use mathlib.Core.Path.{_≡_, refl}
+use mathlib.Core.Path.{_≡_, refl, sym, _∙_}
 use mathlib.Core.Bool.{Bool, true, false, cond}
 use mathlib.Core.List.{List}
-use mathlib.Core.Logic.{inl, inr}
 use Prim.Native.Nat.{ℕ, _≤_}
 use native.Mathlib.Omega.{arith}
 use lib.ListN.{length, getD}
 use lib.Dec.{leb, eqb}
 use borrow.Author.Tests.{eq-eqb, ne-eqb, le-leb, eqb-true}
+use Rattle.config.specs.Entry.{onState, entry}
 use Rattle.config.specs.Range.{outside}
-use Rattle.config.specs.Refusals.{numberOf}
-use Rattle.config.specs.Settings.{checkOf, tested}
+use Rattle.config.specs.Refusals.{numberOf, outcomeNumber}
+use Rattle.config.specs.Settings.{checkOf}
 use Rattle.config.specs.declared.refusal.Refusal.{Refusal}
 use Rattle.config.specs.declared.refusal.Refusal.the-variants.{IdleInterval, IdleGrowth, CommandWords}
+use Rattle.config.specs.declared.answer.Outcome.{Outcome}
 use Rattle.config.specs.declared.answer.Outcome.the-variants.{Done, Refused}
 use Rattle.config.specs.declared.settings.StreamConfig.{StreamConfig}
-use Rattle.config.specs.inner.Tests.{split}
-use Rattle.c_words.specs.Guard.{fitNumber}
+use Rattle.config.specs.inner.Entries.{state-any, entry-any}
 use Rattle.c_words.specs.Limits.{within}
-use Rattle.c_words.specs.Settings.{settingsOf, settingsLimits, settingsNumber, Small}
-use Rattle.c_words.proofs.Guards.{fit-true}
+use Rattle.c_words.specs.Settings.{settingsOf, settingsLimits, settingsCheck, Small}
 use Rattle.c_words.proofs.Within.{within-at, and-true}
 
 -- the settings' own test looks at three of them
@@ -36,28 +35,23 @@ pub own-test : (s : StreamConfig) → checkOf record {
 unfolding checkOf
 own-test s = refl
 
--- none of its numbers is 0
-passed-by : (size interval growth : Bool) (n : ℕ)
-    → tested (cond size (Refused CommandWords) (cond interval (Refused IdleInterval) (cond growth (Refused IdleGrowth) Done))) numberOf n ≡ 0 → n ≡ 0
-passed-by true interval growth n e = absurd (let z : ⊥ = omega arith in z)
-passed-by false true growth n e = absurd (let z : ⊥ = omega arith in z)
-passed-by false false true n e = absurd (let z : ⊥ = omega arith in z)
-passed-by false false false n e = e
+-- none of its refusals has the number 0
+none-refused : (eight size interval growth narrow : Bool)
+    → let k = onState eight Refused (entry (cond size (Refused CommandWords) (cond interval (Refused IdleInterval) (cond growth (Refused IdleGrowth) Done))) narrow Refused Done) in
+    outcomeNumber k ≡ 0 → k ≡ Done
+none-refused false size interval growth narrow e = absurd (let z : ⊥ = omega arith in z)
+none-refused true true interval growth narrow e = absurd (let z : ⊥ = omega arith in z)
+none-refused true false true growth narrow e = absurd (let z : ⊥ = omega arith in z)
+none-refused true false false true narrow e = absurd (let z : ⊥ = omega arith in z)
+none-refused true false false false false e = absurd (let z : ⊥ = omega arith in z)
+none-refused true false false false true e = refl
 
-passed : (s : StreamConfig) (n : ℕ) → tested (checkOf s) numberOf n ≡ 0 → n ≡ 0
-unfolding checkOf
-passed s n e = passed-by (outside 1 64 (s .«max_command_words»)) (outside 1 300 (s .«idle_interval_ms»)) (eqb (s .«idle_growth») 0) n e
-
-passes-by : (size interval growth : Bool) (n : ℕ)
-    → let t = cond size (Refused CommandWords) (cond interval (Refused IdleInterval) (cond growth (Refused IdleGrowth) Done)) in tested t numberOf n ≡ 0 → t ≡ Done
-passes-by true interval growth n e = absurd (let z : ⊥ = omega arith in z)
-passes-by false true growth n e = absurd (let z : ⊥ = omega arith in z)
-passes-by false false true n e = absurd (let z : ⊥ = omega arith in z)
-passes-by false false false n e = refl
-
-passes : (s : StreamConfig) (n : ℕ) → tested (checkOf s) numberOf n ≡ 0 → checkOf s ≡ Done
-unfolding checkOf
-passes s n e = passes-by (outside 1 64 (s .«max_command_words»)) (outside 1 300 (s .«idle_interval_ms»)) (eqb (s .«idle_growth») 0) n e
+-- the number n of settings that pass
+pub passed : (ws : List ℕ) {n : ℕ} → n ≡ outcomeNumber (settingsCheck ws) → n ≡ 0 → settingsCheck ws ≡ Done
+unfolding settingsCheck checkOf
+passed ws s z =
+    let c = settingsOf ws in
+    none-refused (eqb (length ws) 8) (outside 1 64 (c .«max_command_words»)) (outside 1 300 (c .«idle_interval_ms»)) (eqb (c .«idle_growth») 0) (within settingsLimits ws) (sym s ∙ z)
 
 module _ (ws : List ℕ) where
   abbrev at : ℕ → ℕ
@@ -67,31 +61,34 @@ module _ (ws : List ℕ) where
   unfolding within
   last-figure b c d = rw (le-leb (at 2) 255 b, le-leb (at 3) 255 c, le-leb (at 4) 1 d) (and-true (leb (at 6) 255))
 
-  pub not-eight : (length ws ≡ 8 → ⊥) → 13 ≡ settingsNumber ws
-  unfolding settingsNumber
+  pub not-eight : (length ws ≡ 8 → ⊥) → 13 ≡ outcomeNumber (settingsCheck ws)
+  unfolding settingsCheck
   not-eight h = rw (ne-eqb (length ws) 8 h)
 
   module _ (l : length ws ≡ 8) where
-    pub own-refused : (why : Refusal) → Refused why ≡ checkOf (settingsOf ws) → numberOf why ≡ settingsNumber ws
-    unfolding settingsNumber
+    pub own-refused : (why : Refusal) → Refused why ≡ checkOf (settingsOf ws) → numberOf why ≡ outcomeNumber (settingsCheck ws)
+    unfolding settingsCheck
     own-refused why e = rw (eq-eqb (length ws) 8 l, ← e)
 
-    pub own-passed : Done ≡ checkOf (settingsOf ws) → fitNumber (within settingsLimits ws) ≡ settingsNumber ws
-    unfolding settingsNumber
+    pub own-passed : Done ≡ checkOf (settingsOf ws) → outcomeNumber (onState (within settingsLimits ws) Refused Done) ≡ outcomeNumber (settingsCheck ws)
+    unfolding settingsCheck
     own-passed e = rw (eq-eqb (length ws) 8 l, ← e)
 
-  pub figures-small : settingsNumber ws ≡ 0 → Small ws
-  unfolding settingsNumber
-  figures-small e = elim (split (eqb (length ws) 8)) [
-    | inl z ↦
-        let s = within-at settingsLimits ws (fit-true _ (passed (settingsOf ws) _ (rw z at e))) in
-        record { whole = eqb-true (length ws) 8 z; further = s 0 (omega arith); repeats = s 1 (omega arith); requests = s 3 (omega arith) }
-    | inr z ↦ let f : _≡_ {A = ℕ} 13 0 = rw z at e in absurd (let y : ⊥ = omega arith in y)
-  ]
+  -- what settings that pass are
+  are : settingsCheck ws ≡ Done → (eqb (length ws) 8 ≡ true) × (checkOf (settingsOf ws) ≡ Done) × (within settingsLimits ws ≡ true)
+  unfolding settingsCheck
+  are = state-any P Refused _ denied (eqb (length ws) 8) (λ l. entry-any P Refused Done denied (checkOf (settingsOf ws)) (within settingsLimits ws) (λ c w _. (l, c, w)))
+    where
+      P : Outcome → Type 0
+      P k = k ≡ Done → (eqb (length ws) 8 ≡ true) × (checkOf (settingsOf ws) ≡ Done) × (within settingsLimits ws ≡ true)
 
-  pub settings-passed : settingsNumber ws ≡ 0 → checkOf (settingsOf ws) ≡ Done
-  unfolding settingsNumber
-  settings-passed e = elim (split (eqb (length ws) 8)) [
-    | inl z ↦ passes (settingsOf ws) _ (rw z at e)
-    | inr z ↦ let f : _≡_ {A = ℕ} 13 0 = rw z at e in absurd (let y : ⊥ = omega arith in y)
-  ]
+      denied : (why : Refusal) → P (Refused why)
+      denied why e = absurd (let z : _≡_ {A = ℕ} 0 1 = cc in omega arith)
+
+  pub figures-small : settingsCheck ws ≡ Done → Small ws
+  figures-small e =
+      let s = within-at settingsLimits ws (are e .2) in
+      record { whole = eqb-true (length ws) 8 (are e .0); further = s 0 (omega arith); repeats = s 1 (omega arith); requests = s 3 (omega arith) }
+
+  pub settings-passed : settingsCheck ws ≡ Done → checkOf (settingsOf ws) ≡ Done
+  settings-passed e = are e .1

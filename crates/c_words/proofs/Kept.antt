@@ -5,13 +5,15 @@ use mathlib.Core.List.{List}
 use Prim.Native.Nat.{ℕ}
 use lib.ListN.{length}
 use borrow.Author.Tests.{eqb-true}
-use Rattle.config.specs.Entry.{onState, entry}
+use Rattle.config.specs.Entry.{entry}
 use Rattle.config.specs.declared.answer.Outcome.{Outcome}
+use Rattle.config.specs.declared.answer.Outcome.the-variants.{Done}
 use Rattle.config.specs.declared.refusal.Refusal.{Refusal}
-use Rattle.config.specs.inner.Entries.{state-any, entry-any}
-use Rattle.c_words.specs.Guard.{guarded}
+use Rattle.config.specs.inner.Choices.{by-cond}
+use Rattle.config.specs.inner.Entries.{entry-any}
+use Rattle.c_words.specs.Entry.{wordsEntry}
 use Rattle.c_words.specs.Payload.{payloadFits, payloadIn, payloadWords}
-use Rattle.c_words.proofs.Guards.{either, by-number}
+use Rattle.c_words.proofs.Entries.{call-any}
 use Rattle.c_words.proofs.Runs.{run-all}
 
 -- what an answer leaves the same where its number is not 0
@@ -37,21 +39,18 @@ module _ {A : Type 0} {number : A → ℕ} {Same : A → Type 0} where
   done z = record { kept = λ n. absurd (n z) }
 
   pub by-test : (t : Bool) (x y : A) → (t ≡ true → Kept number Same x) → Kept number Same y → Kept number Same (cond t x y)
-  by-test t x y f g = either (Kept number Same) t x y f g
+  by-test t x y f g = by-cond (Kept number Same) t x y f (λ _. g)
 
-  -- each way into a call
-  pub by-state : (valid : Bool) (deny : Refusal → A) (go : A) → ((why : Refusal) → Kept number Same (deny why)) → Kept number Same go → Kept number Same (onState valid deny go)
-  by-state valid deny go f g = state-any (Kept number Same) deny go f valid (λ _. g)
-
-  pub by-entry : (checked : Outcome) (valid : Bool) (deny : Refusal → A) (go : A) → ((why : Refusal) → Kept number Same (deny why)) → Kept number Same go
+  -- a call of the library, refused by a test or made; one that is given no settings has `Done` in their place
+  pub by-entry : (checked : Outcome) (valid : Bool) (deny : Refusal → A) (go : A) → ((why : Refusal) → Same (deny why)) → Kept number Same go
       → Kept number Same (entry checked valid deny go)
-  by-entry checked valid deny go f g = entry-any (Kept number Same) deny go f checked valid (λ _ _. g)
+  by-entry checked valid deny go s g = entry-any (Kept number Same) deny go (λ why. as-was (s why)) checked valid (λ _ _. g)
 
--- ---- a call that is made where its number is 0, and hands back what it was given else
+-- ---- a call of a C function: what a test refuses hands back what it was given, and of one that is made it holds by what the library's call leaves
 module _ {A E : Type 0} (number : A → ℕ) (Same : A → Type 0) (into : E → A) where
-  pub guard-keeps : (n : ℕ) (deny : ℕ → A) (e : E) → (n ≡ 0 → Kept (λ (x : E). number (into x)) (λ (x : E). Same (into x)) e) → Same (deny n)
-      → Kept number Same (guarded n deny (into e))
-  guard-keeps n deny e f s = by-number n deny (into e) (Kept number Same) (λ z. record { kept = f z .kept }) (as-was s)
+  pub call-keeps : {checked : Outcome} {fit : Bool} (deny : ℕ → A) (e : E) → ((n : ℕ) → Same (deny n))
+      → (checked ≡ Done → fit ≡ true → Kept (λ (x : E). number (into x)) (λ (x : E). Same (into x)) e) → Kept number Same (wordsEntry checked fit deny (into e))
+  call-keeps deny e s f = call-any (Kept number Same) deny (into e) (λ n. as-was (s n)) (λ c t. record { kept = f c t .kept })
 
 -- ---- a payload that is stored as it was loaded
 pub payload-same : (p : List ℕ) → payloadFits p ≡ true → payloadWords (payloadIn p) ≡ p

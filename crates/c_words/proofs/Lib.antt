@@ -1,6 +1,6 @@
 -- Laws that this crate's proofs and those of the crates above cite.
 pub mod Within
 pub mod Runs
-pub mod Guards
+pub mod Entries
 pub mod Kept
 pub mod Figures

@@ -1,15 +1,14 @@
--- 01, "Numbers of each operation", Start: the settings as eight words, T1 G K R X D M SIZE. Calls given settings test 9, 7, 8; each call given a state then tests 13.
+-- 01, "Numbers of each operation", Start: the settings as eight words, T1 G K R X D M SIZE.
 use mathlib.Core.Path.{_≡_}
 use Prim.Native.Nat.{ℕ, _≤_}
-use mathlib.Core.Bool.{Bool, cond}
 use mathlib.Core.List.{List, [], _∷_}
 use lib.ListN.{length, getD}
 use lib.Dec.{eqb}
-use Rattle.config.specs.Refusals.{numberOf}
-use Rattle.config.specs.Settings.{checkOf, tested}
-use Rattle.config.specs.declared.refusal.Refusal.the-variants.{InvalidState}
+use Rattle.config.specs.Entry.{onState, entry}
+use Rattle.config.specs.Settings.{checkOf}
+use Rattle.config.specs.declared.answer.Outcome.{Outcome}
+use Rattle.config.specs.declared.answer.Outcome.the-variants.{Done, Refused}
 use Rattle.config.specs.declared.settings.StreamConfig.{StreamConfig}
-use Rattle.c_words.specs.Guard.{guarded, fitNumber}
 use Rattle.c_words.specs.Limits.{within}
 
 abbrev at : List ℕ → ℕ → ℕ
@@ -32,16 +31,9 @@ settingsOf ws =
 abbrev pub settingsLimits : List (ℕ × ℕ)
 settingsLimits = (2, 255) ∷ (3, 255) ∷ (4, 1) ∷ (6, 255) ∷ []
 
--- 0, or why the words are refused: 13 where they are not eight, then the settings' own 9, 7, 8, then 13 where a word is too wide
-unfoldable pub settingsNumber : List ℕ → ℕ
-settingsNumber ws =
-    cond (eqb (length ws) 8)
-    (tested (checkOf (settingsOf ws)) numberOf (fitNumber (within settingsLimits ws)))
-    (numberOf InvalidState)
-
--- 0, or why a call with settings is refused before it is made: the settings' number, then 13 where its other words do not fit
-unfoldable pub readyNumber : List ℕ → Bool → ℕ
-readyNumber ws fit = guarded (settingsNumber ws) (λ n. n) (fitNumber fit)
+-- 13 where the words are not eight, then the settings' own 9, 7, 8, then 13 where a word is too wide
+unfoldable pub settingsCheck : List ℕ → Outcome
+settingsCheck ws = onState (eqb (length ws) 8) Refused (entry (checkOf (settingsOf ws)) (within settingsLimits ws) Refused Done)
 
 -- words that are settings
 pub record Small (ws : List ℕ) : Type 0 where

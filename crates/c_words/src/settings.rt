@@ -3,9 +3,12 @@
 //   T1 G K R X D M SIZE
 ghost use mathlib.Core.Path.{_≡_};
 ghost use lib.ListN.{length};
+ghost use Rattle.config.specs.Entry.{onState};
+ghost use Rattle.config.specs.Refusals.{outcomeNumber};
 ghost use Rattle.config.specs.Settings.{checkOf};
+ghost use Rattle.config.specs.declared.answer.Outcome.the-variants.{Done, Refused};
 ghost use Rattle.c_words.specs.Limits.{within};
-ghost use Rattle.c_words.specs.Settings.{Small, settingsLimits, settingsNumber, settingsOf};
+ghost use Rattle.c_words.specs.Settings.{Small, settingsLimits, settingsCheck, settingsOf};
 use super::guard;
 use config::answer::Outcome;
 use config::settings::StreamConfig;
@@ -45,17 +48,27 @@ fn narrow(words: &[u32]) -> bool
     words[6] <= 255
 }
 
+// 13 for words that are too wide.
+fn fit(fits: bool) -> u8
+    ensures { λ r. ⌜ r ≡ outcomeNumber (onState fits Refused Done) ⌝ }
+{
+    if fits {
+        return 0;
+    }
+    guard::INVALID_STATE
+}
+
 // 0, or why the words are refused: 13 where they are not eight, then 9, 7, 8, then 13 where a word is
 // too wide.
 pub fn number(words: &[u32]) -> u8
-    ensures { λ r. ⌜ r ≡ settingsNumber (now (words .entry)) ⌝ }
+    ensures { λ r. ⌜ r ≡ outcomeNumber (settingsCheck (now (words .entry))) ⌝ }
 {
     if words.len() != 8 {
         return guard::INVALID_STATE;
     }
     match check(words) {
         Outcome::Refused(why) => why.number(),
-        Outcome::Done => guard::fit(narrow(words)),
+        Outcome::Done => fit(narrow(words)),
     }
 }
 

@@ -1,6 +1,6 @@
 -- The new payload is stored.
 use Rattle.c_codec.specs.Exports.{openExport}
-use Rattle.c_words.proofs.Guards.{made-fit, refused-fit}
+use Rattle.c_words.proofs.Entries.{made, words-refused}
 use borrow.Author.Needs.{needs}
 use borrow.Author.Tests.{eq-eqb, ne-eqb}
 use mathlib.Core.Path.{refl, sym, _∙_}
@@ -23,7 +23,7 @@ returns : tie.Need-returns
 unfolding openExport
 returns c =
     let o = sym (c .before .before .before .before .before .before .before .new .ensures) ∙ c .before .before .before .before .before .payload .given .1 in
-    made-fit _ _ _ _ (eq-eqb _ 2 (c .before .before .before .before .before .before .before .before .if1 .taken)) (rw (c .before .before .store .ensures, o))
+    made _ _ refl (eq-eqb _ 2 (c .before .before .before .before .before .before .before .before .if1 .taken)) (rw (c .before .before .store .ensures, o))
 
 enum-known-why : tie.Need-enum-known-why
 enum-known-why c = search needs
@@ -35,11 +35,11 @@ returns-2 : tie.Need-returns-2
 unfolding openExport
 returns-2 c =
     let o = sym (c .before .before .before .before .new .ensures) ∙ c .before .before .why .given .1 in
-    made-fit _ _ _ _ (eq-eqb _ 2 (c .before .before .before .before .before .if1 .taken)) (rw (c .number .ensures, o))
+    made _ _ refl (eq-eqb _ 2 (c .before .before .before .before .before .if1 .taken)) (rw (c .number .ensures, o))
 
 returns-3 : tie.Need-returns-3
 unfolding openExport
-returns-3 c = refused-fit _ _ _ _ (ne-eqb _ 2 (c .if1 .left)) refl
+returns-3 c = words-refused _ _ refl (ne-eqb _ 2 (c .if1 .left)) refl
 
 pub sirmjold-payload-new-spec : {M : Type 1} → statement M
 sirmjold-payload-new-spec =

@@ -1,6 +1,7 @@
 -- The words are loaded, and the call is made.
+use mathlib.Core.Path.{refl, sym, _∙_}
 use Rattle.c_stream.specs.Exports.{deadlineExport}
-use Rattle.c_words.proofs.Guards.{then-fit, fit-made, fit-refused}
+use Rattle.c_words.proofs.Entries.{made, words-refused}
 use borrow.Author.Needs.{needs}
 use Rattle.c_stream.proofs.exports.sirmjold_stream_next_deadline.Statement.{statement}
 use Rattle.c_stream.proofs.exports.sirmjold_stream_next_deadline.Tie as tie
@@ -9,7 +10,7 @@ fits-requires : tie.Need-fits-requires
 fits-requires c κs = search needs
 
 load-requires : tie.Need-load-requires
-load-requires c κs = then-fit _ _ (c .before .fits2 .ensures) (c .if1 .taken)
+load-requires c κs = sym (c .before .fits2 .ensures) ∙ c .if1 .taken
 
 next-deadline-requires : tie.Need-next-deadline-requires
 next-deadline-requires c κs = search needs
@@ -19,14 +20,14 @@ of-deadline-requires c κs = search needs
 
 returns : tie.Need-returns
 unfolding deadlineExport
-returns c = fit-made _ _ (c .before .before .before .before .fits2 .ensures) _ _ _ (c .before .before .before .if1 .taken) (rw (c .of-deadline .ensures, c .before .next-deadline .ensures, c .before .before .load .ensures))
+returns c = made _ _ refl (sym (c .before .before .before .before .fits2 .ensures) ∙ c .before .before .before .if1 .taken) (rw (c .of-deadline .ensures, c .before .next-deadline .ensures, c .before .before .load .ensures))
 
 refused-deadline-requires : tie.Need-refused-deadline-requires
 refused-deadline-requires c κs = search needs
 
 returns-2 : tie.Need-returns-2
 unfolding deadlineExport
-returns-2 c = fit-refused _ _ (c .before .before .fits2 .ensures) _ _ _ (c .before .if1 .left) (rw (c .refused-deadline .ensures))
+returns-2 c = words-refused _ _ refl (sym (c .before .before .fits2 .ensures) ∙ c .before .if1 .left) (rw (c .refused-deadline .ensures))
 
 pub sirmjold-stream-next-deadline-spec : {M : Type 1} → statement M
 sirmjold-stream-next-deadline-spec =

@@ -1,8 +1,9 @@
 -- The words are loaded, the call is made, and the words of its end are stored.
+use mathlib.Core.Path.{refl, sym, _∙_}
 use Rattle.c_stream.specs.Exports.{errorExport}
 use Rattle.c_state.specs.Stream.{loaded}
 use Rattle.stream.specs.Ends.{errorAnswer}
-use Rattle.c_words.proofs.Guards.{then-fit, fit-made, fit-refused}
+use Rattle.c_words.proofs.Entries.{made, words-refused}
 use Rattle.c_state.proofs.Ends.{receiver-whole}
 use Rattle.c_state.specs.Theorems.{Wide}
 use Rattle.c_stream.proofs.Places.{error-narrow}
@@ -18,14 +19,14 @@ receiver-fits-requires : tie.Need-receiver-fits-requires
 receiver-fits-requires c κs = search needs
 
 receiver-in-requires : tie.Need-receiver-in-requires
-receiver-in-requires c κs = then-fit _ _ (c .before .before .receiver-fits .ensures) (c .before .if1 .taken)
+receiver-in-requires c κs = sym (c .before .before .receiver-fits .ensures) ∙ c .before .if1 .taken
 
 on-retransmit-error-requires : tie.Need-on-retransmit-error-requires
 on-retransmit-error-requires c κs = search needs
 
 store-receiver-requires : tie.Need-store-receiver-requires
 store-receiver-requires c κs = (
-  receiver-whole _ (then-fit _ _ (c .before .before .before .before .before .before .receiver-fits .ensures) (c .before .before .before .before .before .if1 .taken)),
+  receiver-whole _ (sym (c .before .before .before .before .before .before .receiver-fits .ensures) ∙ c .before .before .before .before .before .if1 .taken),
   error-narrow (c .before .before .before .before .before .before .before .before .before .args .s .now) (wide (c .before .before .before .before .before .before .before .before)) _ (c .before .before .before .receiver-in .ensures) _ _ (c .before .before .on-retransmit-error .ensures),
 )
 
@@ -37,7 +38,7 @@ same-length c = search needs
 
 returns : tie.Need-returns
 unfolding errorExport errorAnswer loaded
-returns c = fit-made _ _ (c .before .before .before .before .before .before .before .before .before .before .receiver-fits .ensures) _ _ _ (c .before .before .before .before .before .before .before .before .before .if1 .taken) (rw (c .of-event .ensures, c .before .before .before .store-receiver .ensures, c .before .before .before .before .before .before .on-retransmit-error .ensures, c .before .before .before .before .before .before .before .receiver-in .ensures))
+returns c = made _ _ refl (sym (c .before .before .before .before .before .before .before .before .before .before .receiver-fits .ensures) ∙ c .before .before .before .before .before .before .before .before .before .if1 .taken) (rw (c .of-event .ensures, c .before .before .before .store-receiver .ensures, c .before .before .before .before .before .before .on-retransmit-error .ensures, c .before .before .before .before .before .before .before .receiver-in .ensures))
 
 refused-event-requires : tie.Need-refused-event-requires
 refused-event-requires c κs = search needs
@@ -47,7 +48,7 @@ same-length-2 c = search needs
 
 returns-2 : tie.Need-returns-2
 unfolding errorExport errorAnswer loaded
-returns-2 c = fit-refused _ _ (c .before .before .receiver-fits .ensures) _ _ _ (c .before .if1 .left) (rw (c .refused-event .ensures))
+returns-2 c = words-refused _ _ refl (sym (c .before .before .receiver-fits .ensures) ∙ c .before .if1 .left) (rw (c .refused-event .ensures))
 
 pub sirmjold-stream-on-retransmit-error-spec : {M : Type 1} → statement M
 sirmjold-stream-on-retransmit-error-spec =

@@ -1,7 +1,10 @@
 -- By the tests in their order.
 use native.Mathlib.Omega.{arith}
 use mathlib.Core.Path.{sym, ap, _∙_}
-use Rattle.c_words.specs.Guard.{fitNumber}
+use mathlib.Core.Bool.{Bool}
+use Rattle.config.specs.Entry.{onState}
+use Rattle.config.specs.Refusals.{outcomeNumber}
+use Rattle.config.specs.declared.answer.Outcome.the-variants.{Done, Refused}
 use Rattle.c_words.proofs.Figures.{not-eight, own-refused, own-passed}
 use borrow.Author.Needs.{needs}
 use Rattle.c_words.proofs.settings.number.Statement.{statement}
@@ -32,7 +35,7 @@ returns-2 : tie.Need-returns-2
 returns-2 c = c .number .ensures ∙ own-refused _ (omega arith) _ (sym (c .before .before .why .given .1) ∙ c .before .before .before .before .check .ensures)
 
 returns-3 : tie.Need-returns-3
-returns-3 c = c .fit .ensures ∙ ap fitNumber (c .before .narrow .ensures) ∙ own-passed _ (omega arith) (sym (c .before .before .enum-told .given .1) ∙ c .before .before .before .before .check .ensures)
+returns-3 c = c .fit .ensures ∙ ap (λ (t : Bool). outcomeNumber (onState t Refused Done)) (c .before .narrow .ensures) ∙ own-passed _ (omega arith) (sym (c .before .before .enum-told .given .1) ∙ c .before .before .before .before .check .ensures)
 
 pub number-spec : {M : Type 1} → statement M
 number-spec =
