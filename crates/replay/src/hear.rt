@@ -1,11 +1,12 @@
 // hear NOW BYTES: a payload arrives. Each of its commands is given to its end, by the call that the script has for it.
-use super::items;
-use super::streams;
 use c_codec::exports as c;
+use made_calls::reading;
+use made_calls::streams;
 use read_command::next::Read;
 use script::answers;
 use script::calls;
 use script::calls::Call;
+use script::items;
 use script::session::Session;
 use text::fields;
 use text::lines;
@@ -111,7 +112,7 @@ fn commands(
 ) -> Session {
     let mut session = s;
     let mut at = 0;
-    let mut turns = items::MOST;
+    let mut turns = reading::MOST;
     while 0 < turns {
         let read = c::sirmjold_command_next(bytes, at, words, lens);
         session = heard(
@@ -143,7 +144,7 @@ fn payload(
 ) -> Session {
     let mut words = [0u32; 255];
     let mut lens = [0u8; 255];
-    let number = items::signature(bytes, &mut words, &mut lens);
+    let number = reading::signature(bytes, &mut words, &mut lens);
     if number == 0 {
         return commands(
             s,

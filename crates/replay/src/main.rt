@@ -1,5 +1,6 @@
 // Answers the call script on standard input (crate `script`), in fixed memory whatever its length. A call is one
-// of the C functions that customers link (crates c_codec and c_stream), on words in arrays as a C caller lends them.
+// of the C functions that customers link, on words in arrays as a C caller lends them: crate `made_calls` makes it
+// and says what it answers.
 //
 //   input blocks -> lines -> fields -> C function -> answer -> output block
 //
@@ -7,22 +8,16 @@
 //             (2,048 bytes, the first BUFFER of them the payload's)
 //   session   the payload's two words, how much of memory and buffer is lent, the last answers
 //
-// run finds a call; codec and streams make it; numbers and items say what it answers, and show puts the line
-// together. hear does all of this for each command of a payload. C has no function for state, window and next: loaded
-// has them.
+// hear gives each command of a payload to its call.
 //
 // It is run on directed call lists, 01's session cases, a sample of made lists, and lists by hand: every call and
 // answer, and the codec's cases. The expected answers are the Rust's; tools/compare.py says how they are made.
-mod codec;
 mod hear;
-mod items;
-mod loaded;
-mod numbers;
-mod run;
-mod show;
-mod streams;
 
 use c_state::state::WORDS;
+use made_calls::run;
+use made_calls::show;
+use made_calls::streams;
 use script::calls;
 use script::calls::Call;
 use script::session;

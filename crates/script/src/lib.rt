@@ -1,9 +1,10 @@
 // The call script: a list of calls on a stream and a payload, one to a line, each answered with one
-// line. What a line says and what an answer prints stand here; the program `replay` makes the calls. docs/CALLS.md has
-// every call with its answers, and an example of each.
+// line. What a line says and what an answer prints stand here; the crate `made_calls` makes the calls, for the
+// program `replay`. docs/CALLS.md has every call with its answers, and an example of each.
 //
 //   calls     the calls by name, their fields and words     session          what is held between two calls
 //   answers   each answer as an entry of a table            state, windows   a stream's state and its window as text
+//   items     what reading a payload finds, as text
 //
 //   settings  cfg T1 G K R X D M SIZE              start     new W C Q, reset
 //   send      queue WORD.., request NUMBER COUNT   write     write NOW, take
@@ -31,6 +32,7 @@
 // Lines, fields and output are the crate `text`'s.
 pub mod answers;
 pub mod calls;
+pub mod items;
 pub mod session;
 pub mod state;
 pub mod windows;

@@ -2,8 +2,8 @@
 use borrow.Author.Needs.{needs}
 use lib.ListN.{length}
 use mathlib.Core.Path.{_≡_}
-use Rattle.replay.proofs.items.items.Statement.{statement}
-use Rattle.replay.proofs.items.items.Tie as tie
+use Rattle.made_calls.proofs.reading.each.Statement.{statement}
+use Rattle.made_calls.proofs.reading.each.Tie as tie
 
 abbrev Inv-loop : tie.InvT-loop
 Inv-loop to₀ used bytes words₀ lens₀ o₀ at₀ turns₀ to words lens o at turns = (length to ≡ length to₀) × (length words ≡ length words₀) × (length lens ≡ length lens₀)
@@ -41,8 +41,8 @@ same-length-3 c = search needs
 returns : tie.Need-returns Inv-loop μ-loop
 returns c = search needs
 
-pub items-spec : {M : Type 1} → statement M
-items-spec =
+pub each-spec : {M : Type 1} → statement M
+each-spec =
     tie.close
     (tie.spec
     Inv-loop

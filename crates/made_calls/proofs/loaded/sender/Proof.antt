@@ -1,8 +1,8 @@
 -- The words were tested.
 use borrow.Author.Needs.{needs}
 use mathlib.Core.Path.{sym, _∙_}
-use Rattle.replay.proofs.loaded.sender.Statement.{statement}
-use Rattle.replay.proofs.loaded.sender.Tie as tie
+use Rattle.made_calls.proofs.loaded.sender.Statement.{statement}
+use Rattle.made_calls.proofs.loaded.sender.Tie as tie
 
 sender-fits-requires : tie.Need-sender-fits-requires
 sender-fits-requires c κs = search needs

@@ -4,8 +4,8 @@ use borrow.Author.Needs.{needs}
 use lib.ListN.{length, length-set}
 use mathlib.Core.Path.{_≡_}
 use native.Mathlib.Omega.{arith}
-use Rattle.replay.proofs.codec.fill.Statement.{statement}
-use Rattle.replay.proofs.codec.fill.Tie as tie
+use Rattle.made_calls.proofs.codec.fill.Statement.{statement}
+use Rattle.made_calls.proofs.codec.fill.Tie as tie
 
 abbrev Inv-loop : tie.InvT-loop
 Inv-loop buffer₀ i₀ buffer i = (i ≤ length buffer) × (length buffer ≡ length buffer₀)

@@ -1,17 +1,17 @@
 -- The words were tested.
 use borrow.Author.Needs.{needs}
 use mathlib.Core.Path.{sym, _∙_}
-use Rattle.replay.proofs.loaded.receiver.Statement.{statement}
-use Rattle.replay.proofs.loaded.receiver.Tie as tie
+use Rattle.made_calls.proofs.loaded.window.Statement.{statement}
+use Rattle.made_calls.proofs.loaded.window.Tie as tie
 
 receiver-fits-requires : tie.Need-receiver-fits-requires
 receiver-fits-requires c κs = search needs
 
 receiver-in-requires : tie.Need-receiver-in-requires
-receiver-in-requires c κs = sym (c .before .before .receiver-fits .ensures) ∙ c .before .if1 .taken
+receiver-in-requires c κs = sym (c .before .receiver-fits .ensures) ∙ c .if1 .taken
 
-receiver-requires : tie.Need-receiver-requires
-receiver-requires c κs = search needs
+all-requires : tie.Need-all-requires
+all-requires c κs = search needs
 
 same-length : tie.Need-same-length
 same-length c = search needs
@@ -28,13 +28,13 @@ same-length-2 c = search needs
 returns-2 : tie.Need-returns-2
 returns-2 c = search needs
 
-pub receiver-spec : {M : Type 1} → statement M
-receiver-spec =
+pub window-spec : {M : Type 1} → statement M
+window-spec =
     tie.close
     (tie.spec
     receiver-fits-requires
     receiver-in-requires
-    receiver-requires
+    all-requires
     same-length
     returns
     invalid-requires

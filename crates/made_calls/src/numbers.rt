@@ -1,4 +1,6 @@
 // What a C function answers, as an entry of the table of answers: its numbers say which.
+ghost use mathlib.Core.Path.{_≡_};
+ghost use Rattle.made_calls.specs.Numbers.{outcomeEntry, deadlineEntry, deliveryEntry, eventEntry};
 use c_answers::answers::CDeadline;
 use c_answers::answers::CDelivery;
 use c_answers::answers::CEvent;
@@ -20,7 +22,9 @@ pub fn written(w: CWritten, len: u64) -> Answer {
     )
 }
 
-pub fn outcome(o: COutcome) -> Answer {
+pub fn outcome(o: COutcome) -> Answer
+    ensures { λ r. ⌜ r ≡ outcomeEntry o ⌝ }
+{
     made(
         o.refusal,
         of(
@@ -36,7 +40,9 @@ pub fn taken(r: CRequest) -> Answer {
     made(r.refusal, plain(answers::TAKEN + r.kind as usize))
 }
 
-pub fn deadline(d: CDeadline) -> Answer {
+pub fn deadline(d: CDeadline) -> Answer
+    ensures { λ r. ⌜ r ≡ deadlineEntry d ⌝ }
+{
     made(
         d.refusal,
         of(answers::DEADLINE + d.kind as usize, d.time, 0, 0),
@@ -48,7 +54,9 @@ pub fn wants(w: CWants) -> Answer {
 }
 
 // The class, the numbers skipped, and the loss that it brings.
-pub fn delivery(d: CDelivery) -> Answer {
+pub fn delivery(d: CDelivery) -> Answer
+    ensures { λ r. ⌜ r ≡ deliveryEntry d ⌝ }
+{
     made(
         d.refusal,
         of(
@@ -71,7 +79,9 @@ pub fn delivery_last(d: CDelivery, seq: u64) -> Answer {
     of(answers::GAP, seq, d.gap_first as u64, d.gap_count as u64)
 }
 
-pub fn event(e: CEvent) -> Answer {
+pub fn event(e: CEvent) -> Answer
+    ensures { λ r. ⌜ r ≡ eventEntry e ⌝ }
+{
     made(
         e.refusal,
         of(

@@ -1,6 +1,6 @@
 // The answer to a call, a line. Figures are decimal, bytes and words hexadecimal.
-use super::items;
 use super::loaded;
+use super::reading;
 use script::answers;
 use script::calls;
 use script::calls::Call;
@@ -17,7 +17,7 @@ fn part(to: &mut [u8], used: usize, bytes: &[u8], n: u64) -> usize {
 // The words that a data command hands on; a duplicate and a refused one hand on none.
 fn heard(to: &mut [u8], used: usize, form: usize, words: &[u32]) -> usize {
     match form {
-        answers::NEW | answers::LATE => items::heard(to, used, words),
+        answers::NEW | answers::LATE => reading::heard(to, used, words),
         _ => used,
     }
 }
@@ -37,7 +37,7 @@ fn rest(
     let kind = c.kind;
     match kind {
         calls::DATA => heard(to, used, s.answer.form, words),
-        calls::READ => items::reading(to, used, line),
+        calls::READ => reading::line(to, used, line),
         calls::PAYLOAD => part(to, used, buffer, s.len),
         calls::BUFFER => out::bytes(to, used, buffer),
         calls::STATE => loaded::whole(to, used, stream, memory),
