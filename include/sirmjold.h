@@ -244,6 +244,18 @@ struct sirmjold_sent_written {
     uint8_t queued;
 };
 
+/* Of sirmjold_hear: how many answers stand in `heard`, and the place of the first command that was not heard, for
+ * want of room; 0 where the payload was heard to its end. */
+struct sirmjold_heard {
+    uint64_t next;
+    uint64_t count;
+    uint8_t refusal;
+};
+
+/* The words of one answer in `heard`, and as many as a payload of 1400 bytes can ask for. */
+#define SIRMJOLD_ANSWER_WORDS 4
+#define SIRMJOLD_ANSWERS_MAX 349
+
 /* ---- the archive's functions of payloads and streams, over arrays: `s` has the words of a stream, `cfg`
  * those of the settings, `ring` the history, `p` the words of a payload, whose first is its length, and
  * `buf` its buffer. What each does stands at the inline function that calls it. */
@@ -290,6 +302,10 @@ struct sirmjold_sent_written sirmjold_stream_send_and_write(
     uint64_t *s, size_t s_len, const uint32_t *cfg, size_t cfg_len, uint64_t time, const uint32_t *words,
     size_t words_len, uint64_t *p, size_t p_len, uint8_t *buf, size_t buf_len, uint32_t *ring,
     size_t ring_len);
+struct sirmjold_heard sirmjold_stream_hear(uint64_t *s, size_t s_len, const uint32_t *cfg, size_t cfg_len,
+                                           uint64_t time, const uint32_t *ring, size_t ring_len,
+                                           const uint8_t *payload, size_t payload_len, size_t at,
+                                           uint64_t *heard, size_t heard_len);
 
 /* ---- a payload that is being written */
 
@@ -566,6 +582,77 @@ static inline struct sirmjold_sent_written sirmjold_send_and_write(struct sirmjo
                                           SIRMJOLD_SETTINGS_WORDS, time, words, words_len, payload->words,
                                           SIRMJOLD_PAYLOAD_WORDS, payload->buf, payload->buf_len,
                                           stream->history, stream->history_len);
+}
+
+/* A payload arrives: each of its commands, from the place `at` on (0: the first), is given to the function above
+ * that takes it, data to sirmjold_on_ump_data, a request to sirmjold_on_retransmit_request, an error to
+ * sirmjold_on_retransmit_error, any other to none, and has an answer of SIRMJOLD_ANSWER_WORDS words in `heard`.
+ * Settings and state are tested once, no word is copied, and a call with room for SIRMJOLD_ANSWERS_MAX answers takes
+ * any payload of 1400 bytes. Where the room ends earlier `next` is not 0, and a call with `at` = `next` goes on
+ * there. At the place 0 the signature is tested (1). */
+static inline struct sirmjold_heard sirmjold_hear(struct sirmjold_stream *stream, uint64_t time,
+                                                  const uint8_t *payload, size_t payload_len, size_t at,
+                                                  uint64_t *heard, size_t heard_len)
+{
+    return sirmjold_stream_hear(stream->words, SIRMJOLD_STREAM_WORDS, stream->settings,
+                                SIRMJOLD_SETTINGS_WORDS, time, stream->history, stream->history_len, payload,
+                                payload_len, at, heard, heard_len);
+}
+
+/* One answer of sirmjold_hear: the command, and what the function that took it answers. Of these that is
+ * `delivery` for SIRMJOLD_READ_UMP_DATA, `outcome` for SIRMJOLD_READ_REQUEST, and `event` for SIRMJOLD_READ_ERROR;
+ * the other two have 0 in every field but `refusal`. */
+struct sirmjold_answer {
+    uint64_t place; /* of the command in the payload: its words stand from place + 4 on */
+    uint8_t refusal; /* of the function that took it; 10 for a request or an error without its word */
+    uint8_t kind;   /* of enum sirmjold_read_kind; 0 where `refusal` is 10 */
+    uint8_t code;   /* of a raw or a cut command; of an error its reason */
+    uint8_t len;    /* the words of the command */
+    uint16_t seq;   /* the number; of a raw or a cut command its two specific bytes */
+    uint16_t count; /* of a request, how many it asks for */
+    struct sirmjold_delivery delivery;
+    struct sirmjold_outcome outcome;
+    struct sirmjold_event event;
+};
+
+/* Answer `i` of those that stand in `heard`. */
+static inline struct sirmjold_answer sirmjold_heard_answer(const uint64_t *heard, size_t i)
+{
+    const uint64_t *w = heard + SIRMJOLD_ANSWER_WORDS * i;
+    struct sirmjold_answer a = {0, 0, 0, 0, 0, 0, 0, {0, 0, 0, 0, 0, 0, 0}, {0, 0, 0, 0}, {0, 0, 0, 0, 0, 0}};
+    a.place = w[0];
+    a.refusal = (uint8_t)w[2];
+    a.kind = (uint8_t)w[1];
+    a.code = (uint8_t)(w[1] >> 8);
+    a.len = (uint8_t)(w[1] >> 16);
+    a.seq = (uint16_t)(w[1] >> 32);
+    a.count = (uint16_t)(w[1] >> 48);
+    a.delivery.refusal = a.outcome.refusal = a.event.refusal = a.refusal;
+    switch (a.kind) {
+    case SIRMJOLD_READ_UMP_DATA:
+        a.delivery.class_ = (uint8_t)(w[2] >> 8);
+        a.delivery.skipped = (uint16_t)(w[2] >> 16);
+        a.delivery.gap_first = (uint16_t)(w[2] >> 32);
+        a.delivery.gap_count = (uint16_t)(w[2] >> 48);
+        a.delivery.lost_first = (uint16_t)w[3];
+        a.delivery.lost_count = (uint16_t)(w[3] >> 16);
+        break;
+    case SIRMJOLD_READ_REQUEST:
+        a.outcome.kind = (uint8_t)(w[2] >> 8);
+        a.outcome.reason = (uint8_t)(w[2] >> 16);
+        a.outcome.seq = (uint16_t)(w[2] >> 32);
+        break;
+    case SIRMJOLD_READ_ERROR:
+        a.event.kind = (uint8_t)(w[2] >> 8);
+        a.event.reason = (uint8_t)(w[2] >> 16);
+        a.event.seq = (uint16_t)(w[2] >> 32);
+        a.event.first = (uint16_t)w[3];
+        a.event.count = (uint16_t)(w[3] >> 16);
+        break;
+    default:
+        break;
+    }
+    return a;
 }
 
 /* ---- a receive window alone: words `w`. Of a delivery, `skipped` alone tells the gap. */

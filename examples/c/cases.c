@@ -276,6 +276,9 @@ static void all_answer(int number, const uint32_t *c, size_t c_len, size_t n, co
     check(sirmjold_stream_write_data(s, n, c, c_len, 0, p, P, buf, 64, ring, RING).refusal == number, what);
     struct sirmjold_sent_written w = sirmjold_stream_send_and_write(s, n, c, c_len, 0, off, 1, p, P, buf, 64, ring, RING);
     check(w.refusal == number && w.queued == 0, what);
+    uint64_t heard[4] = {0};
+    struct sirmjold_heard h = sirmjold_stream_hear(s, n, c, c_len, 0, ring, RING, buf, 64, 0, heard, 4);
+    check(h.refusal == number && h.count == 0 && h.next == 0 && heard[0] == 0, what);
     check(as_before() && p[0] == 0 && p[1] == 1400 && buf[0] == 0, what);
 }
 
@@ -407,6 +410,46 @@ static void sent_and_written(void)
     check(w.queued == 1 && w.refusal == 13, "a payload that no call has left: the word is queued");
 }
 
+/* A payload with a data command, a request for a number that was never sent, an error, a command of another code, a request
+ * without its word and a cut command: in one call, and in calls with room for one answer. */
+static void heard_whole(void)
+{
+    static const uint8_t payload[] = {0x4D, 0x49, 0x44, 0x49, 0xFF, 1, 0, 1, 0x20, 0x90, 0x3C, 0x40, 0x80, 1, 0, 0, 0, 1, 0, 0,
+                                      0x81, 1, 1, 0, 0, 7, 0, 0, 0x20, 0, 1, 2, 0x80, 0, 0, 3, 0xFF, 64, 0, 2};
+    static uint64_t heard[SIRMJOLD_ANSWER_WORDS * SIRMJOLD_ANSWERS_MAX];
+    uint64_t one[SIRMJOLD_ANSWER_WORDS];
+    both_fresh();
+    struct sirmjold_heard h = sirmjold_hear(&together.stream, 0, payload, sizeof payload, 0, heard, sizeof heard / sizeof *heard);
+    check(h.refusal == 0 && h.next == 0 && h.count == 6, "six commands");
+    struct sirmjold_answer a = sirmjold_heard_answer(heard, 0);
+    check(a.place == 4 && a.kind == SIRMJOLD_READ_UMP_DATA && a.len == 1 && a.seq == 1 && is(a.delivery, SIRMJOLD_NEW, 1, 0, 0), "data, with 0 skipped");
+    check(a.delivery.gap_first == 0 && a.delivery.gap_count == 1, "the gap");
+    a = sirmjold_heard_answer(heard, 1);
+    check(a.place == 12 && a.kind == SIRMJOLD_READ_REQUEST && a.seq == 0 && a.count == 1, "a request for number 0");
+    check(a.outcome.kind == SIRMJOLD_ERROR && a.outcome.reason == 1 && a.outcome.seq == 0, "which is not in the history");
+    a = sirmjold_heard_answer(heard, 2);
+    check(a.place == 20 && a.kind == SIRMJOLD_READ_ERROR && a.code == 1 && a.seq == 7, "an error");
+    check(a.event.kind == SIRMJOLD_RETRANSMIT_ERROR && a.event.reason == 1 && a.event.seq == 7 && a.event.count == 0, "by which nothing is lost");
+    a = sirmjold_heard_answer(heard, 3);
+    check(a.place == 28 && a.kind == SIRMJOLD_READ_RAW && a.code == 0x20 && a.len == 0 && a.seq == 0x102 && a.refusal == 0, "another code");
+    a = sirmjold_heard_answer(heard, 4);
+    check(a.place == 32 && a.kind == 0 && a.refusal == 10, "a request without its word");
+    a = sirmjold_heard_answer(heard, 5);
+    check(a.place == 36 && a.kind == SIRMJOLD_READ_TRUNCATED && a.code == 0xFF && a.len == 64 && a.seq == 2, "a cut command");
+    size_t at = 0;
+    for (size_t i = 0; i < 6; i++) {
+        h = sirmjold_hear(&apart.stream, 0, payload, sizeof payload, at, one, SIRMJOLD_ANSWER_WORDS);
+        check(h.refusal == 0 && h.count == 1 && memcmp(one, heard + SIRMJOLD_ANSWER_WORDS * i, sizeof one) == 0, "the same answer");
+        check(h.next == (i < 5 ? sirmjold_heard_answer(heard, i + 1).place : 0), "the next command's place");
+        at = h.next;
+    }
+    check(memcmp(together.stream.words, apart.stream.words, sizeof apart.stream.words) == 0, "the same stream");
+    h = sirmjold_hear(&apart.stream, 0, payload, sizeof payload, sizeof payload + 1, one, SIRMJOLD_ANSWER_WORDS);
+    check(h.refusal == 0 && h.count == 0 && h.next == 0, "a place beyond the payload");
+    h = sirmjold_hear(&apart.stream, 0, payload, 3, 0, one, SIRMJOLD_ANSWER_WORDS);
+    check(h.refusal == 1 && memcmp(together.stream.words, apart.stream.words, sizeof apart.stream.words) == 0, "three bytes");
+}
+
 /* Words for which the history has no room, and a message above the size. */
 static void too_much(void)
 {
@@ -467,6 +510,7 @@ int main(void)
     repeats();
     idles();
     sent_and_written();
+    heard_whole();
     too_much();
     resets();
     refused_starts();

@@ -78,6 +78,8 @@ CAUSES = (
     ("the same steps apart, a command", "a payload is tested, loaded from words and stored again by each call"),
     ("the same steps apart", "each step is tested by itself"),
     ("accept a number", "the window's words are tested, loaded and stored; its size is a value, not a constant of the type, so that masks are computed at each arrival"),
+    ("hear a payload by commands", "two calls for each command, one that leaves its words in the caller's array and one that tests settings and words; the Rust's loop has one"),
+    ("hear a payload in one call", "the words of both ends and the settings are tested; each answer is stored in the caller's array"),
     ("hear a command", "the receiver's words and the settings are tested, loaded and stored; the window's size is a value"),
     ("poll", "the receiver's words and the settings are tested; in the Rust one comparison is all"),
     ("queue and write in one call", "the history's headers are walked once to test the state; the Rust has no such test"),

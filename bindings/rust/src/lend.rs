@@ -19,8 +19,8 @@ macro_rules! lend {
         fn $name($($p)*) -> $answer {
             // SAFETY: each pointer is a slice's own, so aligned and not null, and its slice's length follows it. What is
             // written is borrowed mutably until the call is over, so nothing overlaps it and no other thread uses it.
-            // Of two slices that are only read, one is the settings or the state, an array of its own. The header
-            // asks for nothing else: every value is tested by the function itself.
+            // Of slices that are only read, all but one are the settings, the state or the stream's own history. The
+            // header asks for nothing else: every value is tested by the function itself.
             unsafe { crate::raw::$name($($a)*) }
         }
     };

@@ -115,8 +115,8 @@
 //!
 //! * Where C takes a pointer and a length, the safe function takes a slice: the pointer is aligned, not null, and good for
 //!   that many elements.
-//! * What C writes is `&mut` until the call is over. So nothing overlaps it, and no other thread sees it. Of two slices that
-//!   are only read, one is the settings or the state, an array of its own. No function keeps a pointer.
+//! * What C writes is `&mut` until the call is over. So nothing overlaps it, and no other thread sees it. Of slices that
+//!   are only read, all but one are the settings, the state or the stream's own history. No function keeps a pointer.
 //! * Nothing else is asked: every value is tested, and the functions are proved to stay within what they are lent, whatever
 //!   it holds. So a [`Memory`] that hands out other slices than before leads to refusals, not to a bad read.
 //! * Answers are numbers. None is trusted with memory: each index that comes from one is tested again by Rust.
@@ -133,6 +133,7 @@ mod raw;
 
 mod codec;
 mod delivery;
+mod hearing;
 mod held_notes;
 mod link;
 mod load;
@@ -145,6 +146,7 @@ mod window;
 
 pub use codec::{Payload, Read, Reader, Reading, RetransmitError, RetransmitRequest, UmpData};
 pub use delivery::{Class, Delivery, SeqRange};
+pub use hearing::{Answer, Heard, HeardCommand};
 pub use held_notes::{GivenNotes, HeldNotes};
 pub use link::{Line, Report};
 pub use load::{Load, LoadWords};

@@ -4,6 +4,8 @@ pub const PAYLOAD_WORDS: usize = 2;
 pub const WINDOW_WORDS: usize = 4;
 pub const SETTINGS_WORDS: usize = 8;
 pub const COMMAND_WORDS_MAX: usize = 255;
+pub const ANSWER_WORDS: usize = 4;
+pub const ANSWERS_MAX: usize = 349;
 
 #[repr(C)]
 pub struct Outcome {
@@ -66,6 +68,13 @@ pub struct SentWritten {
     pub refusal: u8,
     pub more: u8,
     pub queued: u8,
+}
+
+#[repr(C)]
+pub struct Heard {
+    pub next: u64,
+    pub count: u64,
+    pub refusal: u8,
 }
 
 #[repr(C)]
@@ -257,6 +266,20 @@ extern "C" {
         ring: *mut u32,
         ring_len: usize,
     ) -> SentWritten;
+    pub fn sirmjold_stream_hear(
+        s: *mut u64,
+        s_len: usize,
+        cfg: *const u32,
+        cfg_len: usize,
+        time: u64,
+        ring: *const u32,
+        ring_len: usize,
+        payload: *const u8,
+        payload_len: usize,
+        at: usize,
+        heard: *mut u64,
+        heard_len: usize,
+    ) -> Heard;
     pub fn sirmjold_payload_new(p: *mut u64, p_len: usize, max: usize) -> u8;
     pub fn sirmjold_payload_command(
         p: *mut u64,

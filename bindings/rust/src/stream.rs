@@ -1,5 +1,7 @@
 use crate::raw;
-use crate::{Delivery, Memory, Payload, Refusal, RetransmitError, RetransmitRequest, SeqRange};
+use crate::{
+    Delivery, Heard, Memory, Payload, Refusal, RetransmitError, RetransmitRequest, SeqRange,
+};
 
 lend! {
     fn sirmjold_stream_new(
@@ -25,6 +27,9 @@ lend! {
         s: &mut [u64], cfg: &[u32], time: u64, words: &[u32], p: &mut [u64], buf: &mut [u8],
         ring: &mut [u32]
     ) -> raw::SentWritten;
+    fn sirmjold_stream_hear(
+        s: &mut [u64], cfg: &[u32], time: u64, ring: &[u32], payload: &[u8], at: usize, heard: &mut [u64]
+    ) -> raw::Heard;
 }
 
 /// The settings of a stream. No state keeps them: each call that uses them is given them, and tests them before anything
@@ -115,6 +120,22 @@ pub enum RequestOutcome {
     NotSupported,
 }
 
+impl RequestOutcome {
+    pub(crate) fn of(o: raw::Outcome) -> Result<RequestOutcome, Refusal> {
+        Refusal::check(o.refusal)?;
+        Ok(match o.kind {
+            0 => RequestOutcome::Queued,
+            1 => RequestOutcome::Pending,
+            2 => RequestOutcome::Full,
+            3 => RequestOutcome::Error(RetransmitError {
+                reason: o.reason,
+                seq: o.seq,
+            }),
+            _ => RequestOutcome::NotSupported,
+        })
+    }
+}
+
 /// What a timer or an answer of the peer has told.
 ///
 /// ```
@@ -141,7 +162,7 @@ pub enum StreamEvent {
 }
 
 impl StreamEvent {
-    fn of(e: raw::Event) -> Result<StreamEvent, Refusal> {
+    pub(crate) fn of(e: raw::Event) -> Result<StreamEvent, Refusal> {
         Refusal::check(e.refusal)?;
         let range = SeqRange {
             first: e.first,
@@ -308,17 +329,7 @@ impl<M: Memory<u32>> Stream<M> {
     ) -> Result<RequestOutcome, Refusal> {
         let (s, ring) = (&mut self.words, self.ring.as_ref());
         let o = sirmjold_stream_on_retransmit_request(s, &cfg.words(), ring, req.seq, req.count);
-        Refusal::check(o.refusal)?;
-        Ok(match o.kind {
-            0 => RequestOutcome::Queued,
-            1 => RequestOutcome::Pending,
-            2 => RequestOutcome::Full,
-            3 => RequestOutcome::Error(RetransmitError {
-                reason: o.reason,
-                seq: o.seq,
-            }),
-            _ => RequestOutcome::NotSupported,
-        })
+        RequestOutcome::of(o)
     }
 
     /// A data command arrives.
@@ -556,5 +567,50 @@ impl<M: Memory<u32>> Stream<M> {
             commands: w.commands,
             more: w.more != 0,
         }))
+    }
+
+    /// A payload arrives: each of its commands, from the place `at` on (0: the first), is given to the call that takes it,
+    /// data to [`Stream::on_ump_data`], a request to [`Stream::on_retransmit_request`], an error to
+    /// [`Stream::on_retransmit_error`], any other to none. Settings and state are tested once, and no word is copied.
+    ///
+    /// Each answer takes [`Heard::WORDS`] words of `heard`, and [`Heard::MOST`] of them are enough for any payload of 1400
+    /// bytes. Where there is room for fewer, [`Heard::next`] is the place of the first command that was not heard, and a call
+    /// with that place goes on there. [`Refusal::BadSignature`] at the place 0, when the payload does not begin with its
+    /// signature.
+    ///
+    /// ```
+    /// use sirmjold::{Class, Heard, HeardCommand, RequestOutcome, RetransmitError, Stream, StreamConfig};
+    ///
+    /// let cfg = StreamConfig::default();
+    /// let mut chamber = Stream::new(&cfg, 64, 4, [0; 256])?;
+    /// let payload = b"MIDI\xFF\x01\0\0\x20\x90\x3C\x40\x80\x01\0\0\0\x01\0\0";
+    /// let mut room = [0; Heard::MOST];
+    /// let heard = chamber.hear(&cfg, 0, payload, 0, &mut room)?;
+    /// assert_eq!(heard.next, None); // all of it
+    /// let mut answers = heard.answers();
+    ///
+    /// let data = answers.next().unwrap();
+    /// assert!(matches!(data.command, HeardCommand::UmpData(0, Ok(d)) if d.class == Class::New(0)));
+    /// assert_eq!(data.body(payload), b"\x20\x90\x3C\x40");
+    ///
+    /// let request = answers.next().unwrap(); // for a number that was never sent
+    /// let error = RetransmitError { reason: 1, seq: 0 };
+    /// let HeardCommand::RetransmitRequest(_, outcome) = request.command else { panic!() };
+    /// assert_eq!(outcome, Ok(RequestOutcome::Error(error)));
+    /// assert!(answers.next().is_none());
+    /// # Ok::<(), sirmjold::Refusal>(())
+    /// ```
+    pub fn hear<'a>(
+        &mut self,
+        cfg: &StreamConfig,
+        time: u64,
+        payload: &[u8],
+        at: usize,
+        heard: &'a mut [u64],
+    ) -> Result<Heard<'a>, Refusal> {
+        let (s, ring) = (&mut self.words, self.ring.as_ref());
+        let h = sirmjold_stream_hear(s, &cfg.words(), time, ring, payload, at, heard);
+        Refusal::check(h.refusal)?;
+        Ok(Heard::of(h, heard))
     }
 }

@@ -12,4 +12,6 @@ mod Hearings
 mod SenderSizes
 pub mod Narrow
 pub mod Unchanged
+pub mod ReceiverFits
+pub mod SenderFits
 mod Figures

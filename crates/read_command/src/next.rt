@@ -54,7 +54,7 @@ fn refused(n: u8) -> Read
 }
 
 // Whether reading can begin at `at`: at 0 the payload's signature is tested.
-fn opens(payload: &[u8], at: usize) -> bool
+pub fn opens(payload: &[u8], at: usize) -> bool
     ensures { λ r. ⌜ r ≡ (not (eqb at 0) || signed (now (payload .entry))) ⌝ }
 {
     if at == 0 {
@@ -67,7 +67,7 @@ fn opens(payload: &[u8], at: usize) -> bool
 }
 
 // The place of the first command for 0.
-fn first(at: usize) -> usize
+pub fn first(at: usize) -> usize
     ensures { λ r. ⌜ r ≡ firstOf at ⌝ }
 {
     if at == 0 { 4 } else { at }

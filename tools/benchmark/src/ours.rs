@@ -1,5 +1,5 @@
 //! The library's side, by its C functions, which are calls of their own.
-use crate::raw::{self, COMMAND_WORDS_MAX as MOST, Delivery, STREAM_WORDS};
+use crate::raw::{self, ANSWER_WORDS, ANSWERS_MAX, COMMAND_WORDS_MAX as MOST, Delivery, STREAM_WORDS};
 use crate::side::{LARGE, LIMIT, PLACES, SMALL, Side, Stream, WINDOW, delivery, fold};
 use std::mem::MaybeUninit;
 
@@ -213,6 +213,28 @@ impl<const C: usize> Stream for Ends<C> {
             let sum = fold(sum, d);
             if d & 3 == 2 { sum } else { messages(words, cut, sum) }
         })
+    }
+
+    fn hear(&mut self, now: u64, payload: &[u8]) -> u64 {
+        commands(payload, |sum, seq, _, _| fold(sum, self.heard(now, seq)))
+    }
+
+    fn hear_payload(&mut self, now: u64, payload: &[u8]) -> u64 {
+        let mut room = [MaybeUninit::<u64>::uninit(); ANSWER_WORDS * ANSWERS_MAX];
+        let h = unsafe {
+            raw::sirmjold_stream_hear(
+                self.words.as_mut_ptr(), STREAM_WORDS, CFG.as_ptr(), 8, now, self.ring.as_ptr(), C, payload.as_ptr(), payload.len(), 0,
+                room.as_mut_ptr().cast(), room.len(),
+            )
+        };
+        assert_eq!((h.refusal, h.next), (0, 0));
+        // SAFETY: the call has stored so many answers.
+        let answers = unsafe { std::slice::from_raw_parts(room.as_ptr().cast::<u64>(), ANSWER_WORDS * h.count as usize) };
+        let sum = answers.chunks_exact(ANSWER_WORDS).fold(0, |sum, a| {
+            assert_eq!((a[1] as u8, a[2] as u8), (3, 0));
+            fold(sum, delivery(u64::from((a[2] >> 8) as u8), (a[2] >> 16) as u16, a[3] as u16, (a[3] >> 16) as u16))
+        });
+        fold(sum, 0)
     }
 
     fn request(&mut self, seq: u16, count: u16) -> u64 {

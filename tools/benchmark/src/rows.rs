@@ -135,6 +135,32 @@ fn hear<S: Side>(kind: usize) -> Batch {
     Box::new(move || (0..UNITS).fold(0, |sum, _| fold(sum, stream.heard(0, next()))))
 }
 
+/// A payload of `commands` data commands of one word, whose numbers go up from payload to payload as they do with
+/// repeats: all but the last are of the payloads before.
+fn hearing<T: Stream + 'static>(commands: usize, hear: impl Fn(&mut T, u64, &[u8]) -> u64 + 'static) -> Batch {
+    let mut stream = T::fresh();
+    let mut p = payload(1, 4 + 8 * commands);
+    let mut newest = 0u16;
+    Box::new(move || {
+        (0..UNITS).fold(0, |sum, _| {
+            for k in 0..commands {
+                let number = newest.wrapping_sub((commands - 1 - k) as u16);
+                p[6 + 8 * k..8 + 8 * k].copy_from_slice(&number.to_be_bytes());
+            }
+            newest = newest.wrapping_add(1);
+            fold(sum, hear(&mut stream, 0, black_box(&p)))
+        })
+    })
+}
+
+fn hear_each<S: Side>(commands: usize) -> Batch {
+    hearing::<S::Small>(commands, S::Small::hear)
+}
+
+fn hear_payload<S: Side>(commands: usize) -> Batch {
+    hearing::<S::Small>(commands, S::Small::hear_payload)
+}
+
 /// Queues `words` words and writes a payload, by two calls or by one.
 fn queueing<T: Stream + 'static>(words: usize, mut play: impl FnMut(&mut T, &[u32], u64, &mut [u8]) -> (usize, bool) + 'static) -> Batch {
     let mut load = Load::new(words);
@@ -486,6 +512,11 @@ pub fn rows() -> Vec<Sized> {
     }
     for (k, kind) in kinds.iter().enumerate() {
         rows.push(row!(format!("hear a command, {kind}"), "command", None, hear, k, test_hear));
+    }
+    for commands in [1, 3] {
+        let name = |how| format!("hear a payload {how}, {commands} of 1 word");
+        rows.push(row!(name("by commands"), "payload", None, hear_each, commands));
+        rows.push(row!(name("in one call"), "payload", None, hear_payload, commands));
     }
     rows.extend([
         row!("poll, a request is not due yet", "call", None, poll, 0, test_poll),

@@ -244,6 +244,14 @@ impl<const C: usize> Stream for Ends<C> {
     }
 
     #[inline(never)]
+    fn hear(&mut self, now: u64, payload: &[u8]) -> u64 {
+        commands(payload, |sum, data| {
+            let d = self.0.on_ump_data(&CFG, now, data);
+            fold(sum, told(d.class, d.lost))
+        })
+    }
+
+    #[inline(never)]
     fn request(&mut self, seq: u16, count: u16) -> u64 {
         match self.0.on_retransmit_request(&CFG, RetransmitRequest { seq: SeqNum(seq), count }) {
             RequestOutcome::Queued => 0,

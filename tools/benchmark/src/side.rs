@@ -16,6 +16,12 @@ pub trait Stream {
     /// Reads a payload as a chamber does: each data command is told to the stream, and the words of its messages
     /// are handed on unless it is a duplicate.
     fn receive(&mut self, now: u64, payload: &[u8]) -> u64;
+    /// Tells the stream each data command of a payload, and hands no words on.
+    fn hear(&mut self, now: u64, payload: &[u8]) -> u64;
+    /// The same, in one call where there is one.
+    fn hear_payload(&mut self, now: u64, payload: &[u8]) -> u64 {
+        self.hear(now, payload)
+    }
     fn request(&mut self, seq: u16, count: u16) -> u64;
     fn poll(&mut self, now: u64) -> u64;
     fn wants(&self, now: u64) -> bool;
