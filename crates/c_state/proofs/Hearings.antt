@@ -4,7 +4,7 @@ use mathlib.Core.Bool.{Bool, true, false, cond, not, _&&_}
 use mathlib.Core.List.{List}
 use Prim.Native.Nat.{ℕ, _<_}
 use native.Mathlib.Omega.{arith}
-use borrow.Author.Tests.{lt-ltb}
+use borrow.Author.Tests.{lt-ltb, eqb-true}
 use Rattle.config.specs.Range.{within}
 use Rattle.config.specs.Sequence.{ahead}
 use Rattle.config.specs.Settings.{checkOf}
@@ -42,6 +42,10 @@ pub valid-narrow : (w : ReceiveWindow) → Valid w → w .size < 65536
 valid-narrow w v = omega arith
 
 -- ---- windows and receivers, part by part
+-- where a test answers false
+pub untrue : {A : Type 0} → _≡_ {A = Bool} false true → A
+untrue e = absurd (let z : _≡_ {A = ℕ} 1 0 = eqb-true 1 0 e in omega (arith, z))
+
 windows-of : (s h l g t i m k : ℕ) → s ≡ t → h ≡ i → l ≡ m → g ≡ k
     → _≡_ {A = ReceiveWindow} (record { size = s; highest = h; bits = record { low = l; high = g } }) (record { size = t; highest = i; bits = record { low = m; high = k } })
 windows-of s h l g t i m k a b c d = rw (a, b, c, d)

@@ -43,6 +43,13 @@ module _ (cfg : StreamConfig) (figure : ℕ) (e : Ends) where
 
 -- ---- refusals
 
+-- an outcome is one of both
+refused-done : {A : Type 0} (why : Refusal) → OutcomeRefused why ≡ OutcomeDone → A
+refused-done why e = absurd (let z : _≡_ {A = ℕ} 0 1 = cc in let y : ⊥ = omega arith in y)
+
+same-why : (why other : Refusal) → OutcomeRefused why ≡ OutcomeRefused other → why ≡ other
+same-why why other e = cc
+
 or-last : (a b : Bool) → (a || (b || true)) ≡ true
 or-last true b = refl
 or-last false true = refl
@@ -103,16 +110,11 @@ module _ (cfg : StreamConfig) (window words places seed drop figure budget : ℕ
           by : (a : Bool) → sizesOut window words places ring ≡ a → (Refused why, after, other) ≡ answer
           by true p =
               let q : _≡_ {A = Starting × List ℕ} (first, after) (notStarted SizeNotAllowed, ring) = e ∙ new-is ring ∙ rw p in
-              let w : why ≡ SizeNotAllowed = why-is (ap (λ (x : Starting × List ℕ). x .0 .answer) q) in
+              let w : why ≡ SizeNotAllowed = same-why why SizeNotAllowed (sym f ∙ ap (λ (x : Starting × List ℕ). x .0 .answer) q) in
               _∙_ {b = (Refused SizeNotAllowed, ring, other)} (ap₂ (λ (x : Refusal) (y : List ℕ). (Refused x, y, other)) w (ap (λ (x : Starting × List ℕ). x .1) q)) (refused-sizes (rw p))
-            where
-              why-is : first .answer ≡ OutcomeRefused SizeNotAllowed → why ≡ SizeNotAllowed
-              why-is g = let h : OutcomeRefused why ≡ OutcomeRefused SizeNotAllowed = sym f ∙ g in cc
           by false p =
               let q : _≡_ {A = Starting × List ℕ} (first, after) (record { stream = fresh window words places; answer = OutcomeDone }, replicate (length ring) 0) = e ∙ new-is ring ∙ rw p in
-              let g : first .answer ≡ OutcomeDone = ap (λ (x : Starting × List ℕ). x .0 .answer) q in
-              let h : OutcomeRefused why ≡ OutcomeDone = sym f ∙ g in
-              absurd (let z : _≡_ {A = ℕ} 0 1 = cc in let y : ⊥ = omega arith in y)
+              refused-done why (sym f ∙ ap (λ (x : Starting × List ℕ). x .0 .answer) q)
 
       -- both ends start
       pub run-starts : first .answer ≡ OutcomeDone → budget ≤ mostSteps → length ring ≡ length other
@@ -126,8 +128,7 @@ module _ (cfg : StreamConfig) (window words places seed drop figure budget : ℕ
           by true p =
               let q : _≡_ {A = Starting × List ℕ} (first, after) (notStarted SizeNotAllowed, ring) = e ∙ new-is ring ∙ rw p in
               let w : first .answer ≡ OutcomeRefused SizeNotAllowed = ap (λ (x : Starting × List ℕ). x .0 .answer) q in
-              let n : OutcomeDone ≡ OutcomeRefused SizeNotAllowed = sym f ∙ w in
-              absurd (let z : _≡_ {A = ℕ} 0 1 = cc in let y : ⊥ = omega arith in y)
+              refused-done SizeNotAllowed (sym w ∙ f)
           by false p =
               let p′ : sizesOut window words places other ≡ false = sym (sizes-same window words places ring other m) ∙ p in
               let q : _≡_ {A = Starting × List ℕ} (first, after) (record { stream = fresh window words places; answer = OutcomeDone }, replicate (length ring) 0) = e ∙ new-is ring ∙ rw p in

@@ -31,14 +31,14 @@ module _ (p : PayloadWriter) (room : ℕ) where
     unfolding validOf
     valid-empty z = rw (not-false (within 8 1400 (p .max)) o, eq-eqb _ _ z)
 
-    module _ (z : p .len ≡ 0 → ⊥) where
-      pub valid-length-not : outside 8 (limitOf p room) (p .len) ≡ true → false ≡ validOf p room
+    module _ (z : p .len ≡ 0 → ⊥) (most : ℕ) (e : most ≡ limitOf p room) where
+      pub valid-length-not : outside 8 most (p .len) ≡ true → false ≡ validOf p room
       unfolding validOf
-      valid-length-not l = rw (not-false (within 8 1400 (p .max)) o, ne-eqb _ _ z, not-true (within 8 (limitOf p room) (p .len)) l)
+      valid-length-not l = rw (not-false (within 8 1400 (p .max)) o, ne-eqb _ _ z, ← e, not-true (within 8 most (p .len)) l)
 
-      pub valid-length : outside 8 (limitOf p room) (p .len) ≡ false → eqb (p .len % 4) 0 ≡ validOf p room
+      pub valid-length : outside 8 most (p .len) ≡ false → eqb (p .len % 4) 0 ≡ validOf p room
       unfolding validOf
-      valid-length l = rw (not-false (within 8 1400 (p .max)) o, ne-eqb _ _ z, not-false (within 8 (limitOf p room) (p .len)) l)
+      valid-length l = rw (not-false (within 8 1400 (p .max)) o, ne-eqb _ _ z, ← e, not-false (within 8 most (p .len)) l)
 
 -- ---- where the next command goes
 module _ (p : PayloadWriter) where

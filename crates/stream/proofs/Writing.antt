@@ -1,21 +1,35 @@
 -- The ways out of a write.
 use mathlib.Core.Path.{_≡_, sym, ap}
+use mathlib.Core.Bool.{true, false}
 use mathlib.Core.List.{List}
 use Prim.Native.Nat.{ℕ}
+use lib.ListN.{length}
+use Rattle.config.specs.inner.Choices.{and-both, and-not-left, and-not-right}
+use Rattle.config.specs.inner.Entries.{entry-made, entry-refused}
 use Rattle.config.specs.declared.settings.StreamConfig.{StreamConfig}
+use Rattle.packet.specs.Write.{validOf as payloadValid}
 use Rattle.packet.specs.declared.writer.PayloadWriter.{PayloadWriter}
 use Rattle.receiver.specs.Receiver.{takenOf}
+use Rattle.receiver.specs.declared.receiver.Receiver.{Receiver}
 use Rattle.receiver.specs.declared.receiver.Request.{Request}
 use Rattle.receiver.specs.declared.receiver.RequestWritten.{RequestWritten}
+use Rattle.sender.specs.declared.sender.Sender.{Sender}
 use Rattle.writing.specs.Writing.{writtenBy}
 use Rattle.writing.specs.declared.writing.Writing.{Writing}
 use Rattle.writing.specs.declared.writing.Wrote.{Wrote as SenderWrote}
-use Rattle.stream.specs.State.{withSender, withReceiver}
+use Rattle.stream.specs.State.{validOf, withSender, withReceiver}
 use Rattle.stream.specs.Writing.{countedAlso, sentAfter, afterRequest, dataWritten, writeRefused, writeAnswer}
 use Rattle.stream.specs.declared.stream.DataStream.{DataStream}
 use Rattle.config.specs.Settings.{checkOf}
 use Rattle.config.specs.declared.refusal.Refusal.{Refusal}
-use Rattle.config.specs.declared.answer.Outcome.the-variants.{Refused}
+use Rattle.config.specs.declared.refusal.Refusal.the-variants.{InvalidState}
+use Rattle.config.specs.declared.answer.Outcome.the-variants.{Done, Refused}
+
+-- where the sender writes on, under other names
+pub after-same : (s : Sender) (cfg : StreamConfig) (time : ℕ) (ring : List ℕ)
+    → {b bytes : List ℕ} {r receiver : Receiver} {p payload : PayloadWriter} {m n : ℕ} → b ≡ bytes → r ≡ receiver → p ≡ payload → m ≡ n
+    → sentAfter m (record { sender = s; receiver = r }) cfg time p b ring ≡ sentAfter n (record { sender = s; receiver = receiver }) cfg time payload bytes ring
+after-same s cfg time ring e f g h = rw (e, f, g, h)
 
 module _ (s : DataStream) (cfg : StreamConfig) (time : ℕ) (p : PayloadWriter) (b ring : List ℕ) where
   -- ---- after the due request
@@ -35,3 +49,17 @@ module _ (s : DataStream) (cfg : StreamConfig) (time : ℕ) (p : PayloadWriter) 
   pub write-settings : (why : Refusal) → checkOf cfg ≡ Refused why → writeRefused s p b ring why ≡ writeAnswer s cfg time p b ring
   unfolding writeAnswer
   write-settings why e = rw e
+
+  module _ (e : checkOf cfg ≡ Done) where
+    pub write-state : validOf s ring ≡ false → writeRefused s p b ring InvalidState ≡ writeAnswer s cfg time p b ring
+    unfolding writeAnswer
+    write-state v = entry-refused (writeRefused s p b ring) _ e (and-not-left _ v)
+
+    module _ (v : validOf s ring ≡ true) where
+      pub write-payload : payloadValid p (length b) ≡ false → writeRefused s p b ring InvalidState ≡ writeAnswer s cfg time p b ring
+      unfolding writeAnswer
+      write-payload w = entry-refused (writeRefused s p b ring) _ e (and-not-right v w)
+
+      pub write-made : payloadValid p (length b) ≡ true → dataWritten s cfg time p b ring ≡ writeAnswer s cfg time p b ring
+      unfolding writeAnswer
+      write-made w = entry-made (writeRefused s p b ring) _ e (and-both v w)

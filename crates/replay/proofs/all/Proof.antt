@@ -1,7 +1,7 @@
 -- The turns run out, and every lent slice keeps its length.
 use borrow.Author.Needs.{needs}
 use lib.ListN.{length}
-use mathlib.Core.Path.{_≡_}
+use mathlib.Core.Path.{_≡_, _∙_}
 use Rattle.replay.proofs.all.Statement.{statement}
 use Rattle.replay.proofs.all.Tie as tie
 
@@ -29,7 +29,20 @@ loop-less : tie.Need-loop-less Inv-loop μ-loop
 loop-less c = search needs
 
 loop-again : tie.Need-loop-again Inv-loop μ-loop
-loop-again c = search needs
+loop-again c =
+    let out = c .before .before in
+    let memory = out .before .before .before .before in
+    let stream = memory .before .before .before .before in
+    let input = stream .before .before .before .before in
+    let turn = input .before .before .before .before .before .before .before .before .before .before .loop in (
+      input .input .given ∙ turn .inv .0,
+      stream .before .before .line .given ∙ turn .inv .1,
+      stream .stream2 .given ∙ turn .inv .2,
+      memory .before .before .settings .given ∙ turn .inv .3,
+      memory .memory2 .given ∙ turn .inv .4,
+      out .before .before .buffer .given ∙ turn .inv .5,
+      out .out .given ∙ turn .inv .6,
+    )
 
 flush-requires : tie.Need-flush-requires Inv-loop μ-loop
 flush-requires c κs = search needs

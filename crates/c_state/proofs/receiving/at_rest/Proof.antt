@@ -1,14 +1,11 @@
 -- No request waits, the timer is stopped, none is unanswered, and the window is the same.
-use mathlib.Core.Path.{_≡_}
-use Prim.Native.Nat.{ℕ}
-use native.Mathlib.Omega.{arith}
 use borrow.Author.Needs.{needs}
-use Rattle.c_state.proofs.Hearings.{rest-is}
+use Rattle.c_state.proofs.Hearings.{untrue, rest-is}
 use Rattle.c_state.proofs.receiving.at_rest.Statement.{statement}
 use Rattle.c_state.proofs.receiving.at_rest.Tie as tie
 
 returns : tie.Need-returns
-returns c = λ e. absurd (let z : _≡_ {A = ℕ} 0 1 = cc in omega arith)
+returns c = untrue
 
 enum-told : tie.Need-enum-told
 enum-told c = search needs
@@ -26,10 +23,10 @@ same-requires : tie.Need-same-requires
 same-requires c κs = search needs
 
 returns-2 : tie.Need-returns-2
-returns-2 c = λ e. absurd (let z : _≡_ {A = ℕ} 0 1 = cc in omega arith)
+returns-2 c = untrue
 
 returns-3 : tie.Need-returns-3
-returns-3 c = λ e. absurd (let z : _≡_ {A = ℕ} 0 1 = cc in omega arith)
+returns-3 c = untrue
 
 returns-4 : tie.Need-returns-4
 returns-4 c = λ e. rest-is _ _ (c .before .before .before .before .before .if1 .left) (c .before .before .before .enum-told2 .given .1) (c .before .enum-told4 .given .1) (c .same .ensures e)

@@ -27,10 +27,13 @@ carry-requires : tie.Need-carry-requires
 carry-requires c κs = halving.part-short _ _ _ (c .part .ensures) (c .before .before .before .before .before .buf2 .given)
 
 same-length : tie.Need-same-length
-same-length c = search needs
+same-length c = c .before .before .before .before .before .ring .given
 
 returns : tie.Need-returns
-returns c = (halving.there-is _ _ _ _ _ _ _ _ _ _ (c .before .before .before .before .before .before .before .console-turn .result) _ _ (c .before .before .before .before .before .before .before .console-turn .ensures) _ (c .before .part .ensures) _ (c .carry .ensures .0), c .carry .ensures .1)
+returns c =
+    let a = c .before .before .before .before .before .before .before .before .before .before .before .before .args in
+    let turn = c .before .before .before .before .before .before .before .console-turn in
+    (halving.there-is (a .console) (a .chamber) (a .cfg) (a .time) (a .load .last) (a .line .last) (a .figure) (a .waiting) (a .ring .now) (a .other .now) (turn .result) _ _ (turn .ensures) _ (c .before .part .ensures) _ (c .carry .ensures .0), c .carry .ensures .1)
 
 pub spoken-spec : {M : Type 1} → statement M
 spoken-spec =

@@ -1,9 +1,7 @@
 -- The receiver and the payload are tested; since the sender's state passes, the state test is the receiver's.
 use mathlib.Core.Path.{sym, _∙_}
-use Rattle.config.specs.inner.Entries.{entry-refused, entry-made}
-use Rattle.config.specs.inner.Choices.{and-both, and-not-left, and-not-right}
-use Rattle.stream.specs.Writing.{writeAnswer, writeRefused}
 use Rattle.stream.proofs.Validity.{test-receiver, test-sender}
+use Rattle.stream.proofs.Writing.{write-state, write-payload, write-made}
 use borrow.Author.Needs.{needs}
 use Rattle.stream.proofs.sending.write_queued.Statement.{statement}
 use Rattle.stream.proofs.sending.write_queued.Tie as tie
@@ -30,20 +28,17 @@ same-length-2 : tie.Need-same-length-2
 same-length-2 c = search needs
 
 returns : tie.Need-returns
-unfolding writeAnswer
 returns c =
     let pre = c .before .before .before .before .before .before .before .before .before .before .before .before .before .before .pre in
-    c .before .before .before .before .write-data .ensures ∙ entry-made (writeRefused _ _ _ _) _ (pre .0) (and-both (sym (test-sender _ _ (sym (c .before .before .before .before .before .before .before .before .before .before .is-valid .ensures) ∙ c .before .before .before .before .before .before .before .before .before .if1 .taken) _ (sym (pre .1)))) (sym (c .before .before .before .before .before .before .before .before .is-valid2 .ensures) ∙ c .before .before .before .before .before .before .before .if2 .taken))
+    c .before .before .before .before .write-data .ensures ∙ write-made _ _ _ _ _ _ (pre .0) (sym (test-sender _ _ (sym (c .before .before .before .before .before .before .before .before .before .before .is-valid .ensures) ∙ c .before .before .before .before .before .before .before .before .before .if1 .taken) _ (sym (pre .1)))) (sym (c .before .before .before .before .before .before .before .before .is-valid2 .ensures) ∙ c .before .before .before .before .before .before .before .if2 .taken)
 
 returns-2 : tie.Need-returns-2
-unfolding writeAnswer
 returns-2 c =
     let pre = c .before .before .before .before .before .before .before .pre in
-    entry-refused (writeRefused _ _ _ _) _ (pre .0) (and-not-right (sym (test-sender _ _ (sym (c .before .before .before .is-valid .ensures) ∙ c .before .before .if1 .taken) _ (sym (pre .1)))) (sym (c .before .is-valid2 .ensures) ∙ c .if2 .left))
+    write-payload _ _ _ _ _ _ (pre .0) (sym (test-sender _ _ (sym (c .before .before .before .is-valid .ensures) ∙ c .before .before .if1 .taken) _ (sym (pre .1)))) (sym (c .before .is-valid2 .ensures) ∙ c .if2 .left)
 
 returns-3 : tie.Need-returns-3
-unfolding writeAnswer
-returns-3 c = entry-refused (writeRefused _ _ _ _) _ (c .before .before .before .before .before .pre .0) (and-not-left _ (sym (test-receiver _ _ (sym (c .before .is-valid .ensures) ∙ c .if1 .left))))
+returns-3 c = write-state _ _ _ _ _ _ (c .before .before .before .before .before .pre .0) (sym (test-receiver _ _ (sym (c .before .is-valid .ensures) ∙ c .if1 .left)))
 
 pub write-queued-spec : {M : Type 1} → statement M
 write-queued-spec =

@@ -1,15 +1,22 @@
 -- A due request is taken; where it does not end the write, the payload is still valid and the sender writes behind it, after 0 or 1 commands.
-use mathlib.Core.Path.{refl, ap, _∙_}
+use mathlib.Core.Path.{_≡_, refl, ap, _∙_}
 use mathlib.Core.Logic.{⊎-elim}
+use Prim.Native.Nat.{ℕ, _≤_}
 use native.Mathlib.Omega.{arith}
 use lib.ListN.{length}
 use Rattle.receiver.proofs.Taken.{taken-not-due}
 use Rattle.stream.proofs.Validity.{valid-receiver, valid-sender}
 use Rattle.stream.proofs.Taking.{taken-valid}
-use Rattle.stream.proofs.Writing.{after-taken}
+use Rattle.stream.proofs.Writing.{after-taken, after-same}
 use borrow.Author.Needs.{needs}
 use Rattle.stream.proofs.tested.write_data.Statement.{statement}
 use Rattle.stream.proofs.tested.write_data.Tie as tie
+
+none : (n : ℕ) → n ≡ 0 → n ≤ 1
+none n e = omega arith
+
+one : (n : ℕ) → n ≡ 1 → n ≤ 1
+one n e = omega arith
 
 write-request-requires : tie.Need-write-request-requires
 write-request-requires c κs = let pre = c .before .before .before .before .before .before .pre in (valid-receiver _ _ (pre .1), pre .2)
@@ -42,7 +49,7 @@ write-after-requires : tie.Need-write-after-requires
 write-after-requires c κs =
     let pre = c .before .before .before .before .before .before .before .pre in
     let came = c .before .before .if1 .came in (
-      ⊎-elim (λ w. omega arith) (⊎-elim (λ w. omega arith) (λ w. omega arith)) came,
+      ⊎-elim (λ w. none _ (w .12)) (⊎-elim (λ w. one _ (w .12)) (λ w. none _ (w .4))) came,
       pre .0,
       valid-sender _ _ (pre .1),
       ⊎-elim
@@ -54,10 +61,10 @@ write-after-requires c κs =
 
 same-length-3 : tie.Need-same-length-3
 same-length-3 c =
-    let behind = c .before .before .before .buf2 .given in
-    ⊎-elim
-    (λ w. omega (arith, behind, w .3 .given, ap length (w .9)))
-    (⊎-elim (λ w. omega (arith, behind, w .3 .given, ap length (w .9))) (λ w. omega (arith, behind, ap length (w .1))))
+    c .before .before .before .buf2 .given
+    ∙ ⊎-elim
+    (λ w. ap length (w .9) ∙ w .3 .given)
+    (⊎-elim (λ w. ap length (w .9) ∙ w .3 .given) (λ w. ap length (w .1)))
     (c .before .before .before .before .before .before .before .if1 .came)
 
 same-length-4 : tie.Need-same-length-4
@@ -65,12 +72,12 @@ same-length-4 c = search needs
 
 returns-3 : tie.Need-returns-3
 returns-3 c =
-    let wrote = c .before .before .before .before .write-after .ensures in
-    ⊎-elim
-    (λ w. (rw (w .9, w .10, w .11, w .12) at wrote) ∙ after-taken _ _ _ _ _ _ _ _ (w .2 .ensures) _ (w .8 .given .1))
+    c .before .before .before .before .write-after .ensures
+    ∙ ⊎-elim
+    (λ w. after-same _ _ _ _ (w .9) (w .10) (w .11) (w .12) ∙ after-taken _ _ _ _ _ _ _ _ (w .2 .ensures) _ (w .8 .given .1))
     (⊎-elim
-    (λ w. (rw (w .9, w .10, w .11, w .12) at wrote) ∙ after-taken _ _ _ _ _ _ _ _ (w .2 .ensures) _ (w .8 .given .1))
-    (λ w. (rw (w .1, w .2, w .3, w .4) at wrote) ∙ after-taken _ _ _ _ _ _ _ _ (taken-not-due _ _ _ _ _ refl (w .0 .left)) _ refl))
+    (λ w. after-same _ _ _ _ (w .9) (w .10) (w .11) (w .12) ∙ after-taken _ _ _ _ _ _ _ _ (w .2 .ensures) _ (w .8 .given .1))
+    (λ w. after-same _ _ _ _ (w .1) (w .2) (w .3) (w .4) ∙ after-taken _ _ _ _ _ _ _ _ (taken-not-due _ _ _ _ _ refl (w .0 .left)) _ refl))
     (c .before .before .before .before .before .before .before .if1 .came)
 
 pub write-data-spec : {M : Type 1} → statement M

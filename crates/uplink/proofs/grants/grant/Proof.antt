@@ -1,5 +1,5 @@
 -- Each way out is the definition's: two refusals, and the row from the turn on before the row up to it.
-use mathlib.Core.Path.{refl}
+use mathlib.Core.Path.{refl, sym, _∙_}
 use native.Mathlib.Omega.{arith}
 use lib.ListN.{length, length-take}
 use borrow.Author.Needs.{needs}
@@ -12,13 +12,13 @@ outside-requires : tie.Need-outside-requires
 outside-requires c κs = search needs
 
 returns : tie.Need-returns
-returns c = refused-number _ _ (c .before .before .before .args .wants .now) (cc)
+returns c = refused-number _ _ (c .before .before .before .args .wants .now) (sym (c .before .outside .ensures) ∙ c .if1 .taken)
 
 returns-2 : tie.Need-returns-2
-returns-2 c = refused-turn _ _ (c .before .before .before .before .args .wants .now) (cc) (c .if2 .taken)
+returns-2 c = refused-turn _ _ (c .before .before .before .before .args .wants .now) (sym (c .before .before .outside .ensures) ∙ c .before .if1 .left) (c .if2 .taken)
 
 cast-share : tie.Need-cast-share
-cast-share c = omega (arith, number-in (length (c .before .before .before .before .args .wants .now)) (cc))
+cast-share c = omega (arith, number-in (length (c .before .before .before .before .args .wants .now)) (sym (c .before .before .outside .ensures) ∙ c .before .if1 .left))
 
 div-share : tie.Need-div-share
 div-share c = search needs
@@ -41,7 +41,7 @@ part-serve-end c = search needs
 serve-requires : tie.Need-serve-requires
 serve-requires c κs =
     let s = c .before .before .before .before .before .before .args in
-    let m = number-in (length (s .wants .now)) (cc) in
+    let m = number-in (length (s .wants .now)) (sym (c .before .before .before .before .outside .ensures) ∙ c .before .before .before .if1 .left) in
     length-onward (s .words) (s .turn) (s .wants .now) (c .before .before .if2 .left) (m .1)
 
 slice-aggregate-serve : tie.Need-slice-aggregate-serve
@@ -52,21 +52,21 @@ slice-aggregate-serve c =
 serve-requires-2 : tie.Need-serve-requires-2
 serve-requires-2 c κs =
     let s = c .before .before .before .before .before .before .before .before .before .args in
-    let m = number-in (length (s .wants .now)) (cc) in
+    let m = number-in (length (s .wants .now)) (sym (c .before .before .before .before .before .before .before .outside .ensures) ∙ c .before .before .before .before .before .before .if1 .left) in
     omega (arith, length-take (s .turn) (s .wants .now))
 
 next-requires : tie.Need-next-requires
 next-requires c κs =
     let s = c .before .before .before .before .before .before .before .before .before .before .before .args in
-    let m = number-in (length (s .wants .now)) (cc) in
+    let m = number-in (length (s .wants .now)) (sym (c .before .before .before .before .before .before .before .before .before .outside .ensures) ∙ c .before .before .before .before .before .before .before .before .if1 .left) in
     omega arith
 
 returns-3 : tie.Need-returns-3
 returns-3 c =
     let s = c .before .before .before .before .before .before .before .before .before .before .before .before .args in
-    let m = number-in (length (s .wants .now)) (cc) in
+    let m = number-in (length (s .wants .now)) (sym (c .before .before .before .before .before .before .before .before .before .before .outside .ensures) ∙ c .before .before .before .before .before .before .before .before .before .if1 .left) in
     let h = c .before .before .before .before .before .before .before .before .if2 .left in
-    step-granted (s .words) (s .turn) (s .wants .now) (cc) h _ _
+    step-granted (s .words) (s .turn) (s .wants .now) (sym (c .before .before .before .before .before .before .before .before .before .before .outside .ensures) ∙ c .before .before .before .before .before .before .before .before .before .if1 .left) h _ _
     (grants-stored (s .words) (s .turn) (s .wants .now) h (m .1) _ _ _ _ refl (c .before .before .before .before .before .before .before .rest .ensures) (c .before .before .before .before .before .serve .ensures) (c .before .before .serve2 .ensures))
     (c .next .ensures)
 

@@ -1,9 +1,6 @@
 -- Settings, state and payload are tested, and the rest is `tested::write`.
 use mathlib.Core.Path.{sym, _∙_}
-use Rattle.config.specs.inner.Entries.{entry-refused, entry-made}
-use Rattle.config.specs.inner.Choices.{and-both, and-not-left, and-not-right}
-use Rattle.writing.specs.Answers.{writeAnswer, writeRefused}
-use Rattle.writing.proofs.Answers.{write-settings}
+use Rattle.writing.proofs.Answers.{write-settings, write-state, write-payload, write-made}
 use borrow.Author.Needs.{needs}
 use Rattle.writing.proofs.writing.write.Statement.{statement}
 use Rattle.writing.proofs.writing.write.Tie as tie
@@ -41,17 +38,15 @@ same-length-2 : tie.Need-same-length-2
 same-length-2 c = search needs
 
 returns : tie.Need-returns
-unfolding writeAnswer
 returns c =
-    c .before .before .before .before .write .ensures ∙ entry-made (writeRefused _ _ _ _) _ (sym (c .before .before .before .before .before .before .before .before .before .before .before .before .before .before .before .before .check .ensures) ∙ c .before .before .before .before .before .before .before .before .before .before .before .before .before .before .enum-told .given .1) (and-both (sym (c .before .before .before .before .before .before .before .before .before .before .before .test .ensures .answer) ∙ c .before .before .before .before .before .before .before .before .before .before .if1 .taken) (sym (c .before .before .before .before .before .before .before .before .before .is-valid .ensures) ∙ c .before .before .before .before .before .before .before .before .if2 .taken))
+    c .before .before .before .before .write .ensures ∙ write-made _ _ _ _ _ _ (sym (c .before .before .before .before .before .before .before .before .before .before .before .before .before .before .before .before .check .ensures) ∙ c .before .before .before .before .before .before .before .before .before .before .before .before .before .before .enum-told .given .1) (sym (c .before .before .before .before .before .before .before .before .before .before .before .test .ensures .answer) ∙ c .before .before .before .before .before .before .before .before .before .before .if1 .taken) (sym (c .before .before .before .before .before .before .before .before .before .is-valid .ensures) ∙ c .before .before .before .before .before .before .before .before .if2 .taken)
 
 same-length-3 : tie.Need-same-length-3
 same-length-3 c = search needs
 
 returns-2 : tie.Need-returns-2
-unfolding writeAnswer
 returns-2 c =
-    entry-refused (writeRefused _ _ _ _) _ (sym (c .before .before .before .before .before .before .before .before .check .ensures) ∙ c .before .before .before .before .before .before .enum-told .given .1) (and-not-right (sym (c .before .before .before .test .ensures .answer) ∙ c .before .before .if1 .taken) (sym (c .before .is-valid .ensures) ∙ c .if2 .left))
+    write-payload _ _ _ _ _ _ (sym (c .before .before .before .before .before .before .before .before .check .ensures) ∙ c .before .before .before .before .before .before .enum-told .given .1) (sym (c .before .before .before .test .ensures .answer) ∙ c .before .before .if1 .taken) (sym (c .before .is-valid .ensures) ∙ c .if2 .left)
 
 returns-3 : tie.Need-returns-3
 returns-3 c = write-settings _ _ _ _ _ _ _ (sym (c .before .before .before .check .ensures) ∙ c .before .why .given .1)
@@ -60,8 +55,7 @@ same-length-4 : tie.Need-same-length-4
 same-length-4 c = search needs
 
 returns-4 : tie.Need-returns-4
-unfolding writeAnswer
-returns-4 c = entry-refused (writeRefused _ _ _ _) _ (sym (c .before .before .before .before .before .before .check .ensures) ∙ c .before .before .before .before .enum-told .given .1) (and-not-left _ (sym (c .before .test .ensures .answer) ∙ c .if1 .left))
+returns-4 c = write-state _ _ _ _ _ _ (sym (c .before .before .before .before .before .before .check .ensures) ∙ c .before .before .before .before .enum-told .given .1) (sym (c .before .test .ensures .answer) ∙ c .if1 .left)
 
 pub write-spec : {M : Type 1} → statement M
 write-spec =

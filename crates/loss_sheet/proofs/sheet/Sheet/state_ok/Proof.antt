@@ -1,4 +1,5 @@
 -- Each test is one of the definition's, in its order.
+use mathlib.Core.Path.{sym, _∙_}
 use lib.ListN.{length-take}
 use Rattle.loss_sheet.proofs.States.{state-ring, state-head, state-len, state-first, state-words, state-part, state-rest}
 use borrow.Author.Needs.{needs}
@@ -40,13 +41,13 @@ all-below-requires-2 : tie.Need-all-below-requires-2
 all-below-requires-2 c κs = search needs
 
 returns-4 : tie.Need-returns-4
-returns-4 c = state-rest _ _ (omega arith) (omega arith) (omega arith) (cc) _ (cc) (state-part (c .before .before .before .before .before .before .before .before .before .before .before .before .before .before .args .ring .now) (c .before .before .before .before .before .before .before .before .before .before .before .before .before .before .args .self .len) _ (c .all-below2 .ensures))
+returns-4 c = state-rest _ _ (omega arith) (omega arith) (omega arith) (sym (c .before .before .before .before .before .before .head-ok .ensures) ∙ c .before .before .before .before .before .if4 .taken) _ (sym (c .before .before .before .all-below .ensures) ∙ c .before .before .if5 .taken) (state-part (c .before .before .before .before .before .before .before .before .before .before .before .before .before .before .args .ring .now) (c .before .before .before .before .before .before .before .before .before .before .before .before .before .before .args .self .len) _ (c .all-below2 .ensures))
 
 returns-5 : tie.Need-returns-5
-returns-5 c = state-words _ _ (omega arith) (omega arith) (omega arith) (cc) (cc)
+returns-5 c = state-words _ _ (omega arith) (omega arith) (omega arith) (sym (c .before .before .before .before .head-ok .ensures) ∙ c .before .before .before .if4 .taken) (sym (c .before .all-below .ensures) ∙ c .if5 .left)
 
 returns-6 : tie.Need-returns-6
-returns-6 c = state-first _ _ (omega arith) (omega arith) (omega arith) (cc)
+returns-6 c = state-first _ _ (omega arith) (omega arith) (omega arith) (sym (c .before .head-ok .ensures) ∙ c .if4 .left)
 
 pub state-ok-spec : {M : Type 1} → statement M
 state-ok-spec =

@@ -15,13 +15,13 @@ same-length : tie.Need-same-length
 same-length c = search needs
 
 returns : tie.Need-returns
-returns c = reset-done _ _ (cc) _ _ (search needs)
+returns c = reset-done _ _ (sym (c .before .before .before .before .before .is-valid .ensures) ∙ c .before .before .before .before .if1 .taken) _ _ (c .before .before .reset .ensures)
 
 same-length-2 : tie.Need-same-length-2
 same-length-2 c = search needs
 
 returns-2 : tie.Need-returns-2
-returns-2 c = reset-refused _ _ (cc)
+returns-2 c = reset-refused _ _ (sym (c .before .is-valid .ensures) ∙ c .if1 .left)
 
 pub reset-spec : {M : Type 1} → statement M
 reset-spec =
