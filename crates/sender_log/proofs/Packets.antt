@@ -1,4 +1,4 @@
--- Entries of the ring as data commands are the commands of the list, and commands written in a row.
+-- Entries of the ring as data commands are the commands of the list.
 use mathlib.Core.Path.{_≡_, refl, sym, ap, _∙_}
 use mathlib.Core.List.{List, [], _∷_, _++_}
 use Prim.Native.Nat.{ℕ, zero, suc, _+_, _-_, _%_, _≤_, _<_}
@@ -6,17 +6,12 @@ use native.Mathlib.Omega.{arith}
 use lib.ListN.{length, take, drop, length-drop}
 use lib.Seq.{drop-cons, drop-append-le, take-append-le}
 use Rattle.config.specs.Sequence.{turn, after}
-use Rattle.packet.specs.Layout.{Packet}
-use Rattle.packet.specs.Write.{writtenOf}
-use Rattle.packet.specs.declared.writer.PayloadWriter.{PayloadWriter}
-use Rattle.config.specs.declared.answer.Outcome.{Outcome}
-use Rattle.config.specs.declared.answer.Outcome.the-variants.{Done, Refused}
 use Rattle.history.specs.Headers.{nextAt, headerAt, wordsFrom, entriesFrom}
 use Rattle.history.specs.Entries.{size, Holds}
 use Rattle.history.specs.declared.history.SendHistory.{SendHistory}
 use Rattle.history.proofs.Entries.{take-entries, drop-entries, size-entries, holds-entries}
 use Rattle.history.proofs.Written.{holds-packet-at}
-use Rattle.rows.specs.Rows.{oneMore, rowOf, packetsFrom}
+use Rattle.rows.specs.Rows.{packetsFrom}
 use Rattle.sender_log.specs.Writes.{dataFrom}
 
 -- ---- commands as data commands
@@ -70,16 +65,3 @@ module _ (h : SendHistory) (ring : List ℕ) (es : List (List ℕ)) (a : Holds h
       ∙ ap size (sym (take-entries k (h .count - j) ring (headerAt j ring (h .head)) (omega arith)))
       ∙ ap (λ (l : List (List ℕ)). size (take k l)) (sym d)
       ∙ ap (λ (l : List (List ℕ)). size (take k (drop j l))) (holds-entries h ring es a)
-
--- ---- commands written in a row
-
--- no more are written than there are
-pub row-few : (cs : List Packet) (p : PayloadWriter) (b : List ℕ) → rowOf p b cs .written ≤ length cs
-unfolding rowOf
-row-few [] p b = omega arith
-row-few (c ∷ cs) p b = by (writtenOf p b c .0 .answer) (row-few cs (writtenOf p b c .0 .payload) (writtenOf p b c .1))
-  where
-    by : (w : Outcome) → rowOf (writtenOf p b c .0 .payload) (writtenOf p b c .1) cs .written ≤ length cs
-        → oneMore w (writtenOf p b c .0 .payload) (writtenOf p b c .1) (rowOf (writtenOf p b c .0 .payload) (writtenOf p b c .1) cs) .written ≤ suc (length cs)
-    by Done l = omega arith
-    by (Refused why) l = omega arith

@@ -26,6 +26,7 @@ use Rattle.idle.specs.Schedule.{idleOk}
 use Rattle.idle.specs.declared.idle.IdleTimer.{IdleTimer}
 use Rattle.idle.specs.declared.idle.IdleTimer.the-variants.{Waiting}
 use Rattle.rows.specs.Rows.{Row, rowOf, packetsFrom, fitAll, anyWords}
+use Rattle.rows.proofs.Filling.{row-few}
 use Rattle.sender.specs.Requests.{writtenCount}
 use Rattle.writing.specs.Writing.{commandsAt, Served, servedIn, servedOf, idledOf, idleAfter, writtenOff, wrote, refused, newBy, newOf, writtenBy}
 use Rattle.writing.specs.Answers.{writeRefused, writeAnswer}
@@ -34,7 +35,7 @@ use Rattle.writing.specs.declared.writing.Wrote.{Wrote}
 use Rattle.sender_log.specs.Book.{Book, oldestIn, withWaiting}
 use Rattle.sender_log.specs.Writes.{dataFrom, writtenFrom, newIn, ServedIn, servedIn as servedBy, idledIn, againIn, writtenOn, WriteIn, wrote as wroteIn, refused as refusedIn, newBy as newByIn, newWritten, writtenIn, writeIn}
 use Rattle.sender_log.specs.Calls.{TypedConfig}
-use Rattle.sender_log.proofs.Packets.{length-data, take-data, packets-data, words-data, row-few}
+use Rattle.sender_log.proofs.Packets.{length-data, take-data, packets-data, words-data}
 use Rattle.sender_log.proofs.Ties.{Follows, follows-valid, written-count, waiting-count}
 use Rattle.sender_log.proofs.Serving.{commands-written, Serves, served-follows}
 use Rattle.sender_log.proofs.Idling.{idled-follows}

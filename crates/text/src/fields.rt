@@ -7,7 +7,7 @@
 // Each reading begins at the end of the field before, and answers where its own field ends. Where
 // there is none, or none of its kind, it answers FAILED, from which every reading fails; so a call's
 // fields are right when the last reading ends at the line's end.
-ghost use Prim.Native.Nat.{_+_, _≤_, _<_, min};
+ghost use Prim.Native.Nat.{_+_, _≤_, _<_, min, max};
 ghost use lib.ListN.{length};
 ghost use Rattle.io.specs.Counts.{Counts};
 
@@ -25,26 +25,18 @@ pub struct Count {
     pub next: usize,
 }
 
-// Where the field that begins at `from` ends: at a space, or at the line's end.
-fn end(line: &[u8], from: usize) -> usize
-    requires { ⌜ from ≤ length (now line) ⌝ }
-    ensures { λ r. ⌜ (from ≤ r) × (r ≤ length (now (line .entry))) ⌝ }
+// Where what begins at `from` ends: at the next `mark`, or at the line's end.
+pub fn end(line: &[u8], from: usize, mark: u8) -> usize
+    ensures { λ r. ⌜ (from ≤ r) × (r ≤ max from (length (now (line .entry)))) ⌝ }
 {
     let mut at = from;
     while at < line.len() {
-        if line[at] == b' ' {
+        if line[at] == mark {
             return at;
         }
         at += 1;
     }
     at
-}
-
-// Where the first field ends.
-pub fn first_end(line: &[u8]) -> usize
-    ensures { λ r. ⌜ r ≤ length (now (line .entry)) ⌝ }
-{
-    end(line, 0)
 }
 
 // A decimal figure, at most `most`.
@@ -55,97 +47,71 @@ pub fn figure(line: &[u8], at: usize, most: u64) -> Field
     if line.len() <= at {
         return none;
     }
-    let next = end(line, at + 1);
+    let next = end(line, at + 1, b' ');
     if next == at + 1 {
         return none;
     }
-    let mut n: u64 = 0;
-    let mut i = at + 1;
-    while i < next {
-        let digit = decimal(line[i]);
-        if 9 < digit {
-            return none;
-        }
-        if most < digit {
-            return none;
-        }
-        if (most - digit) / 10 < n {
-            return none;
-        }
-        n = n * 10 + digit;
-        i += 1;
-    }
-    Field { n, next }
+    digits(line, at + 1, next - (at + 1), 10, most)
 }
 
-// The value of a decimal digit; more than 9 for any other byte.
-fn decimal(b: u8) -> u64 {
-    if b < b'0' {
-        return 10;
-    }
-    (b - b'0') as u64
-}
-
-// The value of a hexadecimal digit in either case; 16 for any other byte.
-fn nibble(b: u8) -> u32
-    ensures { λ r. ⌜ r ≤ 16 ⌝ }
-{
-    match b {
-        b'0'..=b'9' => (b - b'0') as u32,
-        b'A'..=b'F' => (b - b'A' + 10) as u32,
-        b'a'..=b'f' => (b - b'a' + 10) as u32,
-        _ => 16,
-    }
-}
-
-// A value of so many hexadecimal digits, at most 8, that begin at `from`.
-fn hex(line: &[u8], from: usize, digits: usize) -> Field
-    ensures { λ r. ⌜ (r .n < 0x1_0000_0000) × (min (from + digits) 0xFFFF_FFFF_FFFF_FFFF ≤ r .next) ⌝ }
-{
-    let none = Field { n: 0, next: FAILED };
-    if line.len() < digits {
-        return none;
-    }
-    if line.len() - digits < from {
-        return none;
-    }
-    let mut n: u32 = 0;
-    let mut i = 0;
-    while i < digits {
-        let digit = nibble(line[from + i]);
-        if digit == 16 {
-            return none;
-        }
-        n = n % 0x1000_0000 * 16 + digit;
-        i += 1;
-    }
-    Field {
-        n: n as u64,
-        next: from + digits,
-    }
-}
-
-// A field of so many hexadecimal digits.
-pub fn digits(line: &[u8], at: usize, digits: usize) -> Field
+// A field of so many hexadecimal digits, at most 8.
+pub fn hex(line: &[u8], at: usize, width: usize) -> Field
     ensures { λ r. ⌜ (r .n < 0x1_0000_0000) × (min (at + 1) 0xFFFF_FFFF_FFFF_FFFF ≤ r .next) ⌝ }
 {
     let none = Field { n: 0, next: FAILED };
     if line.len() <= at {
         return none;
     }
-    let read = hex(line, at + 1, digits);
-    if ends(line, read.next) {
-        return read;
+    if end(line, at + 1, b' ') - (at + 1) == width {
+        return digits(line, at + 1, width, 16, 0xFFFF_FFFF);
     }
     none
 }
 
-// Whether a field ends at this place.
-fn ends(line: &[u8], at: usize) -> bool {
-    if at < line.len() {
-        return line[at] == b' ';
+// The value of a digit in either case; 16 for any other byte.
+fn value(b: u8) -> u64
+    ensures { λ r. ⌜ r ≤ 16 ⌝ }
+{
+    match b {
+        b'0'..=b'9' => (b - b'0') as u64,
+        b'A'..=b'F' => (b - b'A' + 10) as u64,
+        b'a'..=b'f' => (b - b'a' + 10) as u64,
+        _ => 16,
     }
-    at == line.len()
+}
+
+// What so many digits say in this base that begin at `from`, where it is at most `most`.
+fn digits(line: &[u8], from: usize, width: usize, base: u64, most: u64) -> Field
+    requires { ⌜ 0 < base ⌝ }
+    ensures { λ r. ⌜ (r .n ≤ most) × (min (from + width) 0xFFFF_FFFF_FFFF_FFFF ≤ r .next) ⌝ }
+{
+    let none = Field { n: 0, next: FAILED };
+    if line.len() < width {
+        return none;
+    }
+    if line.len() - width < from {
+        return none;
+    }
+    let mut n: u64 = 0;
+    let mut i = 0;
+    while i < width {
+        let digit = value(line[from + i]);
+        if base <= digit {
+            return none;
+        }
+        if most < digit {
+            return none;
+        }
+        if (most - digit) / base < n {
+            return none;
+        }
+        n = n * base + digit;
+        i += 1;
+    }
+    Field {
+        n,
+        next: from + width,
+    }
 }
 
 // The words that are left in the line, as many as there is room for.
@@ -158,7 +124,7 @@ pub fn words(line: &[u8], at: usize, into: &mut [u32]) -> Count
         if n == into.len() {
             return Count { n, next: FAILED };
         }
-        let read = digits(line, next, 8);
+        let read = hex(line, next, 8);
         into[n] = read.n as u32;
         n += 1;
         next = read.next;
@@ -179,8 +145,8 @@ pub fn bytes(line: &[u8], at: usize, into: &mut [u8]) -> Count
         if n == into.len() {
             return Count { n, next: FAILED };
         }
-        let read = hex(line, next, 2);
-        into[n] = (read.n % 0x100) as u8;
+        let read = digits(line, next, 2, 16, 0xFF);
+        into[n] = read.n as u8;
         n += 1;
         next = read.next;
     }

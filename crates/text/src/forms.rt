@@ -39,12 +39,9 @@ fn past(table: &[u8], from: usize) -> usize
     requires { ⌜ from < length (now table) ⌝ }
     ensures { λ r. ⌜ (from < r) × (r ≤ length (now (table .entry))) ⌝ }
 {
-    let mut at = from;
-    while at < table.len() {
-        if table[at] == b'|' {
-            return at + 1;
-        }
-        at += 1;
+    let at = fields::end(table, from, b'|');
+    if at < table.len() {
+        return at + 1;
     }
     at
 }
@@ -101,7 +98,7 @@ fn most(letter: u8) -> u64 {
 
 fn field(line: &[u8], at: usize, letter: u8) -> Field {
     if letter == b'x' {
-        return fields::digits(line, at, 2);
+        return fields::hex(line, at, 2);
     }
     fields::figure(line, at, most(letter))
 }
@@ -150,7 +147,7 @@ fn filled(
 pub fn read(table: &[u8], line: &[u8], figures: &mut [u64], words: &mut [u32]) -> Call
     ensures { λ r. ⌜ Counts (r .words) (now (words .exit)) ⌝ }
 {
-    let end = fields::first_end(line);
+    let end = fields::end(line, 0, b' ');
     let entry = find(table, line, end);
     if entry.kind == 0 {
         return Call { kind: 0, words: 0 };
@@ -192,7 +189,9 @@ fn letter(buf: &mut [u8], used: usize, letter: u8, n: u64) -> usize {
 }
 
 // The place of an entry of a table.
-fn place(table: &[u8], entry: usize) -> usize {
+fn place(table: &[u8], entry: usize) -> usize
+    ensures { λ r. ⌜ r ≤ length (now (table .entry)) ⌝ }
+{
     let mut at = 0;
     let mut k = 0;
     while k < entry {
@@ -210,11 +209,9 @@ pub fn say(buf: &mut [u8], used: usize, table: &[u8], said: Answer) -> usize {
     let mut o = used;
     let mut rest = said;
     let mut at = place(table, said.form);
-    while at < table.len() {
+    let end = fields::end(table, at, b'|');
+    while at < end {
         let b = table[at];
-        if b == b'|' {
-            return o;
-        }
         o = letter(buf, o, b, rest.a);
         rest = rest.after(b);
         at += 1;

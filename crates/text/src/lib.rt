@@ -8,7 +8,7 @@
 //   out      adds bytes and digits to a block of output, which is written when it is full
 //
 // Nothing here knows a call or a stream. A field that is not right has no value: reading answers FAILED,
-// or the call 0. No function asks anything of its caller but a place inside of the line.
+// or the call 0. No public function asks anything of its caller.
 pub mod fields;
 pub mod forms;
 pub mod lines;

@@ -7,6 +7,7 @@
 // where its last byte is a carriage return.
 ghost use Prim.Native.Nat.{_-_, _≤_};
 ghost use Rattle.io.specs.Counts.{Counts};
+use super::fields;
 use super::out;
 
 // The most bytes of a line.
@@ -68,14 +69,11 @@ fn put(line: &mut [u8], used: usize, b: u8) -> usize {
 
 // Gathers the input's bytes from place `from` on, up to a newline or the block's end.
 fn gather(line: &mut [u8], used: usize, input: &[u8], from: usize) -> Part {
+    let end = fields::end(input, from, b'\n');
     let mut n = used;
     let mut at = from;
-    while at < input.len() {
-        let b = input[at];
-        if b == b'\n' {
-            return Part { used: n, at };
-        }
-        n = put(line, n, b);
+    while at < end {
+        n = put(line, n, input[at]);
         at += 1;
     }
     Part { used: n, at }

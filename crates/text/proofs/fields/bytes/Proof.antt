@@ -29,8 +29,8 @@ same-length c = search needs
 returns-2 : tie.Need-returns-2 Inv-loop μ-loop
 returns-2 c = counts _ _ (search needs)
 
-hex-requires : tie.Need-hex-requires Inv-loop μ-loop
-hex-requires c κs = search needs
+digits-requires : tie.Need-digits-requires Inv-loop μ-loop
+digits-requires c κs = search needs
 
 cast-into : tie.Need-cast-into Inv-loop μ-loop
 cast-into c = search needs
@@ -70,7 +70,7 @@ bytes-spec =
     loop-holds
     same-length
     returns-2
-    hex-requires
+    digits-requires
     cast-into
     slice-write-into
     add-n

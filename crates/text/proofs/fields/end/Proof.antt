@@ -1,15 +1,15 @@
--- The place stays between the field's first byte and the line's end.
-use Prim.Native.Nat.{_-_, _≤_}
+-- The place stays between the first byte and the line's end.
+use Prim.Native.Nat.{_-_, _≤_, max}
 use borrow.Author.Needs.{needs}
 use lib.ListN.{length}
 use Rattle.text.proofs.fields.end.Statement.{statement}
 use Rattle.text.proofs.fields.end.Tie as tie
 
 abbrev Inv-loop : tie.InvT-loop
-Inv-loop line from at₀ at = (from ≤ at) × (at ≤ length line)
+Inv-loop line from mark at₀ at = (from ≤ at) × (at ≤ max from (length line))
 
 abbrev μ-loop : tie.MeasureT-loop
-μ-loop line from at₀ at = length line - at
+μ-loop line from mark at₀ at = length line - at
 
 loop-holds : tie.Need-loop-holds Inv-loop μ-loop
 loop-holds c = search needs

@@ -23,8 +23,8 @@ same-length c = search needs
 returns : tie.Need-returns Inv-loop μ-loop
 returns c = counts _ _ (search needs)
 
-digits-requires : tie.Need-digits-requires Inv-loop μ-loop
-digits-requires c κs = search needs
+hex-requires : tie.Need-hex-requires Inv-loop μ-loop
+hex-requires c κs = search needs
 
 cast-into : tie.Need-cast-into Inv-loop μ-loop
 cast-into c = search needs
@@ -59,7 +59,7 @@ words-spec =
     loop-holds
     same-length
     returns
-    digits-requires
+    hex-requires
     cast-into
     mul-into
     slice-write-into
