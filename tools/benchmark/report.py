@@ -43,11 +43,11 @@ def table(rows):
 
 
 # The most that a row's time may be of the Rust's, by how its name begins: what is aimed at, and for whole rounds what they were
-# before a stream's words were packed.
+# in 0.2.1, before a stream's words were packed.
 GOALS = {
     "hear a command": 1.0, "poll": 2.5, "accept a number": 0.9, "write a command, 1 word": 1.3,
-    "a whole round, 1 word, history 256": 0.50, "a whole round, 1 to 4 words": 1.00, "a whole round, 16 words": 0.74,
-    "a whole round, 192 words": 0.29, "a whole round, 1 word, history 4096": 0.27,
+    "a whole round, 1 word, history 256": 0.48, "a whole round, 1 to 4 words": 0.98, "a whole round, 16 words": 0.74,
+    "a whole round, 192 words": 0.31, "a whole round, 1 word, history 4096": 0.21,
 }
 
 
