@@ -1,16 +1,18 @@
--- 01, "Session cases": those marked P, as one table of the definitions; "State test": payloads that no call leaves.
+-- 01, "Session cases": those marked P, as one table of the definitions; "State test": payloads and histories that no call leaves; "Numbers of each operation", 4: words that no command has.
 use Prim.Native.Nat.{ℕ, zero, suc, _≤_}
 use mathlib.Core.Bool.{false}
 use mathlib.Core.List.{List, [], _∷_}
 use mathlib.Core.Path.{_≡_}
-use lib.ListN.{take, replicate}
+use lib.ListN.{take, replicate, set}
 use Rattle.config.specs.Settings.{defaults}
-use Rattle.config.specs.declared.refusal.Refusal.the-variants.{TooLarge, InvalidState}
+use Rattle.config.specs.declared.refusal.Refusal.the-variants.{TooLarge, InvalidValue, InvalidState}
 use Rattle.packet.specs.Bytes.{bytesOf}
 use Rattle.packet.specs.Layout.{packet}
 use Rattle.packet.specs.Write.{refusedOf, writtenOf}
 use Rattle.packet.specs.declared.writer.PayloadWriter.{PayloadWriter}
-use Rattle.config.specs.declared.answer.Outcome.the-variants.{Done}
+use Rattle.packet.specs.declared.writer.Wrote.{Wrote as PayloadWrote}
+use Rattle.config.specs.declared.answer.Outcome.{Outcome}
+use Rattle.config.specs.declared.answer.Outcome.the-variants.{Done, Refused}
 use Rattle.command.specs.Write.{requestPacket}
 use Rattle.window.specs.Answers.{newAnswer, acceptAnswer, missingAnswer, requestAnswer}
 use Rattle.window.specs.Window.{fresh}
@@ -118,6 +120,24 @@ pub record PayloadTest : Type 0 where
   pub uneven : Refuses (unmade 10 1400)
   pub limit-below : Refuses (unmade 0 7)
   pub limit-above : Refuses (unmade 0 1401)
+
+-- ---- words of a command: 255 are written, and 256 are refused with 4, and no byte is written
+abbrev pub wrote : ℕ → PayloadWrote × List ℕ
+wrote n = writtenOf (empty 1400) (replicate 1400 0) (packet 0x77 1 2 (replicate n 7))
+
+pub record WordsTest : Type 0 where
+  pub most : wrote 255 .0 .answer ≡ Done
+  pub above : wrote 256 ≡ (refusedOf (empty 1400) InvalidValue, replicate 1400 0)
+
+-- ---- histories that no call leaves: of two commands of one word, number 0 at place 0 and number 1 at place 2, one has another number
+-- what queueing answers where the header at a place is this one
+abbrev pub queuedOver : ℕ → ℕ → Outcome
+queuedOver place header = sendAnswer (again .0 .sender) defaults (set (again .1) place header) (0x20903C40 ∷ []) .0 .answer
+
+pub record HistoryTest : Type 0 where
+  pub as-left : (queuedOver 0 0x00000001 ≡ Done) × (queuedOver 2 0x00010001 ≡ Done)
+  pub oldest : queuedOver 0 0x00020001 ≡ Refused InvalidState
+  pub newest : queuedOver 2 0x00020001 ≡ Refused InvalidState
 
 -- ---- the idle times: data written at 0, and an idle command written at each due time
 abbrev pub wroteAt : Sender × List ℕ → ℕ → Sender × List ℕ

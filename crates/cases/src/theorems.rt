@@ -1,5 +1,5 @@
 // Theorems as contracts: each of these functions does nothing, and its contract is the theorem.
-ghost use Rattle.cases.specs.Cases.{Table, PayloadTest, IdleTimes};
+ghost use Rattle.cases.specs.Cases.{Table, PayloadTest, WordsTest, HistoryTest, IdleTimes};
 
 pub fn session_cases()
     ensures { λ _. ⌜ Table ⌝ }
@@ -7,6 +7,14 @@ pub fn session_cases()
 
 pub fn payload_test()
     ensures { λ _. ⌜ PayloadTest ⌝ }
+{}
+
+pub fn words_test()
+    ensures { λ _. ⌜ WordsTest ⌝ }
+{}
+
+pub fn history_test()
+    ensures { λ _. ⌜ HistoryTest ⌝ }
 {}
 
 pub fn idle_times()
