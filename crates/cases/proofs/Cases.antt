@@ -36,7 +36,7 @@ use Rattle.sender.specs.Queueing.{roomOf, needOf, joinedTo, pushedAll, queuedTo
 use Rattle.writing.specs.Writing.{servedIn, servedOf, idledOf, writtenOff, newOf as newSent, writtenBy}
 use Rattle.sender.specs.Answers.{sendAnswer}
 use Rattle.writing.specs.Answers.{writeAnswer}
-use Rattle.cases.specs.Cases.{range, Table, PayloadTest, WordsTest, HistoryTest, duesFrom, IdleTimes}
+use Rattle.cases.specs.Cases.{range, Table, PayloadTest, WordsTest, HistoryTest, MessagesTest, duesFrom, IdleTimes}
 
 -- the lost set has 32,702 positions: its ends come from laws and are not computed
 lost-far : spanOf 32766 64 (lostOf 64 0 32767) ≡ range 0 32702
@@ -99,6 +99,10 @@ words-test = record { most = refl; above = refl }
 pub history-test : HistoryTest
 unfolding typeWords divided messagesOf wholeOf slotOf ringStored ringRead headerAt wordsFrom numbered stateOk walkOk popOne popped grown pushed longer appended entryPacket fitting front behind commandsIn commandsOf longMessage above senderValid roomOf needOf joinedTo pushedAll queuedTo queuedOf wordsCheck placedOf sentOf rowOf packetsFrom servedIn servedOf idleNext idledOf sizesOf repeatsOf anyWords writtenOff newSent writtenBy sendAnswer writeAnswer checkOf payloadValid writtenOf bytesOf spliced
 history-test = record { as-left = (refl, refl); oldest = refl; newest = refl }
+
+pub messages-test : MessagesTest
+unfolding typeWords divided messagesOf
+messages-test = record { cut-last = refl; whole-last = refl }
 
 pub idle-times : IdleTimes
 unfolding duesFrom typeWords divided messagesOf wholeOf slotOf ringStored ringRead headerAt wordsFrom numbered stateOk walkOk popOne popped grown pushed longer appended entryPacket fitting front behind commandsIn commandsOf longMessage above senderValid roomOf needOf joinedTo pushedAll queuedTo queuedOf wordsCheck placedOf sentOf rowOf packetsFrom servedIn servedOf idleNext idledOf sizesOf repeatsOf anyWords writtenOff newSent writtenBy sendAnswer writeAnswer checkOf payloadValid writtenOf bytesOf spliced

@@ -1,6 +1,6 @@
--- 01, "Session cases": those marked P, as one table of the definitions; "State test": payloads and histories that no call leaves; "Numbers of each operation", 4: words that no command has.
+-- 01, "Session cases": those marked P, as one table of the definitions; "State test": payloads and histories that no call leaves; "Numbers of each operation", 4: words that no command has; messages by their types.
 use Prim.Native.Nat.{ℕ, zero, suc, _≤_}
-use mathlib.Core.Bool.{false}
+use mathlib.Core.Bool.{true, false}
 use mathlib.Core.List.{List, [], _∷_}
 use mathlib.Core.Path.{_≡_}
 use lib.ListN.{take, replicate, set}
@@ -14,6 +14,7 @@ use Rattle.packet.specs.declared.writer.Wrote.{Wrote as PayloadWrote}
 use Rattle.config.specs.declared.answer.Outcome.{Outcome}
 use Rattle.config.specs.declared.answer.Outcome.the-variants.{Done, Refused}
 use Rattle.command.specs.Write.{requestPacket}
+use Rattle.command.specs.Messages.{messagesOf}
 use Rattle.window.specs.Answers.{newAnswer, acceptAnswer, missingAnswer, requestAnswer}
 use Rattle.window.specs.Window.{fresh}
 use Rattle.window.specs.declared.window.Acceptance.the-variants.{Heard}
@@ -138,6 +139,12 @@ pub record HistoryTest : Type 0 where
   pub as-left : (queuedOver 0 0x00000001 ≡ Done) × (queuedOver 2 0x00010001 ≡ Done)
   pub oldest : queuedOver 0 0x00020001 ≡ Refused InvalidState
   pub newest : queuedOver 2 0x00020001 ≡ Refused InvalidState
+
+-- ---- messages: the type is in the top four bits of the first word, and a message that is cut has no words
+pub record MessagesTest : Type 0 where
+  -- of type 2, one word; of type 4, two; of type B, two of its three
+  pub cut-last : messagesOf (0x2090003B ∷ 0x4090000B ∷ 7 ∷ 0xB0000002 ∷ 7 ∷ []) ≡ record { whole = (0x2090003B ∷ []) ∷ (0x4090000B ∷ 7 ∷ []) ∷ []; cut = true }
+  pub whole-last : messagesOf (0xB0000002 ∷ 7 ∷ 8 ∷ []) ≡ record { whole = (0xB0000002 ∷ 7 ∷ 8 ∷ []) ∷ []; cut = false }
 
 -- ---- the idle times: data written at 0, and an idle command written at each due time
 abbrev pub wroteAt : Sender × List ℕ → ℕ → Sender × List ℕ

@@ -1,5 +1,5 @@
 // 01's session cases that are marked P, as one table of the definitions, its idle times, what its state test
-// says of payloads and histories that no call leaves, and how many words a command has.
+// says of payloads and histories that no call leaves, how many words a command has, and messages by their types.
 //
 // There is no state and no code here. Each function of `theorems` does nothing, and its contract is a
 // theorem:
@@ -8,6 +8,7 @@
 //   payload_test    13 for a payload whose length or limit no call leaves
 //   words_test      255 words are written, and 256 refused with 4
 //   history_test    13 for a history with a header that no call leaves, the newest too
+//   messages_test   how words divide into messages by their types, the last one cut
 //   idle_times      when idle commands are written after data at 0
 //
 // The cases of the codec that are not marked P go through the program `replay`.

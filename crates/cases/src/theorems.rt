@@ -1,5 +1,5 @@
 // Theorems as contracts: each of these functions does nothing, and its contract is the theorem.
-ghost use Rattle.cases.specs.Cases.{Table, PayloadTest, WordsTest, HistoryTest, IdleTimes};
+ghost use Rattle.cases.specs.Cases.{Table, PayloadTest, WordsTest, HistoryTest, MessagesTest, IdleTimes};
 
 pub fn session_cases()
     ensures { λ _. ⌜ Table ⌝ }
@@ -15,6 +15,10 @@ pub fn words_test()
 
 pub fn history_test()
     ensures { λ _. ⌜ HistoryTest ⌝ }
+{}
+
+pub fn messages_test()
+    ensures { λ _. ⌜ MessagesTest ⌝ }
 {}
 
 pub fn idle_times()
