@@ -35,8 +35,8 @@ extern "C" {
  * not. docs/CHANGELOG.md says what each brought. */
 #define SIRMJOLD_VERSION_MAJOR 0
 #define SIRMJOLD_VERSION_MINOR 3
-#define SIRMJOLD_VERSION_PATCH 0
-#define SIRMJOLD_VERSION "0.3.0"
+#define SIRMJOLD_VERSION_PATCH 1
+#define SIRMJOLD_VERSION "0.3.1"
 
 /* The words of a stream, of a payload, of a window alone, and of the settings. */
 #define SIRMJOLD_STREAM_WORDS 20

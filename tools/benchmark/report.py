@@ -81,7 +81,7 @@ CAUSES = (
     ("hear a payload by commands", "two calls for each command, one that leaves its words in the caller's array and one that tests settings and words; the Rust's loop has one"),
     ("hear a payload in one call", "the words of both ends and the settings are tested; each answer is stored in the caller's array"),
     ("hear a command", "the receiver's words and the settings are tested, loaded and stored; the window's size is a value"),
-    ("poll", "the receiver's words and the settings are tested; in the Rust one comparison is all"),
+    ("poll", "the settings and the receiver's words are tested, which is nearly all of it; in the Rust one comparison is all"),
     ("queue and write in one call", "the history's headers are walked once to test the state; the Rust has no such test"),
     ("queue and write", "each of the two calls walks the history's headers to test its state"),
     ("serve a request", "two walks over the history's headers, each of them a call's state test; the Rust has one"),

@@ -5,7 +5,7 @@ use Rattle.c_words.specs.Entry.{wordsEntry}
 use Rattle.c_words.specs.Settings.{settingsCheck}
 use Rattle.c_words.specs.Limits.{within}
 use Rattle.c_state.specs.Pack.{fourIn, word, twoIn, pair, flagsIn, flagsNumber, held}
-use Rattle.c_state.specs.Receiver.{receiverWords, receiverOf, receiverHolds}
+use Rattle.c_state.specs.Receiver.{receiverWords, receiverOf, holdsButTimer, receiverHolds}
 use Rattle.c_state.specs.Sender.{figureWords, requestWords, senderWords, firstIn, secondIn, requestsIn, senderOf, senderHolds}
 use Rattle.c_state.specs.Stream.{receiverFits, senderFits, fits, loaded, stored}
 use Rattle.packet.specs.Bytes.{wordsOf, spliced}
@@ -29,5 +29,5 @@ use Rattle.c_hearing.specs.Exports.{openedAt, hearExport}
 use Rattle.c_hearing.specs.Theorems.{HearsBoth}
 
 pub hears-both : HearsBoth
-unfolding checkOf wordsEntry settingsCheck within fourIn word twoIn pair flagsIn flagsNumber held receiverWords receiverOf receiverHolds figureWords requestWords senderWords firstIn secondIn requestsIn senderOf senderHolds receiverFits senderFits fits loaded stored wordsOf spliced signed nextOf bodyOf parsedOf validOf missingOf spanOf classOf movedOf lostOf newOf acceptOf val setOf topIn topOf bottomOf receiver-validOf settledOf heardOf dataAnswer slotOf ringRead walkOk stateOk sender-validOf requestedOf requestAnswer stream-requestAnswer stream-dataAnswer dataGiven requestGiven answered wholeTurn hearFrom openedAt hearExport numbered wordsFrom
+unfolding checkOf wordsEntry settingsCheck within fourIn word twoIn pair flagsIn flagsNumber held receiverWords receiverOf receiverHolds holdsButTimer figureWords requestWords senderWords firstIn secondIn requestsIn senderOf senderHolds receiverFits senderFits fits loaded stored wordsOf spliced signed nextOf bodyOf parsedOf validOf missingOf spanOf classOf movedOf lostOf newOf acceptOf val setOf topIn topOf bottomOf receiver-validOf settledOf heardOf dataAnswer slotOf ringRead walkOk stateOk sender-validOf requestedOf requestAnswer stream-requestAnswer stream-dataAnswer dataGiven requestGiven answered wholeTurn hearFrom openedAt hearExport numbered wordsFrom
 hears-both = record { both = (refl, refl); first = (refl, refl); then = (refl, refl) }

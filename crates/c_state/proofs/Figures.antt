@@ -13,7 +13,7 @@ use Rattle.idle.specs.declared.idle.IdleTimer.the-variants.{Waiting}
 use Rattle.stream.specs.State.{fresh}
 use Rattle.stream.specs.declared.stream.DataStream.{DataStream}
 use Rattle.c_state.specs.Pack.{fourIn, word, twoIn, pair, flagsIn, flagsNumber, held}
-use Rattle.c_state.specs.Receiver.{receiverWords, receiverHolds}
+use Rattle.c_state.specs.Receiver.{receiverWords, holdsButTimer, receiverHolds}
 use Rattle.c_state.specs.Sender.{figureWords, requestWords, senderWords, senderHolds}
 use Rattle.c_state.specs.Stream.{receiverFits, senderFits, fits, stored}
 
@@ -64,21 +64,21 @@ unfolding busy busyWords stored receiverWords senderWords figureWords requestWor
 busy-words = refl
 
 busy-taken : fits busyWords ≡ true
-unfolding busyWords fits receiverFits senderFits receiverHolds senderHolds fourIn twoIn flagsIn held
+unfolding busyWords fits receiverFits senderFits receiverHolds holdsButTimer senderHolds fourIn twoIn flagsIn held
 busy-taken = refl
 
 -- ---- words that are no stream's
 -- a position above the set's two words, a fifth flag, a due time beside a timer that does not run
 upper-refused : receiverFits (set busyWords 2 1) ≡ false
-unfolding busyWords receiverFits receiverHolds fourIn twoIn flagsIn held
+unfolding busyWords receiverFits receiverHolds holdsButTimer fourIn twoIn flagsIn held
 upper-refused = refl
 
 flag-refused : receiverFits (set busyWords 6 4096) ≡ false
-unfolding busyWords receiverFits receiverHolds fourIn twoIn flagsIn held
+unfolding busyWords receiverFits receiverHolds holdsButTimer fourIn twoIn flagsIn held
 flag-refused = refl
 
 due-refused : receiverFits (set freshWords 4 1) ≡ false
-unfolding freshWords receiverFits receiverHolds fourIn twoIn flagsIn held
+unfolding freshWords receiverFits receiverHolds holdsButTimer fourIn twoIn flagsIn held
 due-refused = refl
 
 -- a second flag of the sender, an idle step beside a timer that is off

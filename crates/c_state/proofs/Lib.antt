@@ -9,6 +9,7 @@ pub mod Ends
 mod Choices
 mod ReceiverSizes
 mod Hearings
+pub mod Waiting
 mod SenderSizes
 pub mod Narrow
 pub mod Unchanged

@@ -1,13 +1,15 @@
 -- A receiver and its words.
 use mathlib.Core.Path.{_≡_, refl, ap, sym, _∙_}
-use mathlib.Core.Bool.{Bool, true, false}
+use mathlib.Core.Bool.{Bool, true, false, _&&_}
+use mathlib.Core.Logic.{inl, inr, _⊎_}
 use mathlib.Core.List.{List, [], _∷_}
 use Prim.Native.Nat.{ℕ, _/_, _≤_, _<_}
 use native.Mathlib.Omega.{arith}
 use lib.ListN.{length}
-use lib.Dec.{eqb, leb}
+use lib.Bits.{bitOr}
+use lib.Dec.{eqb, leb, ltb}
 use borrow.Author.Tests.{eq-eqb, ne-eqb, eqb-true, le-leb, lt-leb, leb-true}
-use Rattle.config.specs.inner.Tests.{and-left, and-right}
+use Rattle.config.specs.inner.Tests.{split, and-left, and-right}
 use Rattle.window.specs.declared.window.ReceiveWindow.{ReceiveWindow}
 use Rattle.receiver.specs.declared.receiver.Receiver.{Receiver}
 use Rattle.receiver.specs.declared.receiver.RequestTimer.{RequestTimer}
@@ -17,7 +19,8 @@ use Rattle.receiver.specs.declared.receiver.Asked.{Asked}
 use Rattle.receiver.specs.declared.receiver.Asked.the-variants.{Nothing, Request}
 use Rattle.command.specs.declared.retransmit.RetransmitRequest.{RetransmitRequest}
 use Rattle.c_state.specs.Pack.{fourIn, word, twoIn, pair, flagsIn, flagsNumber, held}
-use Rattle.c_state.specs.Receiver.{at, timerIn, askedIn, timerWords, askedWords, receiverWords, withWindow, receiverOf, receiverHolds}
+use Rattle.c_state.specs.Receiver.{at, timerIn, askedIn, timerWords, askedWords, receiverWords, withWindow, receiverOf, holdsButTimer, receiverHolds}
+use Rattle.c_state.specs.Receiving.{notDue}
 use Rattle.c_state.specs.Theorems.{ReceiverSmall}
 use Rattle.c_state.specs.declared.pack.Quarters.{Quarters}
 use Rattle.c_state.specs.declared.pack.Halves.{Halves}
@@ -25,6 +28,7 @@ use Rattle.c_state.specs.declared.pack.Flags.{Flags}
 use Rattle.c_state.specs.declared.receiver_part.TimerWords.{TimerWords}
 use Rattle.c_state.specs.declared.receiver_part.AskedWords.{AskedWords}
 use Rattle.c_state.proofs.Packed.{word-four, four-word, pair-two, two-pair, number-flags, flags-number, number-small, high-small, pair-small, by-flag, held-upper}
+use Rattle.c_words.proofs.Within.{and-true, or-left, or-right}
 use Rattle.c_words.proofs.Runs.{run, run-all}
 
 -- ---- the timer and the request, by their flags
@@ -89,7 +93,7 @@ module _ (r : Receiver) (small : ReceiverSmall r) where
   receiver-back = rw (figures, sent-and-flags, flags-number fl) (parts _ _ (timer-back (r .timer)) (asked-back (r .asked)))
 
   pub receiver-holds : receiverHolds (receiverWords r) ≡ true
-  unfolding receiverHolds receiverWords
+  unfolding receiverHolds holdsButTimer receiverWords
   receiver-holds =
       rw (
         figures,
@@ -131,17 +135,17 @@ module _ (ws : List ℕ) where
   g = flagsIn (s .high)
 
   pub holds : receiverHolds ws ≡ true → Holds ws
-  unfolding receiverHolds
+  unfolding receiverHolds holdsButTimer
   holds e =
-      let r1 = and-right (eqb (at ws 2) 0) _ e in
+      let r0 = and-left (holdsButTimer ws) _ e in
+      let r1 = and-right (eqb (at ws 2) 0) _ r0 in
       let r2 = and-right (eqb (at ws 3) 0) _ r1 in
-      let r3 = and-right (leb (at ws 6) 4095) _ r2 in
       record {
-        upper = eqb-true (at ws 2) 0 (and-left (eqb (at ws 2) 0) _ e);
+        upper = eqb-true (at ws 2) 0 (and-left (eqb (at ws 2) 0) _ r0);
         top = eqb-true (at ws 3) 0 (and-left (eqb (at ws 3) 0) _ r1);
         flags = leb-true (at ws 6) 4095 (and-left (leb (at ws 6) 4095) _ r2);
-        timer = and-left (held (g .timer) (at ws 4) (s .low) 0) _ r3;
-        asked = and-right (held (g .timer) (at ws 4) (s .low) 0) _ r3;
+        timer = and-right (holdsButTimer ws) _ e;
+        asked = and-right (leb (at ws 6) 4095) _ r2;
       }
 
   receiver-run : Holds ws → receiverWords (receiverOf ws) ≡ run ws 0 7
@@ -161,11 +165,15 @@ module _ (ws : List ℕ) where
   receiver-again l e = receiver-run (holds e) ∙ run-all ws 7 (sym l)
 
   -- ---- what the code makes
-  pub receiver-made : (p : Quarters) (m : Halves) (on : Flags) (t : Timer) (a : Asked) → p ≡ q → m ≡ s → on ≡ flagsIn (m .high)
-      → t ≡ timerIn (on .timer) (at ws 4) (m .low) → a ≡ askedIn (on .asked) (p .c) (p .d)
-      → record { window = record { size = p .b; highest = p .a; bits = record { low = at ws 0; high = at ws 1 } }; timer = t; «request_due» = on .«request_due»; refused = on .refused; asked = a } ≡ receiverOf ws
+  pub window-made : (p : Quarters) → p ≡ q → record { size = p .b; highest = p .a; bits = record { low = at ws 0; high = at ws 1 } } ≡ receiverOf ws .window
   unfolding receiverOf
-  receiver-made p m on t a ep em eo et ea = rw (et, ea, eo, em, ep)
+  window-made p ep = rw ep
+
+  pub receiver-made : (p : Quarters) (m : Halves) (on : Flags) (w : ReceiveWindow) (t : Timer) (a : Asked) → p ≡ q → m ≡ s → on ≡ flagsIn (m .high) → w ≡ receiverOf ws .window
+      → t ≡ timerIn (on .timer) (at ws 4) (m .low) → a ≡ askedIn (on .asked) (p .c) (p .d)
+      → record { window = w; timer = t; «request_due» = on .«request_due»; refused = on .refused; asked = a } ≡ receiverOf ws
+  unfolding receiverOf
+  receiver-made p m on w t a ep em eo ew et ea = rw (ew, et, ea, eo, em, ep)
 
   pub window-words : (p : Quarters) (v : ReceiveWindow) (f : ℕ) → receiverHolds ws ≡ true → p ≡ q → f ≡ word (v .highest) (v .size) (p .c) (p .d)
       → v .bits .low ∷ v .bits .high ∷ at ws 2 ∷ at ws 3 ∷ at ws 4 ∷ f ∷ at ws 6 ∷ [] ≡ receiverWords (withWindow (receiverOf ws) v)
@@ -177,29 +185,54 @@ module _ (ws : List ℕ) where
       (ap (λ (x : ℕ). v .bits .low ∷ v .bits .high ∷ 0 ∷ 0 ∷ at ws 4 ∷ word (v .highest) (v .size) (q .c) (q .d) ∷ x ∷ []) (sym flags))
 
   -- ---- the tests, one by one
-  pub upper-fails : (at ws 2 ≡ 0 → ⊥) → false ≡ receiverHolds ws
+  pub upper-fails : (bitOr (at ws 2) (at ws 3) ≡ 0 → ⊥) → false ≡ holdsButTimer ws
+  unfolding holdsButTimer
+  upper-fails h = by (split (eqb (at ws 2) 0))
+    where
+      by : (eqb (at ws 2) 0 ≡ true) ⊎ (eqb (at ws 2) 0 ≡ false) → false ≡ holdsButTimer ws
+      by (inl e) = rw (e, ne-eqb (at ws 3) 0 (λ z. h (ap (λ (x : ℕ). bitOr x (at ws 3)) (eqb-true (at ws 2) 0 e) ∙ z)))
+      by (inr e) = rw e
+
+  module _ (none : bitOr (at ws 2) (at ws 3) ≡ 0) where
+    upper : at ws 2 ≡ 0
+    upper = omega (arith, none, or-left (at ws 2) (at ws 3))
+
+    top : at ws 3 ≡ 0
+    top = omega (arith, none, or-right (at ws 2) (at ws 3))
+
+    pub flags-fail : 4095 < at ws 6 → false ≡ holdsButTimer ws
+    unfolding holdsButTimer
+    flags-fail h = rw (eq-eqb (at ws 2) 0 upper, eq-eqb (at ws 3) 0 top, lt-leb (at ws 6) 4095 h)
+
+    pub asked-last : at ws 6 ≤ 4095 → (m : Halves) (on : Flags) → m ≡ s → on ≡ flagsIn (m .high) → held (on .asked) (at ws 5 / 4294967296) 0 0 ≡ holdsButTimer ws
+    unfolding holdsButTimer
+    asked-last h m on em eo =
+        rw (eq-eqb (at ws 2) 0 upper, eq-eqb (at ws 3) 0 top, le-leb (at ws 6) 4095 h, eo, em) (held-upper (g .asked) (at ws 5))
+
+  pub but-timer-flags : holdsButTimer ws ≡ true → at ws 6 ≤ 4095
+  unfolding holdsButTimer
+  but-timer-flags e =
+      leb-true (at ws 6) 4095 (and-left (leb (at ws 6) 4095) _ (and-right (eqb (at ws 3) 0) _ (and-right (eqb (at ws 2) 0) _ e)))
+
+  pub but-timer-fails : holdsButTimer ws ≡ false → false ≡ receiverHolds ws
   unfolding receiverHolds
-  upper-fails h = rw (ne-eqb (at ws 2) 0 h)
+  but-timer-fails e = rw e
 
-  module _ (upper : at ws 2 ≡ 0) where
-    pub top-fails : (at ws 3 ≡ 0 → ⊥) → false ≡ receiverHolds ws
+  pub rests-fails : (time : ℕ) → holdsButTimer ws ≡ false → false ≡ (receiverHolds ws && notDue (receiverOf ws .timer) time)
+  rests-fails time e = ap (λ (b : Bool). b && notDue (receiverOf ws .timer) time) (but-timer-fails e)
+
+  module _ (rest : holdsButTimer ws ≡ true) (m : Halves) (on : Flags) (em : m ≡ s) (eo : on ≡ flagsIn (m .high)) where
+    pub timer-last : held (on .timer) (at ws 4) (m .low) 0 ≡ receiverHolds ws
     unfolding receiverHolds
-    top-fails h = rw (eq-eqb (at ws 2) 0 upper, ne-eqb (at ws 3) 0 h)
+    timer-last = rw (rest, eo, em)
 
-    module _ (top : at ws 3 ≡ 0) where
-      pub flags-fail : 4095 < at ws 6 → false ≡ receiverHolds ws
-      unfolding receiverHolds
-      flags-fail h = rw (eq-eqb (at ws 2) 0 upper, eq-eqb (at ws 3) 0 top, lt-leb (at ws 6) 4095 h)
+    flag : on .timer ≡ g .timer
+    flag = ap (λ (f : Flags). f .timer) eo ∙ ap (λ (h : Halves). flagsIn (h .high) .timer) em
 
-      module _ (flags : at ws 6 ≤ 4095) (m : Halves) (on : Flags) (em : m ≡ s) (eo : on ≡ flagsIn (m .high)) where
-        pub timer-fails : held (on .timer) (at ws 4) (m .low) 0 ≡ false → false ≡ receiverHolds ws
-        unfolding receiverHolds
-        timer-fails h =
-            let k : held (g .timer) (at ws 4) (s .low) 0 ≡ false = rw (eo, em) at h in
-            rw (eq-eqb (at ws 2) 0 upper, eq-eqb (at ws 3) 0 top, le-leb (at ws 6) 4095 flags, k)
+    pub running-rests : (time : ℕ) → on .timer ≡ true → ltb time (at ws 4) ≡ (receiverHolds ws && notDue (receiverOf ws .timer) time)
+    unfolding receiverHolds receiverOf held
+    running-rests time e = let k : g .timer ≡ true = sym flag ∙ e in rw (rest, k)
 
-        pub asked-last : held (on .timer) (at ws 4) (m .low) 0 ≡ true → held (on .asked) (at ws 5 / 4294967296) 0 0 ≡ receiverHolds ws
-        unfolding receiverHolds
-        asked-last h =
-            let k : held (g .timer) (at ws 4) (s .low) 0 ≡ true = rw (eo, em) at h in
-            rw (eq-eqb (at ws 2) 0 upper, eq-eqb (at ws 3) 0 top, le-leb (at ws 6) 4095 flags, k, eo, em) (held-upper (g .asked) (at ws 5))
+    pub stopped-rests : (time : ℕ) → on .timer ≡ false → held false (at ws 4) (m .low) 0 ≡ (receiverHolds ws && notDue (receiverOf ws .timer) time)
+    unfolding receiverHolds receiverOf
+    stopped-rests time e = let k : g .timer ≡ false = sym flag ∙ e in rw (rest, k, em) (and-true (held false (at ws 4) (s .low) 0))

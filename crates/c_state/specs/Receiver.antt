@@ -67,14 +67,16 @@ receiverOf ws =
     }
 
 -- ---- which words are a receiver's
--- the set's upper words are 0, there are four flags, and figures stand beside a flag that is set
-unfoldable pub receiverHolds : List ℕ → Bool
-receiverHolds ws =
+-- the set's upper words are 0, there are four flags, and figures stand beside a flag that is set: the request's,
+unfoldable pub holdsButTimer : List ℕ → Bool
+holdsButTimer ws =
     let q = fourIn (at ws 5) in
-    let s = twoIn (at ws 6) in
-    let f = flagsIn (s .high) in
+    let f = flagsIn (twoIn (at ws 6) .high) in
     eqb (at ws 2) 0
     && (eqb (at ws 3) 0
     && (leb (at ws 6) 4095
-    && (held (f .timer) (at ws 4) (s .low) 0
-    && held (f .asked) (q .c) (q .d) 0)))
+    && held (f .asked) (q .c) (q .d) 0))
+
+-- and the timer's
+unfoldable pub receiverHolds : List ℕ → Bool
+receiverHolds ws = let s = twoIn (at ws 6) in holdsButTimer ws && held (flagsIn (s .high) .timer) (at ws 4) (s .low) 0

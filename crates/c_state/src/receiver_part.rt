@@ -1,9 +1,10 @@
 // The words of a receiver.
 ghost use mathlib.Core.Path.{_≡_};
-ghost use mathlib.Core.Bool.{true};
+ghost use mathlib.Core.Bool.{true, _&&_};
 ghost use Prim.Native.Nat.{_<_, _≤_};
 ghost use lib.ListN.{length, getD};
-ghost use Rattle.c_state.specs.Receiver.{receiverHolds, receiverOf, receiverWords, withWindow, timerIn, askedIn, timerWords, askedWords};
+ghost use Rattle.c_state.specs.Receiver.{holdsButTimer, receiverHolds, receiverOf, receiverWords, withWindow, timerIn, askedIn, timerWords, askedWords};
+ghost use Rattle.c_state.specs.Receiving.{notDue};
 use super::pack::Flags;
 use super::pack::flags_in;
 use super::pack::four;
@@ -43,15 +44,12 @@ const MOST: u64 = 0xFFF;
 // The figures of the request are those of a word from this number on.
 const ASKED: u64 = 0x1_0000_0000;
 
-// Whether the words are some receiver's.
-pub fn fits(words: &[u64]) -> bool
+// Whether the words are some receiver's, but for the figures of the timer.
+fn fits_but_timer(words: &[u64]) -> bool
     requires { ⌜ length (now words) ≡ 7 ⌝ }
-    ensures { λ r. ⌜ r ≡ receiverHolds (now (words .entry)) ⌝ }
+    ensures { λ r. ⌜ r ≡ holdsButTimer (now (words .entry)) ⌝ }
 {
-    if words[UPPER] != 0 {
-        return false;
-    }
-    if words[TOP] != 0 {
+    if words[UPPER] | words[TOP] != 0 {
         return false;
     }
     if MOST < words[SMALL] {
@@ -59,8 +57,34 @@ pub fn fits(words: &[u64]) -> bool
     }
     let small = two(words[SMALL] as u16);
     let on = flags_in(small.high);
-    if held(on.timer, words[DUE], small.low as u64, 0) {
-        return held(on.asked, words[FIGURES] / ASKED, 0, 0);
+    held(on.asked, words[FIGURES] / ASKED, 0, 0)
+}
+
+// Whether the words are some receiver's.
+pub fn fits(words: &[u64]) -> bool
+    requires { ⌜ length (now words) ≡ 7 ⌝ }
+    ensures { λ r. ⌜ r ≡ receiverHolds (now (words .entry)) ⌝ }
+{
+    if fits_but_timer(words) {
+        let small = two(words[SMALL] as u16);
+        let on = flags_in(small.high);
+        return held(on.timer, words[DUE], small.low as u64, 0);
+    }
+    false
+}
+
+// Whether the words are some receiver's, and a poll at this time leaves its timer as it is.
+pub fn rests(time: u64, words: &[u64]) -> bool
+    requires { ⌜ length (now words) ≡ 7 ⌝ }
+    ensures { λ r. ⌜ r ≡ receiverHolds (now (words .entry)) && notDue (receiverOf (now (words .entry)) .timer) time ⌝ }
+{
+    if fits_but_timer(words) {
+        let small = two(words[SMALL] as u16);
+        let on = flags_in(small.high);
+        if on.timer {
+            return time < words[DUE];
+        }
+        return held(false, words[DUE], small.low as u64, 0);
     }
     false
 }
@@ -85,6 +109,22 @@ fn asked_in(on: bool, seq: u16, count: u16) -> Asked
     Asked::Nothing
 }
 
+// The window of the words.
+pub fn window_in(words: &[u64]) -> ReceiveWindow
+    requires { ⌜ length (now words) ≡ 7 ⌝ }
+    ensures { λ r. ⌜ r ≡ receiverOf (now (words .entry)) .window ⌝ }
+{
+    let figures = four(words[FIGURES]);
+    ReceiveWindow {
+        size: figures.b as u32,
+        highest: figures.a,
+        bits: Bits {
+            low: words[LOW],
+            high: words[HIGH],
+        },
+    }
+}
+
 // The receiver of words that fit.
 pub fn load(words: &[u64]) -> Receiver
     requires { ⌜ (length (now words) ≡ 7) × (getD (now words) 6 0 ≤ 4095) ⌝ }
@@ -94,14 +134,7 @@ pub fn load(words: &[u64]) -> Receiver
     let small = two(words[SMALL] as u16);
     let on = flags_in(small.high);
     Receiver {
-        window: ReceiveWindow {
-            size: figures.b as u32,
-            highest: figures.a,
-            bits: Bits {
-                low: words[LOW],
-                high: words[HIGH],
-            },
-        },
+        window: window_in(words),
         timer: timer_in(on.timer, words[DUE], small.low),
         request_due: on.request_due,
         refused: on.refused,

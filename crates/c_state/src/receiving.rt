@@ -11,7 +11,11 @@ ghost use Rattle.window.specs.Arrival.{reach, inOrder};
 ghost use Rattle.receiver.specs.Receiver.{validOf, restOf, settledOf, heardOf, polledOf, polledAt};
 ghost use Rattle.receiver.specs.Answers.{dataAnswer, pollAnswer};
 ghost use Rattle.c_state.specs.Stream.{receiverFits, receiverIn, withReceiver};
-ghost use Rattle.c_state.specs.Receiving.{startsTimer, keptOf, heardInto, toldInto};
+ghost use Rattle.c_state.specs.Receiving.{startsTimer, keptOf, heardInto, toldInto, waitsOf};
+use super::receiver_part::RECEIVER_WORDS;
+use super::receiver_part::rests;
+use super::receiver_part::window_in;
+use super::state::WORDS;
 use super::state::receiver_in;
 use super::state::store_receiver;
 use super::state::store_rest;
@@ -258,4 +262,17 @@ pub fn poll(cfg: StreamConfig, time: u64, words: &mut [u64]) -> StreamEvent
         return poll_valid(before, cfg, time, words);
     }
     StreamEvent::Refused(Refusal::InvalidState)
+}
+
+// Whether the words are a receiver's that was tested, and a poll at this time leaves it as it is.
+pub fn waits(time: u64, words: &[u64]) -> bool
+    ensures { λ r. ⌜ r ≡ waitsOf time (now (words .entry)) ⌝ }
+{
+    if words.len() != WORDS {
+        return false;
+    }
+    if window::tested::is_valid(window_in(&words[0..RECEIVER_WORDS])) {
+        return rests(time, &words[0..RECEIVER_WORDS]);
+    }
+    false
 }

@@ -1,5 +1,5 @@
 -- What a call leaves of a stream's words as it was, and the answers of calls that are made on the words.
-use mathlib.Core.Path.{_≡_, ap, _∙_}
+use mathlib.Core.Path.{_≡_, ap, sym, _∙_}
 use mathlib.Core.Bool.{false}
 use mathlib.Core.List.{List}
 use Prim.Native.Nat.{ℕ}
@@ -18,7 +18,7 @@ use Rattle.stream.specs.Ends.{dataAnswer, pollAnswer}
 use Rattle.stream.specs.Writing.{writeAnswer}
 use Rattle.stream.specs.declared.stream.DataStream.{DataStream}
 use Rattle.stream.specs.declared.stream.Wrote.{Wrote}
-use Rattle.c_answers.specs.Answers.{deliveryOf, eventOf}
+use Rattle.c_answers.specs.Answers.{deliveryOf, eventOf, eventRefused}
 use Rattle.c_answers.specs.declared.answers.CDelivery.{CDelivery}
 use Rattle.c_answers.specs.declared.answers.CEvent.{CEvent}
 use Rattle.c_words.specs.Settings.{settingsOf}
@@ -66,3 +66,15 @@ module _ (st cfg : List ℕ) (time : ℕ) (s : StreamConfig) (after : List ℕ) 
       ap (λ (x : CEvent). (x, after)) er
       ∙ ap (λ (x : StreamEvent × List ℕ). (eventOf (x .0), x .1)) et
       ∙ ap (λ (x : StreamConfig). told (receiver.pollAnswer (receiverIn st) x time)) es
+
+-- ---- an answer that is told again
+module _ {whole : CEvent × List ℕ} {after : List ℕ} {inner : CEvent} (made : (inner, after) ≡ whole) where
+  pub told-again : (e : CEvent) → e ≡ inner → _≡_ {A = CEvent × List ℕ} (e, after) whole
+  told-again e ee = ap (λ (x : CEvent). (x, after)) ee ∙ made
+
+  -- by its number alone
+  pub refused-again : (st : List ℕ) (n : ℕ) → (eventRefused n, st) ≡ whole → (u e : CEvent) → u ≡ inner → e ≡ eventRefused (u .refusal) → _≡_ {A = CEvent × List ℕ} (e, after) whole
+  refused-again st n refused u e eu ee =
+      ap (λ (x : CEvent). (x, after)) (ee ∙ ap (λ (x : CEvent). eventRefused (x .refusal)) eu)
+      ∙ ap (λ (x : CEvent × List ℕ). (eventRefused (x .0 .refusal), x .1)) (made ∙ sym refused)
+      ∙ refused

@@ -3,6 +3,8 @@
 // two words. A call of one end looks at the words of that end alone.
 ghost use mathlib.Core.Path.{_≡_};
 ghost use Rattle.c_stream.specs.Exports.{newExport, resetExport, sendExport, dataExport, writeExport, requestExport, errorExport, nakExport, pollExport, takeExport, deadlineExport, wantsExport};
+ghost use Rattle.c_stream.specs.EventWord.{eventIn};
+use super::event_word;
 use c_answers::answers;
 use c_answers::answers::CDeadline;
 use c_answers::answers::CDelivery;
@@ -19,6 +21,7 @@ use c_words::settings;
 use command::retransmit::RetransmitError;
 use command::retransmit::RetransmitRequest;
 use config::answer::Outcome;
+use receiver::receiver::StreamEvent;
 use stream::stream::DataStream;
 
 // A fresh stream: a receive window of `window` numbers, the lent history, which is zeroed, and a
@@ -174,19 +177,35 @@ pub extern "C" fn sirmjold_stream_on_retransmit_nak(s: &mut [u64]) -> CEvent
     answers::refused_event(guard::INVALID_STATE)
 }
 
-// Runs the receiver's timer.
+// Runs the receiver's timer; the answer is packed.
+fn poll(s: &mut [u64], cfg: &[u32], time: u64) -> u64
+    ensures { λ r. ⌜ (eventIn r, now (s .exit)) ≡ pollExport (now (s .entry)) (now (cfg .entry)) time ⌝ }
+{
+    let number = settings::number(&cfg[..]);
+    if number == 0 {
+        if state::receiver_fits(&s[..]) {
+            let event = receiving::poll(settings::load(&cfg[..]), time, s);
+            return event_word::packed(answers::of_event(event));
+        }
+        return event_word::packed(answers::refused_event(guard::INVALID_STATE));
+    }
+    event_word::packed(answers::refused_event(number))
+}
+
+// Runs the receiver's timer. Where nothing is due this is the whole of it, in few registers: all else is left to `poll`,
+// which the compiler keeps apart, since it is called in two places that go on differently.
 #[no_mangle]
 pub extern "C" fn sirmjold_stream_poll(s: &mut [u64], cfg: &[u32], time: u64) -> CEvent
     ensures { λ r. ⌜ (r, now (s .exit)) ≡ pollExport (now (s .entry)) (now (cfg .entry)) time ⌝ }
 {
-    let number = settings::number(cfg);
-    if number == 0 {
-        if state::receiver_fits(&s[..]) {
-            return answers::of_event(receiving::poll(settings::load(cfg), time, s));
+    if settings::number(cfg) == 0 {
+        if receiving::waits(time, &s[..]) {
+            return answers::of_event(StreamEvent::Nothing);
         }
-        return answers::refused_event(guard::INVALID_STATE);
+        return event_word::unpacked(poll(s, cfg, time));
     }
-    answers::refused_event(number)
+    let refused = event_word::unpacked(poll(s, cfg, time));
+    answers::refused_event(refused.refusal)
 }
 
 // Takes a due request into a payload, and writes nothing else.

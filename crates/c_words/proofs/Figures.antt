@@ -2,9 +2,10 @@
 use mathlib.Core.Path.{_≡_, refl, sym, _∙_}
 use mathlib.Core.Bool.{Bool, true, false, cond}
 use mathlib.Core.List.{List}
-use Prim.Native.Nat.{ℕ, _≤_}
+use Prim.Native.Nat.{ℕ, _≤_, _<_}
 use native.Mathlib.Omega.{arith}
 use lib.ListN.{length, getD}
+use lib.Bits.{bitOr, or-lt}
 use lib.Dec.{leb, eqb}
 use borrow.Author.Tests.{eq-eqb, ne-eqb, le-leb, eqb-true}
 use Rattle.config.specs.Entry.{onState, entry}
@@ -19,7 +20,7 @@ use Rattle.config.specs.declared.settings.StreamConfig.{StreamConfig}
 use Rattle.config.specs.inner.Entries.{state-any, entry-any}
 use Rattle.c_words.specs.Limits.{within}
 use Rattle.c_words.specs.Settings.{settingsOf, settingsLimits, settingsCheck, Small}
-use Rattle.c_words.proofs.Within.{within-at, and-true}
+use Rattle.c_words.proofs.Within.{within-at, and-true, or-left, or-right}
 
 -- the settings' own test looks at three of them
 pub own-test : (s : StreamConfig) → checkOf record {
@@ -57,9 +58,35 @@ module _ (ws : List ℕ) where
   abbrev at : ℕ → ℕ
   at k = getD ws k 0
 
-  pub last-figure : at 2 ≤ 255 → at 3 ≤ 255 → at 4 ≤ 1 → leb (at 6) 255 ≡ within settingsLimits ws
+  -- K, R and M together
+  abbrev wide : ℕ
+  wide = bitOr (bitOr (at 2) (at 3)) (at 6)
+
+  each-narrow : wide ≤ 255 → (at 2 ≤ 255) × (at 3 ≤ 255) × (at 6 ≤ 255)
+  each-narrow h =
+      let kr : bitOr (at 2) (at 3) ≤ 255 = omega (arith, or-left (bitOr (at 2) (at 3)) (at 6)) in
+      (omega (arith, or-left (at 2) (at 3)), omega (arith, or-right (at 2) (at 3)), omega (arith, or-right (bitOr (at 2) (at 3)) (at 6)))
+
+  together-narrow : within settingsLimits ws ≡ true → wide < 256
+  together-narrow e =
+      let s = within-at settingsLimits ws e in
+      let k = s 0 (omega arith) in
+      let r = s 1 (omega arith) in
+      let m = s 3 (omega arith) in
+      or-lt 8 (bitOr (at 2) (at 3)) (at 6) (or-lt 8 (at 2) (at 3) (omega arith) (omega arith)) (omega arith)
+
+  pub too-wide : 255 < wide → false ≡ within settingsLimits ws
+  too-wide h = by (within settingsLimits ws) refl
+    where
+      by : (b : Bool) → within settingsLimits ws ≡ b → false ≡ within settingsLimits ws
+      by true e = absurd (let z : ⊥ = omega (arith, together-narrow e) in z)
+      by false e = sym e
+
+  pub last-figure : wide ≤ 255 → leb (at 4) 1 ≡ within settingsLimits ws
   unfolding within
-  last-figure b c d = rw (le-leb (at 2) 255 b, le-leb (at 3) 255 c, le-leb (at 4) 1 d) (and-true (leb (at 6) 255))
+  last-figure h =
+      let n = each-narrow h in
+      rw (le-leb (at 2) 255 (n .0), le-leb (at 3) 255 (n .1), le-leb (at 6) 255 (n .2)) (and-true (leb (at 4) 1))
 
   pub not-eight : (length ws ≡ 8 → ⊥) → 13 ≡ outcomeNumber (settingsCheck ws)
   unfolding settingsCheck

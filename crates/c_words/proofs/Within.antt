@@ -5,6 +5,7 @@ use mathlib.Core.List.{List, [], _∷_, append-nil}
 use Prim.Native.Nat.{ℕ, zero, suc, _+_, _≤_, _<_}
 use native.Mathlib.Omega.{arith}
 use lib.ListN.{length, getD, drop-of-length-le}
+use lib.Bits.{bitOr, or-add-and, and-le-l, and-le-r}
 use lib.Dec.{eqb, leb}
 use borrow.Author.Tests.{ne-eqb, eqb-true, lt-leb, leb-true}
 use Rattle.config.specs.inner.Tests.{and-left, and-right}
@@ -18,6 +19,13 @@ and-false false b e = refl
 pub and-true : (b : Bool) → b ≡ b && true
 and-true true = refl
 and-true false = refl
+
+-- ---- two numbers, bit by bit
+pub or-left : (a b : ℕ) → a ≤ bitOr a b
+or-left a b = omega (arith, or-add-and a b, and-le-r a b)
+
+pub or-right : (a b : ℕ) → b ≤ bitOr a b
+or-right a b = omega (arith, or-add-and a b, and-le-l a b)
 
 -- ---- pair i of the limits
 abbrev pub place : List (ℕ × ℕ) → ℕ → ℕ

@@ -36,16 +36,10 @@ fn narrow(words: &[u32]) -> bool
     requires { ⌜ length (now words) ≡ 8 ⌝ }
     ensures { λ r. ⌜ r ≡ within settingsLimits (now (words .entry)) ⌝ }
 {
-    if 255 < words[2] {
+    if 255 < words[2] | words[3] | words[6] {
         return false;
     }
-    if 255 < words[3] {
-        return false;
-    }
-    if 1 < words[4] {
-        return false;
-    }
-    words[6] <= 255
+    words[4] <= 1
 }
 
 // 13 for words that are too wide.

@@ -88,12 +88,6 @@ impl<const C: usize> Ends<C> {
         assert_eq!(d.refusal, 13);
         d.refusal.into()
     }
-
-    pub fn poll_tests(&mut self) -> u64 {
-        let e = unsafe { raw::sirmjold_stream_poll(self.words.as_mut_ptr(), STREAM_WORDS, CFG.as_ptr(), 8, 0) };
-        assert_eq!(e.refusal, 13);
-        e.refusal.into()
-    }
 }
 
 impl Side for Ours {

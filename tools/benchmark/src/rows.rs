@@ -377,11 +377,6 @@ fn test_hear(_: usize) -> Batch {
     Box::new(move || (0..UNITS).fold(0, |sum, _| fold(sum, stream.heard_tests())))
 }
 
-fn test_poll(_: usize) -> Batch {
-    let mut stream = <Ours as Side>::Small::refused();
-    Box::new(move || (0..UNITS).fold(0, |sum, _| fold(sum, stream.poll_tests())))
-}
-
 fn poll<S: Side>(_: usize) -> Batch {
     let mut stream = S::Small::fresh();
     stream.heard(0, 0);
@@ -519,7 +514,7 @@ pub fn rows() -> Vec<Sized> {
         rows.push(row!(name("in one call"), "payload", None, hear_payload, commands));
     }
     rows.extend([
-        row!("poll, a request is not due yet", "call", None, poll, 0, test_poll),
+        row!("poll, a request is not due yet", "call", None, poll, 0),
         row!("queue and write 1 word, history 256", "payload", None, queue_small, 1, test_small),
         row!("queue and write 1 word, history 4096", "payload", None, queue_large, 1, test_large),
         row!("queue and write 1 to 4 words, history 256", "payload", None, queue_small, DRAWN, test_small),

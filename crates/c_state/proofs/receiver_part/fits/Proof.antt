@@ -1,34 +1,19 @@
--- Each test is one of the definition.
+-- All but the timer, then the timer.
 use mathlib.Core.Path.{sym, _∙_}
-use Rattle.c_state.proofs.Receivers.{upper-fails, top-fails, flags-fail, timer-fails, asked-last}
+use Rattle.c_state.proofs.Receivers.{but-timer-flags, but-timer-fails, timer-last}
 use native.Mathlib.Omega.{arith}
 use borrow.Author.Needs.{needs}
 use Rattle.c_state.proofs.receiver_part.fits.Statement.{statement}
 use Rattle.c_state.proofs.receiver_part.fits.Tie as tie
 
-shared-slice-read-if1 : tie.Need-shared-slice-read-if1
-shared-slice-read-if1 c = search needs
-
-returns : tie.Need-returns
-returns c = upper-fails _ (c .if1 .taken)
-
-shared-slice-read-if2 : tie.Need-shared-slice-read-if2
-shared-slice-read-if2 c = search needs
-
-returns-2 : tie.Need-returns-2
-returns-2 c = top-fails _ (omega arith) (c .if2 .taken)
-
-shared-slice-read-if3 : tie.Need-shared-slice-read-if3
-shared-slice-read-if3 c = search needs
-
-returns-3 : tie.Need-returns-3
-returns-3 c = flags-fail _ (omega arith) (omega arith) (c .if3 .taken)
+fits-but-timer-requires : tie.Need-fits-but-timer-requires
+fits-but-timer-requires c κs = search needs
 
 shared-slice-read-two : tie.Need-shared-slice-read-two
 shared-slice-read-two c = search needs
 
 cast-two : tie.Need-cast-two
-cast-two c = omega arith
+cast-two c = omega (arith, but-timer-flags _ (sym (c .before .before .fits-but-timer .ensures) ∙ c .before .if1 .taken))
 
 two-requires : tie.Need-two-requires
 two-requires c κs = search needs
@@ -45,30 +30,17 @@ cast-held c = search needs
 held-requires : tie.Need-held-requires
 held-requires c κs = search needs
 
-shared-slice-read-held-2 : tie.Need-shared-slice-read-held-2
-shared-slice-read-held-2 c = search needs
+returns : tie.Need-returns
+returns c = c .held .ensures ∙ timer-last _ (sym (c .before .before .before .before .before .before .before .fits-but-timer .ensures) ∙ c .before .before .before .before .before .before .if1 .taken) _ _ (c .before .before .before .before .two .ensures) (c .before .before .before .flags-in .ensures)
 
-held-requires-2 : tie.Need-held-requires-2
-held-requires-2 c κs = search needs
-
-returns-4 : tie.Need-returns-4
-returns-4 c =
-    c .held2 .ensures
-    ∙ asked-last _ (omega arith) (omega arith) (omega arith) _ _ (c .before .before .before .before .before .before .before .two .ensures) (c .before .before .before .before .before .before .flags-in .ensures) (sym (c .before .before .before .held .ensures) ∙ c .before .before .if4 .taken)
-
-returns-5 : tie.Need-returns-5
-returns-5 c = timer-fails _ (omega arith) (omega arith) (omega arith) _ _ (c .before .before .before .before .before .two .ensures) (c .before .before .before .before .flags-in .ensures) (sym (c .before .held .ensures) ∙ c .if4 .left)
+returns-2 : tie.Need-returns-2
+returns-2 c = but-timer-fails _ (sym (c .before .fits-but-timer .ensures) ∙ c .if1 .left)
 
 pub fits-spec : {M : Type 1} → statement M
 fits-spec =
     tie.close
     (tie.spec
-    shared-slice-read-if1
-    returns
-    shared-slice-read-if2
-    returns-2
-    shared-slice-read-if3
-    returns-3
+    fits-but-timer-requires
     shared-slice-read-two
     cast-two
     two-requires
@@ -76,7 +48,5 @@ fits-spec =
     shared-slice-read-held
     cast-held
     held-requires
-    shared-slice-read-held-2
-    held-requires-2
-    returns-4
-    returns-5)
+    returns
+    returns-2)

@@ -23,14 +23,8 @@ two-requires c κs = search needs
 flags-in-requires : tie.Need-flags-in-requires
 flags-in-requires c κs = search needs
 
-cast-t9 : tie.Need-cast-t9
-cast-t9 c = search needs
-
-shared-slice-read-t6 : tie.Need-shared-slice-read-t6
-shared-slice-read-t6 c = search needs
-
-shared-slice-read-t12 : tie.Need-shared-slice-read-t12
-shared-slice-read-t12 c = search needs
+window-in-requires : tie.Need-window-in-requires
+window-in-requires c κs = search needs
 
 shared-slice-read-timer-in : tie.Need-shared-slice-read-timer-in
 shared-slice-read-timer-in c = search needs
@@ -42,7 +36,7 @@ asked-in-requires : tie.Need-asked-in-requires
 asked-in-requires c κs = search needs
 
 returns : tie.Need-returns
-returns c = receiver-made _ _ _ _ _ _ (c .before .before .before .before .before .before .before .before .before .four .ensures) (c .before .before .before .before .before .before .before .two .ensures) (c .before .before .before .before .before .before .flags-in .ensures) (c .before .timer-in .ensures) (c .asked-in .ensures)
+returns c = receiver-made _ _ _ _ _ _ _ (c .before .before .before .before .before .before .before .four .ensures) (c .before .before .before .before .before .two .ensures) (c .before .before .before .before .flags-in .ensures) (c .before .before .before .window-in .ensures) (c .before .timer-in .ensures) (c .asked-in .ensures)
 
 pub load-spec : {M : Type 1} → statement M
 load-spec =
@@ -54,9 +48,7 @@ load-spec =
     cast-two
     two-requires
     flags-in-requires
-    cast-t9
-    shared-slice-read-t6
-    shared-slice-read-t12
+    window-in-requires
     shared-slice-read-timer-in
     timer-in-requires
     asked-in-requires

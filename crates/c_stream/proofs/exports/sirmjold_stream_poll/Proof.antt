@@ -1,10 +1,11 @@
--- Settings, then words; then the call is made on the words.
-use mathlib.Core.Path.{sym, ap, _∙_}
-use Rattle.config.specs.Settings.{checkOf}
-use Rattle.c_words.proofs.Entries.{made, words-refused, settings-refused}
-use Rattle.c_words.proofs.Figures.{passed, figures-small, settings-passed}
+-- Where nothing is due the words stay; else the whole call is made.
+use mathlib.Core.Path.{refl, sym, _∙_}
+use Rattle.c_words.specs.Settings.{settingsOf}
+use Rattle.c_words.proofs.Entries.{made, settings-refused}
+use Rattle.c_words.proofs.Figures.{passed, settings-passed}
+use Rattle.c_state.proofs.Waiting.{waits-fit, waits-same}
 use Rattle.c_stream.specs.Exports.{pollExport}
-use Rattle.c_stream.proofs.Stays.{told-out}
+use Rattle.c_stream.proofs.Stays.{told-out, told-again, refused-again}
 use borrow.Author.Needs.{needs}
 use Rattle.c_stream.proofs.exports.sirmjold_stream_poll.Statement.{statement}
 use Rattle.c_stream.proofs.exports.sirmjold_stream_poll.Tie as tie
@@ -12,14 +13,8 @@ use Rattle.c_stream.proofs.exports.sirmjold_stream_poll.Tie as tie
 number-requires : tie.Need-number-requires
 number-requires c κs = search needs
 
-receiver-fits-requires : tie.Need-receiver-fits-requires
-receiver-fits-requires c κs = search needs
-
-load-requires : tie.Need-load-requires
-load-requires c κs = figures-small _ (passed _ (c .before .before .before .before .number .ensures) (c .before .before .before .if1 .taken))
-
-poll-requires : tie.Need-poll-requires
-poll-requires c κs = (sym (c .before .before .before .receiver-fits .ensures) ∙ c .before .before .if2 .taken, ap checkOf (c .before .load .ensures) ∙ settings-passed _ (passed _ (c .before .before .before .before .before .before .number .ensures) (c .before .before .before .before .before .if1 .taken)))
+waits-requires : tie.Need-waits-requires
+waits-requires c κs = search needs
 
 of-event-requires : tie.Need-of-event-requires
 of-event-requires c κs = search needs
@@ -29,24 +24,56 @@ same-length c = search needs
 
 returns : tie.Need-returns
 unfolding pollExport
-returns c = made _ _ (passed _ (c .before .before .before .before .before .before .before .before .before .before .number .ensures) (c .before .before .before .before .before .before .before .before .before .if1 .taken)) (sym (c .before .before .before .before .before .before .before .receiver-fits .ensures) ∙ c .before .before .before .before .before .before .if2 .taken) (told-out (c .before .before .before .before .before .before .before .before .before .before .before .before .before .args .s .now) (c .before .before .before .before .before .before .before .before .before .before .before .before .before .args .cfg .now) _ _ _ (c .before .before .before .before .before .load .ensures) _ _ (c .before .before .before .poll .ensures) (c .of-event .ensures))
+returns c =
+    let st = c .before .before .before .before .before .before .before .before .args .s .now in
+    let cfg = c .before .before .before .before .before .before .before .before .args .cfg .now in
+    let taken = passed cfg (c .before .before .before .before .before .number .ensures) (c .before .before .before .before .if1 .taken) in
+    let still = sym (c .before .before .waits .ensures) ∙ c .before .if2 .taken in
+    made _ _ taken (waits-fit _ st still) (told-out st cfg _ (settingsOf cfg) st refl _ _ (waits-same _ st still (settingsOf cfg) (settings-passed cfg taken)) (c .of-event .ensures))
 
-refused-event-requires : tie.Need-refused-event-requires
-refused-event-requires c κs = search needs
+poll-requires : tie.Need-poll-requires
+poll-requires c κs = search needs
+
+unpacked-requires : tie.Need-unpacked-requires
+unpacked-requires c κs = search needs
 
 same-length-2 : tie.Need-same-length-2
 same-length-2 c = search needs
 
 returns-2 : tie.Need-returns-2
-unfolding pollExport
-returns-2 c = words-refused _ _ (passed _ (c .before .before .before .before .before .number .ensures) (c .before .before .before .before .if1 .taken)) (sym (c .before .before .receiver-fits .ensures) ∙ c .before .if2 .left) (rw (c .refused-event .ensures))
+returns-2 c = told-again (c .before .before .before .poll .ensures) _ (c .unpacked .ensures)
 
-refused-event-requires-2 : tie.Need-refused-event-requires-2
-refused-event-requires-2 c κs = search needs
+poll-requires-2 : tie.Need-poll-requires-2
+poll-requires-2 c κs = search needs
+
+unpacked-requires-2 : tie.Need-unpacked-requires-2
+unpacked-requires-2 c κs = search needs
+
+refused-event-requires : tie.Need-refused-event-requires
+refused-event-requires c κs = search needs
+
+same-length-3 : tie.Need-same-length-3
+same-length-3 c = search needs
 
 returns-3 : tie.Need-returns-3
 unfolding pollExport
-returns-3 c = settings-refused _ _ _ _ (c .before .before .number .ensures) (c .before .if1 .left) (rw (c .refused-event2 .ensures))
+returns-3 c = refused-again (c .before .before .before .before .poll2 .ensures) _ _ (settings-refused _ _ _ _ (c .before .before .before .before .before .before .before .number .ensures) (c .before .before .before .before .before .before .if1 .left) refl) _ _ (c .before .unpacked2 .ensures) (c .refused-event .ensures)
 
 pub sirmjold-stream-poll-spec : {M : Type 1} → statement M
-sirmjold-stream-poll-spec = tie.close (tie.spec number-requires receiver-fits-requires load-requires poll-requires of-event-requires same-length returns refused-event-requires same-length-2 returns-2 refused-event-requires-2 returns-3)
+sirmjold-stream-poll-spec =
+    tie.close
+    (tie.spec
+    number-requires
+    waits-requires
+    of-event-requires
+    same-length
+    returns
+    poll-requires
+    unpacked-requires
+    same-length-2
+    returns-2
+    poll-requires-2
+    unpacked-requires-2
+    refused-event-requires
+    same-length-3
+    returns-3)
