@@ -7,9 +7,10 @@ use native.Mathlib.Omega.{arith}
 use lib.Count.{trailingZeros}
 use borrow.Author.Tests.{le-leb, lt-leb, lt-ltb}
 use Rattle.config.specs.Settings.{checkOf}
-use Rattle.packet.specs.Bytes.{bytesOf, spliced}
+use Rattle.packet.specs.Bytes.{bytesOf, wordsOf, spliced}
 use Rattle.packet.specs.Write.{validOf as payloadValid, writtenOf}
-use Rattle.command.specs.Messages.{typeWords, divided, messagesOf, wholeOf}
+use Rattle.command.specs.Messages.{typeWords, divided, messagesOf, wholeOf, messageAt, walked}
+use Rattle.command.specs.Write.{errorWritten}
 use Rattle.window.proofs.Losses.{far-pos, far-bottom, far-skipped}
 use Rattle.window.proofs.Preserved.{valid-fresh}
 use Rattle.window.proofs.Spans.{span-some}
@@ -36,7 +37,14 @@ use Rattle.sender.specs.Queueing.{roomOf, needOf, joinedTo, pushedAll, queuedTo
 use Rattle.writing.specs.Writing.{servedIn, servedOf, idledOf, writtenOff, newOf as newSent, writtenBy}
 use Rattle.sender.specs.Answers.{sendAnswer}
 use Rattle.writing.specs.Answers.{writeAnswer}
-use Rattle.cases.specs.Cases.{range, Table, PayloadTest, WordsTest, HistoryTest, MessagesTest, duesFrom, IdleTimes}
+use Rattle.receiver.specs.Receiver.{validOf as receiverValid, settledOf, heardOf, takenOf}
+use Rattle.receiver.specs.Answers.{dataAnswer as receiverData}
+use Rattle.stream.specs.State.{validOf as streamValid}
+use Rattle.stream.specs.Ends.{sendAnswer as streamSend, dataAnswer}
+use Rattle.stream.specs.Answers.{wantsAnswer}
+use Rattle.stream.specs.Writing.{sentAfter, dataWritten, writeAnswer as streamWrite}
+use Rattle.stream.specs.Sending.{sendAndWriteAnswer}
+use Rattle.cases.specs.Cases.{range, Table, PayloadTest, WordsTest, ReasonsTest, HistoryTest, RingTest, MessagesTest, StreamTest, NumbersTest, duesFrom, IdleTimes}
 
 -- the lost set has 32,702 positions: its ends come from laws and are not computed
 lost-far : spanOf 32766 64 (lostOf 64 0 32767) ≡ range 0 32702
@@ -96,13 +104,29 @@ pub words-test : WordsTest
 unfolding payloadValid writtenOf
 words-test = record { most = refl; above = refl }
 
+pub reasons-test : ReasonsTest
+unfolding errorWritten payloadValid writtenOf bytesOf spliced
+reasons-test = record { last = refl; above = refl }
+
 pub history-test : HistoryTest
 unfolding typeWords divided messagesOf wholeOf slotOf ringStored ringRead headerAt wordsFrom numbered stateOk walkOk popOne popped grown pushed longer appended entryPacket fitting front behind commandsIn commandsOf longMessage above senderValid roomOf needOf joinedTo pushedAll queuedTo queuedOf wordsCheck placedOf sentOf rowOf packetsFrom servedIn servedOf idleNext idledOf sizesOf repeatsOf anyWords writtenOff newSent writtenBy sendAnswer writeAnswer checkOf payloadValid writtenOf bytesOf spliced
 history-test = record { as-left = (refl, refl); oldest = refl; newest = refl }
 
+pub ring-test : RingTest
+unfolding slotOf ringStored ringRead
+ring-test = record { last = refl; past = refl; stored = refl; read = refl }
+
 pub messages-test : MessagesTest
-unfolding typeWords divided messagesOf
-messages-test = record { cut-last = refl; whole-last = refl }
+unfolding typeWords divided messagesOf messageAt walked bytesOf wordsOf
+messages-test = record { cut-last = refl; whole-last = refl; walk = refl; words = (refl, refl) }
+
+pub stream-test : StreamTest
+unfolding dataAnswer receiverData receiverValid validOf settledOf heardOf takenOf acceptOf classOf processed newOf spanOf lostOf missingOf movedOf val setOf topOf topIn bottomOf trailingZeros streamSend streamValid streamWrite dataWritten sentAfter sendAndWriteAnswer typeWords divided messagesOf wholeOf slotOf ringStored ringRead headerAt wordsFrom numbered stateOk walkOk popOne popped grown pushed longer appended entryPacket fitting front behind commandsIn commandsOf longMessage above senderValid roomOf needOf joinedTo pushedAll queuedTo queuedOf wordsCheck placedOf sentOf rowOf packetsFrom servedIn servedOf idleNext idledOf sizesOf repeatsOf anyWords writtenOff newSent writtenBy sendAnswer writeAnswer checkOf payloadValid writtenOf bytesOf spliced
+stream-test = record { new = refl; heard = refl; behind = refl }
+
+pub numbers-test : NumbersTest
+unfolding receiverValid validOf takenOf val setOf streamSend streamValid streamWrite dataWritten sentAfter sendAndWriteAnswer wantsAnswer typeWords divided messagesOf wholeOf slotOf ringStored ringRead headerAt wordsFrom numbered stateOk walkOk popOne popped grown pushed longer appended entryPacket fitting front behind commandsIn commandsOf longMessage above senderValid roomOf needOf joinedTo pushedAll queuedTo queuedOf wordsCheck placedOf sentOf rowOf packetsFrom servedIn servedOf idleNext idledOf sizesOf repeatsOf anyWords writtenOff newSent writtenBy sendAnswer writeAnswer checkOf payloadValid writtenOf bytesOf spliced
+numbers-test = record { sent = refl; behind = refl; wants = refl }
 
 pub idle-times : IdleTimes
 unfolding duesFrom typeWords divided messagesOf wholeOf slotOf ringStored ringRead headerAt wordsFrom numbered stateOk walkOk popOne popped grown pushed longer appended entryPacket fitting front behind commandsIn commandsOf longMessage above senderValid roomOf needOf joinedTo pushedAll queuedTo queuedOf wordsCheck placedOf sentOf rowOf packetsFrom servedIn servedOf idleNext idledOf sizesOf repeatsOf anyWords writtenOff newSent writtenBy sendAnswer writeAnswer checkOf payloadValid writtenOf bytesOf spliced

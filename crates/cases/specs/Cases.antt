@@ -1,29 +1,32 @@
--- 01, "Session cases": those marked P, as one table of the definitions; "State test": payloads and histories that no call leaves; "Numbers of each operation", 4: words that no command has; messages by their types.
+-- 01, "Session cases": those marked P, as one table of the definitions; "State test": payloads and histories that no call leaves; "Numbers of each operation": words that no command has (4), a reason that isn't defined (11), a stream's answers as numbers;
+-- messages by their types, places of a ring past its end, what a stream hears.
 use Prim.Native.Nat.{ℕ, zero, suc, _≤_}
 use mathlib.Core.Bool.{true, false}
 use mathlib.Core.List.{List, [], _∷_}
 use mathlib.Core.Path.{_≡_}
-use lib.ListN.{take, replicate, set}
+use lib.ListN.{take, replicate, set, getD}
 use Rattle.config.specs.Settings.{defaults}
-use Rattle.config.specs.declared.refusal.Refusal.the-variants.{TooLarge, InvalidValue, InvalidState}
-use Rattle.packet.specs.Bytes.{bytesOf}
+use Rattle.config.specs.declared.refusal.Refusal.the-variants.{TooLarge, InvalidValue, ReasonNotAllowed, InvalidState}
+use Rattle.packet.specs.Bytes.{bytesOf, wordsOf}
 use Rattle.packet.specs.Layout.{packet}
 use Rattle.packet.specs.Write.{refusedOf, writtenOf}
 use Rattle.packet.specs.declared.writer.PayloadWriter.{PayloadWriter}
 use Rattle.packet.specs.declared.writer.Wrote.{Wrote as PayloadWrote}
 use Rattle.config.specs.declared.answer.Outcome.{Outcome}
 use Rattle.config.specs.declared.answer.Outcome.the-variants.{Done, Refused}
-use Rattle.command.specs.Write.{requestPacket}
-use Rattle.command.specs.Messages.{messagesOf}
+use Rattle.command.specs.Write.{requestPacket, errorWritten}
+use Rattle.command.specs.Messages.{messagesOf, walked}
 use Rattle.window.specs.Answers.{newAnswer, acceptAnswer, missingAnswer, requestAnswer}
 use Rattle.window.specs.Window.{fresh}
 use Rattle.window.specs.declared.window.Acceptance.the-variants.{Heard}
+use Rattle.window.specs.declared.window.Class.{Class}
 use Rattle.window.specs.declared.window.Class.the-variants.{New, Late, Duplicate}
 use Rattle.window.specs.declared.window.Extent.the-variants.{Numbers}
 use Rattle.window.specs.declared.window.ReceiveWindow.{ReceiveWindow}
 use Rattle.window.specs.declared.window.Span.{Span}
 use Rattle.window.specs.declared.window.Span.the-variants.{Nothing, Of}
 use Rattle.window.specs.declared.window.Started.the-variants.{Window}
+use Rattle.history.specs.Ring.{slotOf, ringStored, ringRead}
 use Rattle.idle.specs.declared.idle.IdleTimer.{IdleTimer}
 use Rattle.idle.specs.declared.idle.IdleTimer.the-variants.{Off, Waiting}
 use Rattle.sender.specs.State.{fresh as freshSender}
@@ -33,7 +36,19 @@ use Rattle.sender.specs.declared.sender.Sender.{Sender}
 use Rattle.sender.specs.declared.sender.Sent.{Sent}
 use Rattle.writing.specs.declared.writing.Wrote.{Wrote}
 use Rattle.writing.specs.declared.writing.Writing.{Writing}
-use Rattle.writing.specs.declared.writing.Writing.the-variants.{Written}
+use Rattle.writing.specs.declared.writing.Writing.the-variants.{Written, Refused as NotWritten}
+use Rattle.receiver.specs.declared.receiver.Hearing.{Hearing}
+use Rattle.receiver.specs.declared.receiver.Hearing.the-variants.{Delivery}
+use Rattle.stream.specs.State.{unstarted, fresh as freshStream}
+use Rattle.stream.specs.Ends.{dataAnswer}
+use Rattle.stream.specs.Answers.{wantsAnswer}
+use Rattle.stream.specs.Sending.{sendAndWriteAnswer}
+use Rattle.stream.specs.declared.stream.DataStream.{DataStream}
+use Rattle.stream.specs.declared.stream.Heard.{Heard as StreamHeard}
+use Rattle.stream.specs.declared.sending.SendAndWrite.{SendAndWrite}
+use Rattle.stream.specs.declared.sending.SendAndWrite.the-variants.{Queued}
+use Rattle.c_answers.specs.Answers.{wantsOf}
+use Rattle.c_answers.specs.Sending.{sentWrittenOf}
 
 -- ---- the receive window
 -- the window after a number has arrived
@@ -130,6 +145,14 @@ pub record WordsTest : Type 0 where
   pub most : wrote 255 .0 .answer ≡ Done
   pub above : wrote 256 ≡ (refusedOf (empty 1400) InvalidValue, replicate 1400 0)
 
+-- ---- reasons of a Retransmit Error: 1 is the last that is defined, 2 is refused with 11, and no byte is written
+abbrev pub wroteError : ℕ → PayloadWrote × List ℕ
+wroteError reason = errorWritten record { reason = reason; seq = 7 } (empty 12) (replicate 12 0)
+
+pub record ReasonsTest : Type 0 where
+  pub last : wroteError 1 ≡ (record { payload = record { len = 12; max = 12 }; answer = Done }, bytesOf (0x4D494449 ∷ 0x81010100 ∷ 0x00070000 ∷ []))
+  pub above : wroteError 2 ≡ (refusedOf (empty 12) ReasonNotAllowed, replicate 12 0)
+
 -- ---- histories that no call leaves: of two commands of one word, number 0 at place 0 and number 1 at place 2, one has another number
 -- what queueing answers where the header at a place is this one
 abbrev pub queuedOver : ℕ → ℕ → Outcome
@@ -140,11 +163,57 @@ pub record HistoryTest : Type 0 where
   pub oldest : queuedOver 0 0x00020001 ≡ Refused InvalidState
   pub newest : queuedOver 2 0x00020001 ≡ Refused InvalidState
 
+-- ---- places of a ring: past its end they go on from its first
+pub record RingTest : Type 0 where
+  pub last : slotOf 65 62 2 ≡ 64
+  pub past : slotOf 65 62 3 ≡ 0
+  -- three words from the last place but one on
+  pub stored : ringStored (replicate 5 0) 3 (7 ∷ 8 ∷ 9 ∷ []) ≡ (9 ∷ 0 ∷ 0 ∷ 7 ∷ 8 ∷ [])
+  pub read : ringRead (9 ∷ 0 ∷ 0 ∷ 7 ∷ 8 ∷ []) 3 3 ≡ (7 ∷ 8 ∷ 9 ∷ [])
+
 -- ---- messages: the type is in the top four bits of the first word, and a message that is cut has no words
+-- two of one word each; the word at an index of their bytes, as `word_at` of `command` answers it
+abbrev pub onAndOff : List ℕ
+onAndOff = 0x20903C40 ∷ 0x20803C00 ∷ []
+
+abbrev pub wordIn : List ℕ → ℕ → ℕ
+wordIn ws at = getD (wordsOf (bytesOf ws)) at 0
+
 pub record MessagesTest : Type 0 where
   -- of type 2, one word; of type 4, two; of type B, two of its three
   pub cut-last : messagesOf (0x2090003B ∷ 0x4090000B ∷ 7 ∷ 0xB0000002 ∷ 7 ∷ []) ≡ record { whole = (0x2090003B ∷ []) ∷ (0x4090000B ∷ 7 ∷ []) ∷ []; cut = true }
   pub whole-last : messagesOf (0xB0000002 ∷ 7 ∷ 8 ∷ []) ≡ record { whole = (0xB0000002 ∷ 7 ∷ 8 ∷ []) ∷ []; cut = false }
+  -- a walk begins at word 0
+  pub walk : walked 2 onAndOff 0 ≡ record { whole = (0x20903C40 ∷ []) ∷ (0x20803C00 ∷ []) ∷ []; cut = false }
+  -- past the last word there is 0
+  pub words : (wordIn onAndOff 1 ≡ 0x20803C00) × (wordIn onAndOff 2 ≡ 0)
+
+-- ---- a stream: number 0 arrives at 1000; a word is queued and written in one call
+abbrev pub started : DataStream
+started = freshStream 64 65 4
+
+abbrev pub hears : DataStream → StreamHeard
+hears s = dataAnswer s defaults 1000 0
+
+abbrev pub handedOn : Class → Hearing
+handedOn c = Delivery record { seq = 0; class = c; gap = Nothing; lost = Nothing }
+
+abbrev pub sentInto : PayloadWriter → SendAndWrite
+sentInto p = sendAndWriteAnswer started defaults 1000 (0x20903C40 ∷ []) p (replicate 16 0) (replicate 65 0) .0 .answer
+
+pub record StreamTest : Type 0 where
+  pub new : hears started .answer ≡ handedOn (New 0)
+  -- what was heard stays with the receiver
+  pub heard : hears (hears started .stream) .answer ≡ handedOn Duplicate
+  -- a payload that no call leaves is refused with 13 behind queued words too
+  pub behind : sentInto (unmade 10 1400) ≡ Queued (NotWritten InvalidState)
+
+-- ---- a stream's answers as numbers: 0 or the refusal's, and words that are queued are told of where the write is refused
+pub record NumbersTest : Type 0 where
+  pub sent : sentWrittenOf (sentInto (empty 1400)) ≡ record { commands = 1; refusal = 0; more = 0; queued = 1 }
+  pub behind : sentWrittenOf (sentInto (unmade 10 1400)) ≡ record { commands = 0; refusal = 13; more = 0; queued = 1 }
+  -- of a start that was refused
+  pub wants : wantsOf (wantsAnswer unstarted [] 1000) ≡ record { refusal = 13; wants = 0 }
 
 -- ---- the idle times: data written at 0, and an idle command written at each due time
 abbrev pub wroteAt : Sender × List ℕ → ℕ → Sender × List ℕ

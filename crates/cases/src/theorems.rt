@@ -1,5 +1,5 @@
 // Theorems as contracts: each of these functions does nothing, and its contract is the theorem.
-ghost use Rattle.cases.specs.Cases.{Table, PayloadTest, WordsTest, HistoryTest, MessagesTest, IdleTimes};
+ghost use Rattle.cases.specs.Cases.{Table, PayloadTest, WordsTest, ReasonsTest, HistoryTest, RingTest, MessagesTest, StreamTest, NumbersTest, IdleTimes};
 
 pub fn session_cases()
     ensures { λ _. ⌜ Table ⌝ }
@@ -13,12 +13,28 @@ pub fn words_test()
     ensures { λ _. ⌜ WordsTest ⌝ }
 {}
 
+pub fn reasons_test()
+    ensures { λ _. ⌜ ReasonsTest ⌝ }
+{}
+
 pub fn history_test()
     ensures { λ _. ⌜ HistoryTest ⌝ }
 {}
 
+pub fn ring_test()
+    ensures { λ _. ⌜ RingTest ⌝ }
+{}
+
 pub fn messages_test()
     ensures { λ _. ⌜ MessagesTest ⌝ }
+{}
+
+pub fn stream_test()
+    ensures { λ _. ⌜ StreamTest ⌝ }
+{}
+
+pub fn numbers_test()
+    ensures { λ _. ⌜ NumbersTest ⌝ }
 {}
 
 pub fn idle_times()

@@ -5,3 +5,4 @@ mod Positions
 mod Stretches
 mod Example
 mod Covered
+mod Cases

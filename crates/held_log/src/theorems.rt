@@ -5,6 +5,7 @@ use delivery::theorems::handed_words;
 use receiver_log::theorems::receiver_answers;
 use receiver_log::theorems::receiver_promise;
 ghost use Rattle.held_log.specs.Theorems.{HeldUnreleased, HeldHandedOn, HeldAccepted};
+ghost use Rattle.held_log.specs.Cases.{HeldCases};
 
 // No held note's release is known lost: whatever arrives, each position above its on's, up to the
 // highest, was handed on without releasing it or is still missing.
@@ -33,3 +34,8 @@ pub fn held_accepted()
     contract_sentence();
     handed_words();
 }
+
+// Two notes as a list; a release that is Late, and one that is a Duplicate.
+pub fn held_cases()
+    ensures { λ _. ⌜ HeldCases ⌝ }
+{}
