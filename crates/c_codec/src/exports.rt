@@ -24,7 +24,7 @@ pub extern "C" fn sirmjold_payload_new(p: &mut [u64], max: usize) -> u8
     if p.len() == 2 {
         match PayloadWriter::new(max) {
             Opened::Payload(payload) => {
-                payload::store(payload, p);
+                payload::open(payload, p);
                 return 0;
             }
             Opened::Refused(why) => {

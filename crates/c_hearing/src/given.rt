@@ -33,7 +33,7 @@ fn request(cfg: StreamConfig, ring: &[u32], r: RetransmitRequest, s: &mut [u64])
     let done = before.on_retransmit_request(cfg, ring, r);
     let sender = done.sender;
     let outcome = done.outcome;
-    state::store_sender(sender, s);
+    state::renew_sender(sender, s);
     figures::of_outcome(answers::of_outcome(outcome))
 }
 
@@ -46,7 +46,7 @@ fn error(e: RetransmitError, s: &mut [u64]) -> Figures
     let done = before.on_retransmit_error(e);
     let receiver = done.receiver;
     let event = done.event;
-    state::store_receiver(receiver, s);
+    state::renew_receiver(receiver, s);
     figures::of_event(answers::of_event(event))
 }
 

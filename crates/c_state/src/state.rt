@@ -12,6 +12,7 @@ use super::receiver_part;
 use super::receiver_part::RECEIVER_WORDS;
 use super::sender_part;
 use c_words::lent::put;
+use c_words::lent::renew;
 use receiver::receiver::Receiver;
 use sender::sender::Sender;
 use stream::stream::DataStream;
@@ -89,6 +90,15 @@ pub fn store_receiver(receiver: Receiver, words: &mut [u64])
     put(&new, words, 0);
 }
 
+// Stores what a call has left of the receiver: where that is what the words have, nothing.
+pub fn renew_receiver(receiver: Receiver, words: &mut [u64])
+    requires { ⌜ (length (now words) ≡ streamWords) × NarrowReceiver receiver ⌝ }
+    ensures { λ _. ⌜ now (words .exit) ≡ withReceiver (now (words .entry)) receiver ⌝ }
+{
+    let new = receiver_part::words_of(receiver);
+    renew(&new, words, 0);
+}
+
 // Stores a receiver whose window alone is new.
 pub fn store_window(window: ReceiveWindow, words: &mut [u64])
     requires { ⌜ (receiverFits (now words) ≡ true) × (window .size < 65536) ⌝ }
@@ -119,16 +129,29 @@ pub fn store_sender(sender: Sender, words: &mut [u64])
     put(&waiting, words, REQUESTS);
 }
 
-// Stores a sender whose requests are those of the words.
-pub fn store_figures(sender: Sender, words: &mut [u64])
+// Stores what a call has left of the sender: where that is what the words have, nothing.
+pub fn renew_sender(sender: Sender, words: &mut [u64])
+    requires { ⌜ (length (now words) ≡ streamWords) × NarrowSender sender ⌝ }
+    ensures { λ _. ⌜ now (words .exit) ≡ withSender (now (words .entry)) sender ⌝ }
+{
+    let queue = sender.queue;
+    let items = queue.items;
+    let new = sender_part::figures(sender);
+    renew(&new, words, RECEIVER_WORDS);
+    let waiting = sender_part::requests(items);
+    renew(&waiting, words, REQUESTS);
+}
+
+// Stores what a call has left of a sender whose requests are those of the words.
+pub fn renew_figures(sender: Sender, words: &mut [u64])
     requires { ⌜ (senderFits (now words) ≡ true) × NarrowSender sender × (sender .queue .items ≡ senderIn (now words) .queue .items) ⌝ }
     ensures { λ _. ⌜ now (words .exit) ≡ withSender (now (words .entry)) sender ⌝ }
 {
     let new = sender_part::figures(sender);
-    put(&new, words, RECEIVER_WORDS);
+    renew(&new, words, RECEIVER_WORDS);
 }
 
-// Stores the stream into the words.
+// Stores the stream into the words, which need have none yet.
 pub fn store(s: DataStream, words: &mut [u64])
     requires { ⌜ (length (now words) ≡ streamWords) × (NarrowReceiver (s .receiver) × NarrowSender (s .sender)) ⌝ }
     ensures { λ _. ⌜ now (words .exit) ≡ stored s ⌝ }
@@ -157,5 +180,5 @@ pub fn store_written(changed: bool, s: DataStream, words: &mut [u64])
     let sender = s.sender;
     let receiver = s.receiver;
     store_changed(changed, receiver, words);
-    store_sender(sender, words);
+    renew_sender(sender, words);
 }

@@ -90,7 +90,7 @@ pub extern "C" fn sirmjold_stream_send_ump(
             let done = before.send_ump(settings::load(cfg), ring, words);
             let sender = done.sender;
             let answer = done.answer;
-            state::store_figures(sender, s);
+            state::renew_figures(sender, s);
             return answer.number();
         }
         return guard::INVALID_STATE;
@@ -117,7 +117,7 @@ pub extern "C" fn sirmjold_stream_on_retransmit_request(
             let done = before.on_retransmit_request(settings::load(cfg), ring, req);
             let sender = done.sender;
             let outcome = done.outcome;
-            state::store_sender(sender, s);
+            state::renew_sender(sender, s);
             return answers::of_outcome(outcome);
         }
         return answers::refused_outcome(guard::INVALID_STATE);
@@ -155,7 +155,7 @@ pub extern "C" fn sirmjold_stream_on_retransmit_error(s: &mut [u64], reason: u8,
         let done = before.on_retransmit_error(RetransmitError { reason, seq });
         let receiver = done.receiver;
         let event = done.event;
-        state::store_receiver(receiver, s);
+        state::renew_receiver(receiver, s);
         return answers::of_event(event);
     }
     answers::refused_event(guard::INVALID_STATE)
@@ -171,7 +171,7 @@ pub extern "C" fn sirmjold_stream_on_retransmit_nak(s: &mut [u64]) -> CEvent
         let done = before.on_retransmit_nak();
         let receiver = done.receiver;
         let event = done.event;
-        state::store_receiver(receiver, s);
+        state::renew_receiver(receiver, s);
         return answers::of_event(event);
     }
     answers::refused_event(guard::INVALID_STATE)
@@ -226,7 +226,7 @@ pub extern "C" fn sirmjold_stream_write_request(
             let receiver = done.receiver;
             let written = done.payload;
             let answer = done.answer;
-            state::store_receiver(receiver, s);
+            state::renew_receiver(receiver, s);
             payload::store(written, p);
             return answers::of_request(answer);
         }

@@ -13,6 +13,7 @@ use c_answers::answers;
 use c_answers::answers::CDelivery;
 use c_words::guard;
 use c_words::lent::put;
+use c_words::lent::renew;
 use config::refusal::Refusal;
 use config::sequence::SeqNum;
 use window::set::Bits;
@@ -61,7 +62,7 @@ fn load(words: &[u64]) -> ReceiveWindow
     known(words)
 }
 
-// Stores the window into the words.
+// Stores the window into words that need have none yet.
 fn store(window: ReceiveWindow, words: &mut [u64])
     requires { ⌜ length (now words) ≡ 4 ⌝ }
     ensures { λ _. ⌜ now (words .exit) ≡ windowWords window ⌝ }
@@ -74,6 +75,21 @@ fn store(window: ReceiveWindow, words: &mut [u64])
         bits.high,
     ];
     put(&new, words, 0);
+}
+
+// Stores what a call has left of the window: where that is what the words have, nothing.
+fn renewed(window: ReceiveWindow, words: &mut [u64])
+    requires { ⌜ length (now words) ≡ 4 ⌝ }
+    ensures { λ _. ⌜ now (words .exit) ≡ windowWords window ⌝ }
+{
+    let bits = window.bits;
+    let new = [
+        window.size as u64,
+        window.highest as u64,
+        bits.low,
+        bits.high,
+    ];
+    renew(&new, words, 0);
 }
 
 // Stores a window that was started.
@@ -110,7 +126,7 @@ fn take(taken: Arrival, w: &mut [u64]) -> Acceptance
     let window = taken.window;
     let class = taken.class;
     let lost = taken.lost;
-    store(window, w);
+    renewed(window, w);
     Acceptance::Heard { class, lost }
 }
 

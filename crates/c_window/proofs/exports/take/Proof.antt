@@ -3,14 +3,14 @@ use borrow.Author.Needs.{needs}
 use Rattle.c_window.proofs.exports.take.Statement.{statement}
 use Rattle.c_window.proofs.exports.take.Tie as tie
 
-store-requires : tie.Need-store-requires
-store-requires c κs = search needs
+renewed-requires : tie.Need-renewed-requires
+renewed-requires c κs = search needs
 
 same-length : tie.Need-same-length
 same-length c = search needs
 
 returns : tie.Need-returns
-returns c = rw (c .before .before .store .ensures)
+returns c = rw (c .before .before .renewed .ensures)
 
 pub take-spec : {M : Type 1} → statement M
-take-spec = tie.close (tie.spec store-requires same-length returns)
+take-spec = tie.close (tie.spec renewed-requires same-length returns)
