@@ -8,6 +8,7 @@ use lib.Count.{trailingZeros}
 use borrow.Author.Tests.{le-leb, lt-leb, lt-ltb}
 use Rattle.config.specs.Settings.{checkOf}
 use Rattle.packet.specs.Bytes.{bytesOf, wordsOf, spliced}
+use Rattle.packet.specs.Read.{nextOf}
 use Rattle.packet.specs.Write.{validOf as payloadValid, writtenOf}
 use Rattle.command.specs.Messages.{typeWords, divided, messagesOf, wholeOf, messageAt, walked}
 use Rattle.command.specs.Write.{errorWritten}
@@ -37,14 +38,22 @@ use Rattle.sender.specs.Queueing.{roomOf, needOf, joinedTo, pushedAll, queuedTo
 use Rattle.writing.specs.Writing.{servedIn, servedOf, idledOf, writtenOff, newOf as newSent, writtenBy}
 use Rattle.sender.specs.Answers.{sendAnswer}
 use Rattle.writing.specs.Answers.{writeAnswer}
-use Rattle.receiver.specs.Receiver.{validOf as receiverValid, settledOf, heardOf, takenOf}
-use Rattle.receiver.specs.Answers.{dataAnswer as receiverData}
+use Rattle.receiver.specs.Receiver.{validOf as receiverValid, dueAfter, settledOf, heardOf, polledOf, offeredOf, takenOf}
+use Rattle.receiver.specs.Answers.{dataAnswer as receiverData, pollAnswer as receiverPoll}
 use Rattle.stream.specs.State.{validOf as streamValid}
-use Rattle.stream.specs.Ends.{sendAnswer as streamSend, dataAnswer}
+use Rattle.stream.specs.Ends.{sendAnswer as streamSend, dataAnswer, pollAnswer}
 use Rattle.stream.specs.Answers.{wantsAnswer}
 use Rattle.stream.specs.Writing.{sentAfter, dataWritten, writeAnswer as streamWrite}
 use Rattle.stream.specs.Sending.{sendAndWriteAnswer}
-use Rattle.cases.specs.Cases.{range, Table, PayloadTest, WordsTest, ReasonsTest, HistoryTest, RingTest, MessagesTest, StreamTest, NumbersTest, duesFrom, IdleTimes}
+use Rattle.c_words.specs.Entry.{wordsEntry}
+use Rattle.c_words.specs.Limits.{within}
+use Rattle.c_state.specs.Pack.{fourIn, word, twoIn, pair, flagsIn, flagsNumber, held}
+use Rattle.c_state.specs.Receiver.{receiverWords, receiverOf, holdsButTimer, receiverHolds}
+use Rattle.c_state.specs.Sender.{firstIn, secondIn, requestsIn}
+use Rattle.c_state.specs.Stream.{receiverFits}
+use Rattle.c_state.specs.Receiving.{waitsOf}
+use Rattle.c_window.specs.Window.{windowFits, startExport}
+use Rattle.cases.specs.Cases.{range, Table, PayloadTest, WordsTest, ReasonsTest, HistoryTest, RingTest, ReadTest, MessagesTest, StreamTest, NumbersTest, LayoutTest, duesFrom, IdleTimes}
 
 -- the lost set has 32,702 positions: its ends come from laws and are not computed
 lost-far : spanOf 32766 64 (lostOf 64 0 32767) ≡ range 0 32702
@@ -116,17 +125,25 @@ pub ring-test : RingTest
 unfolding slotOf ringStored ringRead
 ring-test = record { last = refl; past = refl; stored = refl; read = refl }
 
+pub read-test : ReadTest
+unfolding nextOf bytesOf
+read-test = record { whole = refl; cut = refl; end = refl; past = refl }
+
 pub messages-test : MessagesTest
 unfolding typeWords divided messagesOf messageAt walked bytesOf wordsOf
 messages-test = record { cut-last = refl; whole-last = refl; walk = refl; words = (refl, refl) }
 
 pub stream-test : StreamTest
-unfolding dataAnswer receiverData receiverValid validOf settledOf heardOf takenOf acceptOf classOf processed newOf spanOf lostOf missingOf movedOf val setOf topOf topIn bottomOf trailingZeros streamSend streamValid streamWrite dataWritten sentAfter sendAndWriteAnswer typeWords divided messagesOf wholeOf slotOf ringStored ringRead headerAt wordsFrom numbered stateOk walkOk popOne popped grown pushed longer appended entryPacket fitting front behind commandsIn commandsOf longMessage above senderValid roomOf needOf joinedTo pushedAll queuedTo queuedOf wordsCheck placedOf sentOf rowOf packetsFrom servedIn servedOf idleNext idledOf sizesOf repeatsOf anyWords writtenOff newSent writtenBy sendAnswer writeAnswer checkOf payloadValid writtenOf bytesOf spliced
-stream-test = record { new = refl; heard = refl; behind = refl }
+unfolding dataAnswer receiverData pollAnswer receiverPoll polledOf dueAfter requestOf offeredOf receiverValid validOf settledOf heardOf takenOf acceptOf classOf processed newOf spanOf lostOf missingOf movedOf val setOf topOf topIn bottomOf trailingZeros streamSend streamValid streamWrite dataWritten sentAfter sendAndWriteAnswer typeWords divided messagesOf wholeOf slotOf ringStored ringRead headerAt wordsFrom numbered stateOk walkOk popOne popped grown pushed longer appended entryPacket fitting front behind commandsIn commandsOf longMessage above senderValid roomOf needOf joinedTo pushedAll queuedTo queuedOf wordsCheck placedOf sentOf rowOf packetsFrom servedIn servedOf idleNext idledOf sizesOf repeatsOf anyWords writtenOff newSent writtenBy sendAnswer writeAnswer checkOf payloadValid writtenOf bytesOf spliced
+stream-test = record { new = refl; heard = refl; asked = refl; request = refl; behind = refl }
 
 pub numbers-test : NumbersTest
 unfolding receiverValid validOf takenOf val setOf streamSend streamValid streamWrite dataWritten sentAfter sendAndWriteAnswer wantsAnswer typeWords divided messagesOf wholeOf slotOf ringStored ringRead headerAt wordsFrom numbered stateOk walkOk popOne popped grown pushed longer appended entryPacket fitting front behind commandsIn commandsOf longMessage above senderValid roomOf needOf joinedTo pushedAll queuedTo queuedOf wordsCheck placedOf sentOf rowOf packetsFrom servedIn servedOf idleNext idledOf sizesOf repeatsOf anyWords writtenOff newSent writtenBy sendAnswer writeAnswer checkOf payloadValid writtenOf bytesOf spliced
 numbers-test = record { sent = refl; behind = refl; wants = refl }
+
+pub layout-test : LayoutTest
+unfolding receiverData receiverValid validOf settledOf heardOf acceptOf classOf processed newOf spanOf lostOf missingOf movedOf val setOf topOf topIn bottomOf trailingZeros checkOf startAnswer spliced fourIn word twoIn pair flagsIn flagsNumber held receiverWords receiverOf holdsButTimer receiverHolds receiverFits waitsOf firstIn secondIn requestsIn wordsEntry within windowFits startExport
+layout-test = record { moved = refl; early = refl; due = refl; timed = refl; untimed = refl; requests = refl; window = refl; largest = refl; larger = refl }
 
 pub idle-times : IdleTimes
 unfolding duesFrom typeWords divided messagesOf wholeOf slotOf ringStored ringRead headerAt wordsFrom numbered stateOk walkOk popOne popped grown pushed longer appended entryPacket fitting front behind commandsIn commandsOf longMessage above senderValid roomOf needOf joinedTo pushedAll queuedTo queuedOf wordsCheck placedOf sentOf rowOf packetsFrom servedIn servedOf idleNext idledOf sizesOf repeatsOf anyWords writtenOff newSent writtenBy sendAnswer writeAnswer checkOf payloadValid writtenOf bytesOf spliced

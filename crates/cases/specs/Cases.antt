@@ -1,14 +1,16 @@
 -- 01, "Session cases": those marked P, as one table of the definitions; "State test": payloads and histories that no call leaves; "Numbers of each operation": words that no command has (4), a reason that isn't defined (11), a stream's answers as numbers;
--- messages by their types, places of a ring past its end, what a stream hears.
-use Prim.Native.Nat.{ℕ, zero, suc, _≤_}
+-- reading at a payload's end, messages by their types, places of a ring past its end, what a stream hears and asks for, how a stream and a window lie in words.
+use Prim.Native.Nat.{ℕ, zero, suc, _+_, _≤_}
 use mathlib.Core.Bool.{true, false}
-use mathlib.Core.List.{List, [], _∷_}
+use mathlib.Core.List.{List, [], _∷_, _++_}
 use mathlib.Core.Path.{_≡_}
 use lib.ListN.{take, replicate, set, getD}
 use Rattle.config.specs.Settings.{defaults}
 use Rattle.config.specs.declared.refusal.Refusal.the-variants.{TooLarge, InvalidValue, ReasonNotAllowed, InvalidState}
 use Rattle.packet.specs.Bytes.{bytesOf, wordsOf}
 use Rattle.packet.specs.Layout.{packet}
+use Rattle.packet.specs.Read.{header, nextOf}
+use Rattle.packet.specs.declared.cursor.PacketItem.the-variants.{Command, Truncated, End}
 use Rattle.packet.specs.Write.{refusedOf, writtenOf}
 use Rattle.packet.specs.declared.writer.PayloadWriter.{PayloadWriter}
 use Rattle.packet.specs.declared.writer.Wrote.{Wrote as PayloadWrote}
@@ -16,6 +18,7 @@ use Rattle.config.specs.declared.answer.Outcome.{Outcome}
 use Rattle.config.specs.declared.answer.Outcome.the-variants.{Done, Refused}
 use Rattle.command.specs.Write.{requestPacket, errorWritten}
 use Rattle.command.specs.Messages.{messagesOf, walked}
+use Rattle.command.specs.declared.retransmit.RetransmitRequest.{RetransmitRequest}
 use Rattle.window.specs.Answers.{newAnswer, acceptAnswer, missingAnswer, requestAnswer}
 use Rattle.window.specs.Window.{fresh}
 use Rattle.window.specs.declared.window.Acceptance.the-variants.{Heard}
@@ -37,18 +40,26 @@ use Rattle.sender.specs.declared.sender.Sent.{Sent}
 use Rattle.writing.specs.declared.writing.Wrote.{Wrote}
 use Rattle.writing.specs.declared.writing.Writing.{Writing}
 use Rattle.writing.specs.declared.writing.Writing.the-variants.{Written, Refused as NotWritten}
+use Rattle.receiver.specs.Answers.{dataAnswer as receiverData}
 use Rattle.receiver.specs.declared.receiver.Hearing.{Hearing}
 use Rattle.receiver.specs.declared.receiver.Hearing.the-variants.{Delivery}
 use Rattle.stream.specs.State.{unstarted, fresh as freshStream}
-use Rattle.stream.specs.Ends.{dataAnswer}
+use Rattle.stream.specs.Ends.{dataAnswer, pollAnswer}
 use Rattle.stream.specs.Answers.{wantsAnswer}
+use Rattle.stream.specs.Writing.{writeAnswer as streamWrite}
 use Rattle.stream.specs.Sending.{sendAndWriteAnswer}
 use Rattle.stream.specs.declared.stream.DataStream.{DataStream}
 use Rattle.stream.specs.declared.stream.Heard.{Heard as StreamHeard}
+use Rattle.stream.specs.declared.stream.Wrote.{Wrote as StreamWrote}
 use Rattle.stream.specs.declared.sending.SendAndWrite.{SendAndWrite}
 use Rattle.stream.specs.declared.sending.SendAndWrite.the-variants.{Queued}
 use Rattle.c_answers.specs.Answers.{wantsOf}
 use Rattle.c_answers.specs.Sending.{sentWrittenOf}
+use Rattle.c_state.specs.Receiver.{receiverHolds}
+use Rattle.c_state.specs.Sender.{requestsIn}
+use Rattle.c_state.specs.Stream.{receiverIn}
+use Rattle.c_state.specs.Receiving.{heardInto, waitsOf}
+use Rattle.c_window.specs.Window.{windowFits, startExport}
 
 -- ---- the receive window
 -- the window after a number has arrived
@@ -130,7 +141,7 @@ Refuses p = writtenOf p (replicate 16 0xAA) (packet 0x77 1 2 (0xDEADBEEF ∷ [])
 
 -- "a nonempty payload length is below 8, above its limit or lent buffer, or no multiple of 4", or a limit that opening refuses
 pub record PayloadTest : Type 0 where
-  pub below : Refuses (unmade 7 1400)
+  pub below : Refuses (unmade 4 1400)
   pub above-limit : Refuses (unmade 16 12)
   pub above-buffer : Refuses (unmade 20 1400)
   pub uneven : Refuses (unmade 10 1400)
@@ -171,6 +182,20 @@ pub record RingTest : Type 0 where
   pub stored : ringStored (replicate 5 0) 3 (7 ∷ 8 ∷ 9 ∷ []) ≡ (9 ∷ 0 ∷ 0 ∷ 7 ∷ 8 ∷ [])
   pub read : ringRead (9 ∷ 0 ∷ 0 ∷ 7 ∷ 8 ∷ []) 3 3 ≡ (7 ∷ 8 ∷ 9 ∷ [])
 
+-- ---- reading: a payload of 12 bytes with one command, and one whose command is cut
+abbrev pub onePayload : List ℕ
+onePayload = bytesOf (0x4D494449 ∷ 0xFF010000 ∷ 0x20903C40 ∷ [])
+
+abbrev pub cutPayload : List ℕ
+cutPayload = bytesOf (0x4D494449 ∷ 0xFF020000 ∷ 0x20903C40 ∷ [])
+
+pub record ReadTest : Type 0 where
+  pub whole : nextOf onePayload 4 ≡ Command (header 0xFF 1 0 0) 4 record { at = 12 }
+  pub cut : nextOf cutPayload 4 ≡ Truncated (header 0xFF 2 0 0)
+  -- at the end and past it there is nothing
+  pub end : nextOf onePayload 12 ≡ End
+  pub past : nextOf onePayload 13 ≡ End
+
 -- ---- messages: the type is in the top four bits of the first word, and a message that is cut has no words
 -- two of one word each; the word at an index of their bytes, as `word_at` of `command` answers it
 abbrev pub onAndOff : List ℕ
@@ -201,10 +226,20 @@ handedOn c = Delivery record { seq = 0; class = c; gap = Nothing; lost = Nothing
 abbrev pub sentInto : PayloadWriter → SendAndWrite
 sentInto p = sendAndWriteAnswer started defaults 1000 (0x20903C40 ∷ []) p (replicate 16 0) (replicate 65 0) .0 .answer
 
+-- number 4 arrives at 1000, and a poll at 1010 makes a request for 0 to 3 due
+abbrev pub asking : DataStream
+asking = pollAnswer (dataAnswer started defaults 1000 4 .stream) defaults 1010 .stream
+
+abbrev pub asks : StreamWrote × List ℕ × List ℕ
+asks = streamWrite asking defaults 1010 (empty 1400) (replicate 16 0) (replicate 65 0)
+
 pub record StreamTest : Type 0 where
   pub new : hears started .answer ≡ handedOn (New 0)
   -- what was heard stays with the receiver
   pub heard : hears (hears started .stream) .answer ≡ handedOn Duplicate
+  -- a request that is due is written, and counted
+  pub asked : asks .0 .answer ≡ commands 1
+  pub request : take 12 (asks .1) ≡ bytesOf (0x4D494449 ∷ 0x80010000 ∷ 0x00040000 ∷ [])
   -- a payload that no call leaves is refused with 13 behind queued words too
   pub behind : sentInto (unmade 10 1400) ≡ Queued (NotWritten InvalidState)
 
@@ -214,6 +249,36 @@ pub record NumbersTest : Type 0 where
   pub behind : sentWrittenOf (sentInto (unmade 10 1400)) ≡ record { commands = 0; refusal = 13; more = 0; queued = 1 }
   -- of a start that was refused
   pub wants : wantsOf (wantsAnswer unstarted [] 1000) ≡ record { refusal = 13; wants = 0 }
+
+-- ---- words that a caller in C lends: a stream's, of which the first seven are its receiver's, and a window's
+-- a window of 64 whose highest is this number, with nothing missing, and nothing asked for
+abbrev pub atRest : ℕ → List ℕ
+atRest highest = 0xFFFFFFFFFFFFFFFF ∷ 0 ∷ 0 ∷ 0 ∷ 0 ∷ (0x00400000 + highest) ∷ 0 ∷ replicate 13 0
+
+-- a window of 128 with numbers missing, a due time of 1000, requests made so far and flags, and a request from 256 on for 3 numbers
+abbrev pub receiverAsked : ℕ → List ℕ
+receiverAsked sentAndFlags = 5 ∷ 1 ∷ 0 ∷ 0 ∷ 1000 ∷ 0x0003010000800102 ∷ sentAndFlags ∷ []
+
+-- a timer that runs, with two requests made, and one unanswered
+abbrev pub running : List ℕ
+running = receiverAsked 0x0902 ++ replicate 13 0
+
+pub record LayoutTest : Type 0 where
+  -- a number that moves the window up is stored
+  pub moved : heardInto (atRest 65535) (receiverData (receiverIn (atRest 65535)) defaults 1000 0) .1 ≡ atRest 0
+  -- a poll at the due time is not early
+  pub early : waitsOf 999 running ≡ true
+  pub due : waitsOf 1000 running ≡ false
+  -- a due time stands only beside the timer's flag: the request's is not enough
+  pub timed : receiverHolds (receiverAsked 0x0900) ≡ true
+  pub untimed : receiverHolds (receiverAsked 0x0800) ≡ false
+  -- two requests to a word, the first lowest
+  pub requests : requestsIn (0x0002000900010007 ∷ []) ≡ (record { seq = 7; count = 1 } ∷ record { seq = 9; count = 2 } ∷ [])
+  -- a window's size, highest, bits low and high
+  pub window : startExport (replicate 4 0) 64 7 ≡ (0, 64 ∷ 7 ∷ 0xFFFFFFFFFFFFFFFF ∷ 0 ∷ [])
+  -- one of 128 numbers fits
+  pub largest : windowFits (128 ∷ 7 ∷ 0 ∷ 0 ∷ []) ≡ true
+  pub larger : windowFits (129 ∷ 7 ∷ 0 ∷ 0 ∷ []) ≡ false
 
 -- ---- the idle times: data written at 0, and an idle command written at each due time
 abbrev pub wroteAt : Sender × List ℕ → ℕ → Sender × List ℕ

@@ -1,5 +1,5 @@
 // Theorems as contracts: each of these functions does nothing, and its contract is the theorem.
-ghost use Rattle.cases.specs.Cases.{Table, PayloadTest, WordsTest, ReasonsTest, HistoryTest, RingTest, MessagesTest, StreamTest, NumbersTest, IdleTimes};
+ghost use Rattle.cases.specs.Cases.{Table, PayloadTest, WordsTest, ReasonsTest, HistoryTest, RingTest, ReadTest, MessagesTest, StreamTest, NumbersTest, LayoutTest, IdleTimes};
 
 pub fn session_cases()
     ensures { λ _. ⌜ Table ⌝ }
@@ -25,6 +25,10 @@ pub fn ring_test()
     ensures { λ _. ⌜ RingTest ⌝ }
 {}
 
+pub fn read_test()
+    ensures { λ _. ⌜ ReadTest ⌝ }
+{}
+
 pub fn messages_test()
     ensures { λ _. ⌜ MessagesTest ⌝ }
 {}
@@ -35,6 +39,10 @@ pub fn stream_test()
 
 pub fn numbers_test()
     ensures { λ _. ⌜ NumbersTest ⌝ }
+{}
+
+pub fn layout_test()
+    ensures { λ _. ⌜ LayoutTest ⌝ }
 {}
 
 pub fn idle_times()
