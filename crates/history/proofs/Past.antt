@@ -18,7 +18,7 @@ use Rattle.history.specs.declared.history.Mark.{Mark}
 use Rattle.history.specs.declared.history.SendHistory.{SendHistory}
 use Rattle.history.specs.declared.headers.Stop.{Stop}
 use Rattle.history.specs.declared.headers.Leg.{Leg}
-use Rattle.history.proofs.Slots.{slot-from}
+use Rattle.history.proofs.Slots.{slot-from, slot-to}
 use Rattle.history.proofs.Walk.{header-add, numbered-add, words-add}
 
 pub past-none : (b : List ℕ) (i n p : ℕ) → Past b i n p 0 i n p 0
@@ -29,6 +29,18 @@ past-none b i n p =
       taken = λ j. (let e : 0 + j ≡ j = omega arith in rw e (omega arith));
       newest = λ j. (let e : 0 + j ≡ j = omega arith in rw e);
     }
+
+-- one more is passed, and not yet the last
+pub one-more : (passed k : ℕ) → passed < k → (passed + 1 ≡ k → ⊥) → passed + 1 < k
+one-more passed k l f = omega arith
+
+pub further : (at i n i' : ℕ) → at ≤ i → i' ≡ i + n → at ≤ i'
+further at i n i' l e = omega arith
+
+-- the place reached is in front of the end of the ring
+pub past-to : (b : List ℕ) (i n p d at seq prev words : ℕ) → i ≤ at → at < length b
+    → Past b i n p d (slotOf (length b) i (at - i)) seq prev words → Past b i n p d at seq prev words
+past-to b i n p d at seq prev words l m x = rw (slot-to (length b) i at l m) at x
 
 pub past-entry : (b : List ℕ) (i n p : ℕ) → lengthAt b i ≤ 64 → getD b i 0 ≡ n * turn + lengthAt b i → Past b i n p 1 (nextAt b i) (after n 1) i (entrySize b i)
 unfolding numbered headerAt wordsFrom newestFrom

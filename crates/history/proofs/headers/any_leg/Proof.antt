@@ -6,8 +6,7 @@ use lib.ListN.{length, getD}
 use Rattle.config.specs.Sequence.{turn}
 use Rattle.history.specs.Ring.{slotOf}
 use Rattle.history.specs.inner.Walk.{Past}
-use Rattle.history.proofs.Slots.{slot-to}
-use Rattle.history.proofs.Past.{past-start, less-number, place-after, number-next, header-right, past-wrong, past-turn, ran-lost, ran-on}
+use Rattle.history.proofs.Past.{past-start, past-to, one-more, further, less-number, place-after, number-next, header-right, past-wrong, past-turn, ran-lost, ran-on}
 use borrow.Author.Needs.{needs}
 use Rattle.history.proofs.headers.any_leg.Statement.{statement}
 use Rattle.history.proofs.headers.any_leg.Tie as tie
@@ -113,14 +112,14 @@ loop-again : tie.Need-loop-again Inv-loop μ-loop
 loop-again c =
     let w = c .before .before in
     let a = w .before .before .before .before .before .before in
-    let e = behind (w .before) in
+    let l = further _ _ _ _ (a .loop .inv .1) (behind (w .before)) in
     let n = number-next _ _ (a .loop .inv .4) (w .wrapping-add-u32 .ensures) in (
-      omega arith,
-      omega arith,
-      omega arith,
+      one-more _ _ (a .loop .inv .0) (c .before .if2 .left),
+      l,
+      c .if3 .left,
       n .1 ∙ a .loop .inv .3,
       n .2,
-      rw (slot-to _ (a .before .before .args .at) _ (omega arith) (c .if3 .left)) at (over w),
+      past-to _ _ _ _ _ _ _ _ _ l (c .if3 .left) (over w),
     )
 
 cast-t17 : tie.Need-cast-t17 Inv-loop μ-loop

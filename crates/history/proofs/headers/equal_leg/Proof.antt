@@ -8,7 +8,7 @@ use Rattle.config.specs.Sequence.{turn}
 use Rattle.history.specs.Ring.{slotOf}
 use Rattle.history.specs.inner.Walk.{Past}
 use Rattle.history.proofs.Slots.{slot-to}
-use Rattle.history.proofs.Past.{past-start, number-next, header-right, past-wrong, past-turn, ran-lost, ran-on}
+use Rattle.history.proofs.Past.{past-start, past-to, one-more, further, number-next, header-right, past-wrong, past-turn, ran-lost, ran-on}
 use borrow.Author.Needs.{needs}
 use Rattle.history.proofs.headers.equal_leg.Statement.{statement}
 use Rattle.history.proofs.headers.equal_leg.Tie as tie
@@ -131,13 +131,14 @@ loop-again : tie.Need-loop-again Inv-loop μ-loop
 loop-again c =
     let w = c .before .before in
     let a = w .before .before .before in
-    let g = goes w in (
-      omega arith,
-      omega arith,
-      omega arith,
+    let g = goes w in
+    let l = further _ _ _ _ (a .loop .inv .1) refl in (
+      one-more _ _ (a .loop .inv .0) (c .before .if3 .left),
+      l,
+      c .if4 .left,
       number-next _ _ (a .loop .inv .4) (w .wrapping-add-u32 .ensures) .1 ∙ a .loop .inv .3,
       g .2,
-      rw (slot-to _ (a .before .before .before .before .before .before .args .at) _ (omega arith) (c .if4 .left)) at (g .4),
+      past-to _ _ _ _ _ _ _ _ _ l (c .if4 .left) (g .4),
       λ _. (g .0, g .3),
     )
 
