@@ -184,6 +184,10 @@ module _ (s t : Sender) (m : Mark) where
 abbrev pub Follows : Sender → Mark → Sender → List ℕ → Type 0
 Follows s m t ring = (writtenCount t ≤ writtenCount s) × Marks (t .history) ring (markQueued s t m)
 
+-- an entry as many entries behind the mark
+same-entry : (v w m : ℕ) → w ≤ v → m ≤ v → v - w ≤ m → (w - (v - m) ≡ m - (v - w)) × (v - m ≤ w) × (m - (v - w) ≤ w)
+same-entry v w m l k n = (omega arith, omega arith, omega arith)
+
 -- of the commands from the mark on, either some have left, and the oldest is the first, or it is known where the first of them stands
 mark-known : (s t : Sender) (ring : List ℕ) (m : Mark) → m .entry ≤ writtenCount s → Good (t .history) ring → writtenCount t ≤ writtenCount s
     → (writtenCount s - m .entry ≤ writtenCount t → m .at ≡ headerAt (writtenCount t - (writtenCount s - m .entry)) ring (t .history .head))
@@ -195,10 +199,9 @@ mark-known s t ring m l g f known = (f, by (ltb (m .entry) (goneBy s t)) refl)
         → Marks (t .history) ring (cond c (oldestMark (t .history)) (record { entry = m .entry - goneBy s t; at = m .at }))
     by true e = mark-oldest (t .history) ring g
     by false e =
-        let n : goneBy s t ≤ m .entry = ltb-false _ _ e in
-        let z : writtenCount t - (writtenCount s - m .entry) ≡ m .entry - goneBy s t = omega arith in
-        let k = rw z at (known (omega arith)) in
-        (k, rw k (good-header (t .history) ring g (m .entry - goneBy s t) (omega arith)))
+        let z = same-entry (writtenCount s) (writtenCount t) (m .entry) f l (ltb-false _ _ e) in
+        let k : m .at ≡ headerAt (m .entry - goneBy s t) ring (t .history .head) = known (z .1) ∙ ap (λ (n : ℕ). headerAt n ring (t .history .head)) (z .0) in
+        (k, rw k (good-header (t .history) ring g (m .entry - goneBy s t) (omega (arith, z .2))))
 
 -- the place of the first of r written commands
 module _ (s : Sender) (ring : List ℕ) (max : ℕ) (ws : List ℕ) (v : validOf s ring ≡ true) (few : max ≤ 64) (o : s .history .oldest < turn)

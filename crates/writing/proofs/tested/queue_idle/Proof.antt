@@ -14,10 +14,14 @@ enum-known-idle : tie.Need-enum-known-idle
 enum-known-idle c = search needs
 
 returns : tie.Need-returns
-returns c = idled-unsent _ _ _ _ (c .if1 .taken)
+returns c =
+    let start = c .before .before .before .before .before .before .before .before in
+    idled-unsent (start .args .s) (start .args .cfg) (start .args .time) _ (c .if1 .taken)
 
 returns-2 : tie.Need-returns-2
-returns-2 c = idled-early _ _ _ _ _ (c .before .before .before .before .before .idle .given .1) (c .before .before .if1 .left) (c .if2 .taken)
+returns-2 c =
+    let start = c .before .before .before .before .before .before .before .before .before .before in
+    idled-early (start .args .s) (start .args .cfg) (start .args .time) _ _ (c .before .before .before .before .before .idle .given .1) (c .before .before .if1 .left) (c .if2 .taken)
 
 slice-aggregate-push : tie.Need-slice-aggregate-push
 slice-aggregate-push c = search needs
@@ -35,14 +39,17 @@ next-requires : tie.Need-next-requires
 next-requires c κs = (c .before .before .before .before .before .before .before .before .before .before .before .before .before .before .before .before .before .pre .0, idle-step _ _ (valid-idle _ _ (c .before .before .before .before .before .before .before .before .before .before .before .before .before .before .before .before .before .pre .1)) (c .before .before .before .before .before .before .before .before .before .before .before .before .idle .given .1))
 
 returns-3 : tie.Need-returns-3
-returns-3 c = idled-off _ _ _ _ (c .enum-told .given .1)
+returns-3 c =
+    let start = c .before .before .before .before .before in
+    idled-off (start .args .s) (start .args .cfg) (start .args .time) _ (c .enum-told .given .1)
 
 same-length : tie.Need-same-length
 same-length c = search needs
 
 returns-4 : tie.Need-returns-4
 returns-4 c =
-    idled-queued _ _ _ _ _ (c .before .before .before .before .before .before .before .before .before .before .before .before .before .idle .given .1) (c .before .before .before .before .before .before .before .before .before .before .if1 .left) _ _ _ (c .before .before .before .before .before .before .before .before .if2 .left) (c .before .before .before .before .before .push .ensures) (c .next .ensures)
+    let start = c .before .before .before .before .before .before .before .before .before .before .before .before .before .before .before .before .before .before in
+    idled-queued (start .args .s) (start .args .cfg) (start .args .time) _ _ (c .before .before .before .before .before .before .before .before .before .before .before .before .before .idle .given .1) (c .before .before .before .before .before .before .before .before .before .before .if1 .left) _ _ _ (c .before .before .before .before .before .before .before .before .if2 .left) (c .before .before .before .before .before .push .ensures) (c .next .ensures)
 
 pub queue-idle-spec : {M : Type 1} → statement M
 queue-idle-spec =

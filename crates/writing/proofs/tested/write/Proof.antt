@@ -5,6 +5,7 @@ use Rattle.config.specs.Sequence.{turn}
 use Rattle.writing.proofs.Serving.{out-sound, written-more, written-new}
 use Rattle.writing.proofs.Idling.{idled-next, mark-kept}
 use borrow.Author.Needs.{needs}
+use Rattle.sender.specs.Requests.{withQueue}
 use Rattle.rows.proofs.Filling.{start-most}
 use Rattle.writing.proofs.tested.write.Statement.{statement}
 use Rattle.writing.proofs.tested.write.Tie as tie
@@ -22,7 +23,9 @@ same-length-2 : tie.Need-same-length-2
 same-length-2 c = search needs
 
 returns : tie.Need-returns
-returns c = written-more _ _ _ _ _ _ _ _ _ _ _ (c .before .before .before .before .before .serve .ensures) (c .if1 .taken)
+returns c =
+    let start = c .before .before .before .before .before .before .before .before .before .before .before in
+    written-more (start .args .s) (start .args .cfg) (start .args .time) (start .args .p) _ _ (withQueue (start .args .s) (c .before .before .before .before .before .serve .result .queue)) (c .before .before .before .before .before .serve .result .payload) _ _ _ (c .before .before .before .before .before .serve .ensures) (c .if1 .taken)
 
 queue-idle-requires : tie.Need-queue-idle-requires
 queue-idle-requires c κs =
@@ -54,7 +57,8 @@ same-length-4 c = search needs
 
 returns-2 : tie.Need-returns-2
 returns-2 c =
-    written-new _ _ _ _ _ _ _ _ _ _ _ (c .before .before .before .before .before .before .before .before .before .before .before .before .before .before .before .before .serve .ensures) (c .before .before .before .before .before .before .before .before .before .before .before .if1 .left) _ _ _ _ (c .before .before .before .before .before .before .before .before .before .queue-idle .ensures) (c .before .before .write-new .ensures)
+    let start = c .before .before .before .before .before .before .before .before .before .before .before .before .before .before .before .before .before .before .before .before .before .before in
+    written-new (start .args .s) (start .args .cfg) (start .args .time) (start .args .p) _ _ (withQueue (start .args .s) (c .before .before .before .before .before .before .before .before .before .before .before .before .before .before .before .before .serve .result .queue)) (c .before .before .before .before .before .before .before .before .before .before .before .before .before .before .before .before .serve .result .payload) _ _ _ (c .before .before .before .before .before .before .before .before .before .before .before .before .before .before .before .before .serve .ensures) (c .before .before .before .before .before .before .before .before .before .before .before .if1 .left) (c .before .before .before .before .before .before .before .before .before .queue-idle .result) _ (c .before .before .write-new .result) _ (c .before .before .before .before .before .before .before .before .before .queue-idle .ensures) (c .before .before .write-new .ensures)
 
 pub write-spec : {M : Type 1} → statement M
 write-spec =

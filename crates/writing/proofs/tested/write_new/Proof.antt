@@ -8,7 +8,9 @@ use Rattle.writing.proofs.tested.write_new.Statement.{statement}
 use Rattle.writing.proofs.tested.write_new.Tie as tie
 
 returns : tie.Need-returns
-returns c = new-none _ _ _ _ _ _ _ (c .if1 .taken)
+returns c =
+    let start = c .before .before .before .before in
+    new-none (start .args .s) (start .args .cfg) (start .args .time) _ (start .args .p) _ _ (c .if1 .taken)
 
 sub-written : tie.Need-sub-written
 sub-written c = valid-unsent _ _ (c .before .before .before .before .before .before .before .pre .0)
@@ -44,15 +46,15 @@ returns-2 : tie.Need-returns-2
 returns-2 c =
     let start = c .before .before .before .before .before .before .before .before .before .before .before .before .before .before .before .before in
     let w = c .before .before .before .before .before .walk .ensures in
-    let e = w .0 ∙ last-end _ _ (start .pre .0) _ _ (least-few _ _ _ (c .before .before .before .before .before .before .before .least .ensures)) (c .before .before .before .before .before .before .place-of .ensures .0) in
-    new-large (start .args .s) (start .args .cfg) (start .args .time) _ _ _ _ (c .before .before .before .before .before .before .before .before .before .before .before .before .if1 .left) _ e (omega (arith, c .before .before .if2 .taken, c .before .before .before .pl .ensures, c .before .before .before .before .free-words .ensures)) (c .if3 .taken)
+    let e = w .0 ∙ last-end (start .args .s) _ (start .pre .0) _ _ (least-few _ _ _ (c .before .before .before .before .before .before .before .least .ensures)) (c .before .before .before .before .before .before .place-of .ensures .0) in
+    new-large (start .args .s) (start .args .cfg) (start .args .time) _ (start .args .p) _ _ (c .before .before .before .before .before .before .before .before .before .before .before .before .if1 .left) _ e (omega (arith, c .before .before .if2 .taken, c .before .before .before .pl .ensures, c .before .before .before .before .free-words .ensures)) (c .if3 .taken)
 
 returns-3 : tie.Need-returns-3
 returns-3 c =
     let start = c .before .before .before .before .before .before .before .before .before .before .before .before .before .before .before .before in
     let w = c .before .before .before .before .before .walk .ensures in
-    let e = w .0 ∙ last-end _ _ (start .pre .0) _ _ (least-few _ _ _ (c .before .before .before .before .before .before .before .least .ensures)) (c .before .before .before .before .before .before .place-of .ensures .0) in
-    new-more (start .args .s) (start .args .cfg) (start .args .time) _ _ _ _ (c .before .before .before .before .before .before .before .before .before .before .before .before .if1 .left) _ e (omega (arith, c .before .before .if2 .taken, c .before .before .before .pl .ensures, c .before .before .before .before .free-words .ensures)) (c .if3 .left)
+    let e = w .0 ∙ last-end (start .args .s) _ (start .pre .0) _ _ (least-few _ _ _ (c .before .before .before .before .before .before .before .least .ensures)) (c .before .before .before .before .before .before .place-of .ensures .0) in
+    new-more (start .args .s) (start .args .cfg) (start .args .time) _ (start .args .p) _ _ (c .before .before .before .before .before .before .before .before .before .before .before .before .if1 .left) _ e (omega (arith, c .before .before .if2 .taken, c .before .before .before .pl .ensures, c .before .before .before .before .free-words .ensures)) (c .if3 .left)
 
 repeats-requires : tie.Need-repeats-requires
 repeats-requires c κs =
@@ -88,9 +90,9 @@ returns-4 c =
     let few = least-few _ _ _ (c .before .before .before .before .before .before .before .before .before .before .before .least .ensures) in
     let at = c .before .before .before .before .before .before .before .before .before .before .place-of .ensures .0 in
     let r = c .before .before .before .before .repeats .ensures in
-    let e = c .before .before .before .before .before .before .before .before .before .walk .ensures .0 ∙ last-end _ _ v _ _ few at in
-    let a = again-place _ _ v _ _ few at _ _ (r .few) (r .place) in
-    new-row (start .args .s) (start .args .cfg) (start .args .time) _ _ _ _ (c .before .before .before .before .before .before .before .before .before .before .before .before .before .before .before .before .if1 .left) _ e _ (omega (arith, c .before .before .before .before .before .before .if2 .left, c .before .before .before .before .before .before .before .pl .ensures, c .before .before .before .before .before .before .before .before .free-words .ensures)) _ _ _ _ (c .before .before .before .before .before .before .before .before .before .before .before .least .ensures) at (r .packets) (last-end _ _ v _ _ (omega (arith, r .few, c .before .before .before .before .before .before .before .before .before .before .before .least .ensures)) a ∙ sym e) (c .before .before .write-row .ensures)
+    let e = c .before .before .before .before .before .before .before .before .before .walk .ensures .0 ∙ last-end (start .args .s) _ v _ _ few at in
+    let a = again-place (start .args .s) _ v _ _ few at _ _ (r .few) (r .place) in
+    new-row (start .args .s) (start .args .cfg) (start .args .time) _ (start .args .p) _ _ (c .before .before .before .before .before .before .before .before .before .before .before .before .before .before .before .before .if1 .left) _ e _ (omega (arith, c .before .before .before .before .before .before .if2 .left, c .before .before .before .before .before .before .before .pl .ensures, c .before .before .before .before .before .before .before .before .free-words .ensures)) _ _ _ _ (c .before .before .before .before .before .before .before .before .before .before .before .least .ensures) at (r .packets) (last-end (start .args .s) _ v _ _ (omega (arith, r .few, c .before .before .before .before .before .before .before .before .before .before .before .least .ensures)) a ∙ sym e) (c .before .before .write-row .ensures)
 
 pub write-new-spec : {M : Type 1} → statement M
 write-new-spec =
