@@ -1,5 +1,5 @@
 -- The ways out of a write.
-use mathlib.Core.Path.{_≡_, sym, ap}
+use mathlib.Core.Path.{_≡_, refl, sym, ap, _∙_}
 use mathlib.Core.Bool.{true, false}
 use mathlib.Core.List.{List}
 use Prim.Native.Nat.{ℕ}
@@ -9,9 +9,11 @@ use Rattle.config.specs.inner.Entries.{entry-made, entry-refused}
 use Rattle.config.specs.declared.settings.StreamConfig.{StreamConfig}
 use Rattle.packet.specs.Write.{validOf as payloadValid}
 use Rattle.packet.specs.declared.writer.PayloadWriter.{PayloadWriter}
-use Rattle.receiver.specs.Receiver.{takenOf}
+use Rattle.receiver.specs.Receiver.{notDue, takenOf}
 use Rattle.receiver.specs.declared.receiver.Receiver.{Receiver}
 use Rattle.receiver.specs.declared.receiver.Request.{Request}
+use Rattle.receiver.specs.declared.receiver.Request.the-variants.{Nothing as NotDue, Written as Taken}
+use Rattle.receiver.proofs.Taken.{taken-not-due}
 use Rattle.receiver.specs.declared.receiver.RequestWritten.{RequestWritten}
 use Rattle.sender.specs.declared.sender.Sender.{Sender}
 use Rattle.writing.specs.Writing.{writtenBy}
@@ -37,6 +39,19 @@ module _ (s : DataStream) (cfg : StreamConfig) (time : ℕ) (p : PayloadWriter) 
       → afterRequest a (withReceiver s (t .receiver)) cfg time (t .payload) bytes ring ≡ dataWritten s cfg time p b ring
   unfolding dataWritten
   after-taken t bytes e a f = rw (← e) (ap (λ (x : Request). afterRequest x (withReceiver s (t .receiver)) cfg time (t .payload) bytes ring) (sym f))
+
+  -- the sender writes on
+  module _ {bytes : List ℕ} {receiver : Receiver} {payload : PayloadWriter} {n : ℕ} where
+    module _ (t : RequestWritten) (after : List ℕ) (e : (t, after) ≡ takenOf (s .receiver) cfg p b) (f : bytes ≡ after) (g : receiver ≡ t .receiver) (h : payload ≡ t .payload) where
+      pub after-none : n ≡ 0 → t .answer ≡ NotDue → sentAfter n (withReceiver s receiver) cfg time payload bytes ring ≡ dataWritten s cfg time p b ring
+      after-none k a = after-same (s .sender) cfg time ring f g h k ∙ after-taken t after e NotDue a
+
+      pub after-one : n ≡ 1 → t .answer ≡ Taken → sentAfter n (withReceiver s receiver) cfg time payload bytes ring ≡ dataWritten s cfg time p b ring
+      after-one k a = after-same (s .sender) cfg time ring f g h k ∙ after-taken t after e Taken a
+
+    pub after-not-due : s .receiver .«request_due» ≡ false → bytes ≡ b → receiver ≡ s .receiver → payload ≡ p → n ≡ 0
+        → sentAfter n (withReceiver s receiver) cfg time payload bytes ring ≡ dataWritten s cfg time p b ring
+    after-not-due d f g h k = after-none (notDue (s .receiver) p) b (taken-not-due (s .receiver) cfg p b _ refl d) f g h k refl
 
   -- ---- after n commands
   pub sent-after : (n : ℕ) (w : SenderWrote) (bytes next : List ℕ) → (w, bytes, next) ≡ writtenBy (s .sender) cfg time p b ring → (a : Writing) → w .answer ≡ a

@@ -22,22 +22,26 @@ add-t24 c =
     omega (arith, pre .0)
 
 same-length : tie.Need-same-length
-same-length c = search needs
+same-length c = c .before .before .before .before .before .before .before .before .buf .given
 
 same-length-2 : tie.Need-same-length-2
-same-length-2 c = search needs
+same-length-2 c = c .before .before .before .before .before .before .ring .given
 
 returns : tie.Need-returns
-returns c = sent-after _ _ _ _ _ _ _ _ _ _ (c .before .before .before .before .before .before .before .before .before .write .ensures) _ (c .before .answer .given .1)
+returns c =
+    let start = c .before .before .before .before .before .before .before .before .before .before .before .before .before .before .before .before in
+    sent-after (start .args .s) (start .args .cfg) (start .args .time) (start .args .p) _ _ _ (c .before .before .before .before .before .before .before .before .before .write .result) _ _ (c .before .before .before .before .before .before .before .before .before .write .ensures) _ (c .before .answer .given .1)
 
 same-length-3 : tie.Need-same-length-3
-same-length-3 c = search needs
+same-length-3 c = c .before .before .before .before .before .before .before .before .before .buf .given
 
 same-length-4 : tie.Need-same-length-4
-same-length-4 c = search needs
+same-length-4 c = c .before .before .before .before .before .before .before .ring .given
 
 returns-2 : tie.Need-returns-2
-returns-2 c = sent-after _ _ _ _ _ _ _ _ _ _ (c .before .before .before .before .before .before .before .before .before .before .write .ensures) _ (c .before .before .answer2 .given .1)
+returns-2 c =
+    let start = c .before .before .before .before .before .before .before .before .before .before .before .before .before .before .before .before .before in
+    sent-after (start .args .s) (start .args .cfg) (start .args .time) (start .args .p) _ _ _ (c .before .before .before .before .before .before .before .before .before .before .write .result) _ _ (c .before .before .before .before .before .before .before .before .before .before .write .ensures) _ (c .before .before .answer2 .given .1)
 
 pub write-after-spec : {M : Type 1} → statement M
 write-after-spec =

@@ -1,13 +1,12 @@
 -- A due request is taken; where it does not end the write, the payload is still valid and the sender writes behind it, after 0 or 1 commands.
-use mathlib.Core.Path.{_≡_, refl, ap, _∙_}
+use mathlib.Core.Path.{_≡_, ap, _∙_}
 use mathlib.Core.Logic.{⊎-elim}
 use Prim.Native.Nat.{ℕ, _≤_}
 use native.Mathlib.Omega.{arith}
 use lib.ListN.{length}
-use Rattle.receiver.proofs.Taken.{taken-not-due}
 use Rattle.stream.proofs.Validity.{valid-receiver, valid-sender}
 use Rattle.stream.proofs.Taking.{taken-valid}
-use Rattle.stream.proofs.Writing.{after-taken, after-same}
+use Rattle.stream.proofs.Writing.{after-taken, after-none, after-one, after-not-due}
 use borrow.Author.Needs.{needs}
 use Rattle.stream.proofs.tested.write_data.Statement.{statement}
 use Rattle.stream.proofs.tested.write_data.Tie as tie
@@ -25,19 +24,23 @@ enum-known-answer : tie.Need-enum-known-answer
 enum-known-answer c = search needs
 
 same-length : tie.Need-same-length
-same-length c = search needs
+same-length c = c .before .before .before .before .before .before .buf .given
 
 returns : tie.Need-returns
-returns c = after-taken _ _ _ _ _ _ _ _ (c .before .before .before .before .before .before .before .write-request .ensures) _ (c .before .answer .given .1)
+returns c =
+    let start = c .before .before .before .before .before .before .before .before .before .before .before .before .before .before in
+    after-taken (start .args .s) (start .args .cfg) (start .args .time) (start .args .p) _ _ (c .before .before .before .before .before .before .before .write-request .result) _ (c .before .before .before .before .before .before .before .write-request .ensures) _ (c .before .answer .given .1)
 
 enum-told : tie.Need-enum-told
 enum-told c = search needs
 
 same-length-2 : tie.Need-same-length-2
-same-length-2 c = search needs
+same-length-2 c = c .before .before .before .before .before .buf .given
 
 returns-2 : tie.Need-returns-2
-returns-2 c = after-taken _ _ _ _ _ _ _ _ (c .before .before .before .before .before .before .write-request .ensures) _ (c .enum-told .given .1)
+returns-2 c =
+    let start = c .before .before .before .before .before .before .before .before .before .before .before .before .before in
+    after-taken (start .args .s) (start .args .cfg) (start .args .time) (start .args .p) _ _ (c .before .before .before .before .before .before .write-request .result) _ (c .before .before .before .before .before .before .write-request .ensures) _ (c .enum-told .given .1)
 
 enum-told-2 : tie.Need-enum-told-2
 enum-told-2 c = search needs
@@ -68,16 +71,21 @@ same-length-3 c =
     (c .before .before .before .before .before .before .before .if1 .came)
 
 same-length-4 : tie.Need-same-length-4
-same-length-4 c = search needs
+same-length-4 c = c .before .ring .given
 
 returns-3 : tie.Need-returns-3
 returns-3 c =
+    let start = c .before .before .before .before .before .before .before .before .before .before .before .before in
+    let s = start .args .s in
+    let cfg = start .args .cfg in
+    let time = start .args .time in
+    let p = start .args .p in
     c .before .before .before .before .write-after .ensures
     ∙ ⊎-elim
-    (λ w. after-same _ _ _ _ (w .9) (w .10) (w .11) (w .12) ∙ after-taken _ _ _ _ _ _ _ _ (w .2 .ensures) _ (w .8 .given .1))
+    (λ w. after-none s cfg time p _ _ (w .2 .result) _ (w .2 .ensures) (w .9) (w .10) (w .11) (w .12) (w .8 .given .1))
     (⊎-elim
-    (λ w. after-same _ _ _ _ (w .9) (w .10) (w .11) (w .12) ∙ after-taken _ _ _ _ _ _ _ _ (w .2 .ensures) _ (w .8 .given .1))
-    (λ w. after-same _ _ _ _ (w .1) (w .2) (w .3) (w .4) ∙ after-taken _ _ _ _ _ _ _ _ (taken-not-due _ _ _ _ _ refl (w .0 .left)) _ refl))
+    (λ w. after-one s cfg time p _ _ (w .2 .result) _ (w .2 .ensures) (w .9) (w .10) (w .11) (w .12) (w .8 .given .1))
+    (λ w. after-not-due s cfg time p _ _ (w .0 .left) (w .1) (w .2) (w .3) (w .4)))
     (c .before .before .before .before .before .before .before .if1 .came)
 
 pub write-data-spec : {M : Type 1} → statement M

@@ -49,14 +49,14 @@ returns-2 c =
     new-window _ _ _ _ _ _ _ (c .not-started2 .ensures) (sym (c .before .before .before .before .before .before .before .check .ensures) ∙ c .before .before .before .before .before .enum-told .given .1) (sym (c .before .before .before .before .new .ensures) ∙ c .before .before .why2 .given .1)
 
 same-length : tie.Need-same-length
-same-length c = search needs
+same-length c = c .before .before .before .before .before .before .ring .given
 
 returns-3 : tie.Need-returns-3
 returns-3 c =
     new-sender _ _ _ _ _ _ _ (c .not-started3 .ensures) (sym (c .before .before .before .before .before .before .before .before .before .before .before .before .before .before .before .check .ensures) ∙ c .before .before .before .before .before .before .before .before .before .before .before .before .before .enum-told .given .1) _ (sym (c .before .before .before .before .before .before .before .before .before .before .before .before .new .ensures) ∙ c .before .before .before .before .before .before .before .before .before .before .receiver .given .1) _ _ (c .before .before .before .before .before .before .before .new2 .ensures) (c .before .before .answer .given .1)
 
 same-length-2 : tie.Need-same-length-2
-same-length-2 c = search needs
+same-length-2 c = c .before .before .before .before .ring .given
 
 returns-4 : tie.Need-returns-4
 returns-4 c =

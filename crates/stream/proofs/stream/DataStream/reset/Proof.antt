@@ -16,7 +16,7 @@ reset-requires-2 : tie.Need-reset-requires-2
 reset-requires-2 c κs = valid-receiver _ _ (sym (c .before .before .before .before .before .before .before .is-valid .ensures) ∙ c .before .before .before .before .before .before .if1 .taken)
 
 same-length : tie.Need-same-length
-same-length c = search needs
+same-length c = c .before .before .ring .given
 
 returns : tie.Need-returns
 returns c = reset-done _ _ (sym (c .before .before .before .before .before .before .before .before .is-valid .ensures) ∙ c .before .before .before .before .before .before .before .if1 .taken) _ _ _ (c .before .before .before .reset .ensures) (c .reset2 .ensures)

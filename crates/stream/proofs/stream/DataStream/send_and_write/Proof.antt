@@ -34,53 +34,61 @@ enum-known-answer : tie.Need-enum-known-answer
 enum-known-answer c = search needs
 
 same-length : tie.Need-same-length
-same-length c = search needs
+same-length c = c .before .before .before .before .before .ring .given
 
 returns : tie.Need-returns
 returns c =
-    both-words _ _ _ _ _ _ _ (sym (c .before .before .before .before .before .before .before .before .before .before .before .before .before .before .before .before .check .ensures) ∙ c .before .before .before .before .before .before .before .before .before .before .before .before .before .before .enum-told .given .1) (sym (c .before .before .before .before .before .before .before .before .before .test .ensures .answer) ∙ c .before .before .before .before .before .before .before .before .if1 .taken) _ _ (c .before .before .before .before .before .before .send-ump .ensures) _ (c .before .answer .given .1)
+    let start = c .before .before .before .before .before .before .before .before .before .before .before .before .before .before .before .before .before .before .before .before in
+    both-words (start .args .self) (start .args .cfg) (start .args .time) _ (start .args .p) _ _ (sym (c .before .before .before .before .before .before .before .before .before .before .before .before .before .before .before .before .check .ensures) ∙ c .before .before .before .before .before .before .before .before .before .before .before .before .before .before .enum-told .given .1) (sym (c .before .before .before .before .before .before .before .before .before .test .ensures .answer) ∙ c .before .before .before .before .before .before .before .before .if1 .taken) _ _ (c .before .before .before .before .before .before .send-ump .ensures) _ (c .before .answer .given .1)
 
 enum-told-2 : tie.Need-enum-told-2
 enum-told-2 c = search needs
 
 mark-queued-requires : tie.Need-mark-queued-requires
 mark-queued-requires c κs =
+    let start = c .before .before .before .before .before .before .before .before .before .before .before .before .before .before .before .before .before .before .before in
     let e = sym (c .before .before .before .before .before .before .before .before .before .before .before .before .before .before .before .check .ensures) ∙ c .before .before .before .before .before .before .before .before .before .before .before .before .before .enum-told .given .1 in
     let a = c .before .before .before .before .before .before .before .before .test .ensures in
     let ok = c .before .before .before .before .before .before .before .if1 .taken in
     let v = sym (a .answer) ∙ ok in
-    let o = number (c .before .before .before .before .before .before .before .before .before .before .before .before .before .before .before .before .before .before .before) in
-    let q = c .before .before .before .before .before .send-ump .ensures in
-    (valid-unsent _ _ v, valid-unsent _ _ (queued-valid _ _ _ _ e v o _ _ q), queued-follows _ _ _ _ e v o _ _ q _ _ a ok .0)
+    let o = number start in
+    let sent = c .before .before .before .before .before .send-ump in
+    (valid-unsent _ _ v, valid-unsent _ _ (queued-valid (start .args .self .sender) (start .args .cfg) _ _ e v o (sent .result) _ (sent .ensures)), queued-follows (start .args .self .sender) (start .args .cfg) _ _ e v o (sent .result) _ (sent .ensures) _ _ a ok .0)
 
 write-queued-requires : tie.Need-write-queued-requires
 write-queued-requires c κs =
+    let start = c .before .before .before .before .before .before .before .before .before .before .before .before .before .before .before .before .before .before .before .before .before .before in
     let e = sym (c .before .before .before .before .before .before .before .before .before .before .before .before .before .before .before .before .before .before .check .ensures) ∙ c .before .before .before .before .before .before .before .before .before .before .before .before .before .before .before .before .enum-told .given .1 in
     let a = c .before .before .before .before .before .before .before .before .before .before .before .test .ensures in
     let ok = c .before .before .before .before .before .before .before .before .before .before .if1 .taken in
     let v = sym (a .answer) ∙ ok in
-    let o = number (c .before .before .before .before .before .before .before .before .before .before .before .before .before .before .before .before .before .before .before .before .before .before) in
-    let q = c .before .before .before .before .before .before .before .before .send-ump .ensures in
-    (e, queued-valid _ _ _ _ e v o _ _ q, rw (c .before .before .mark-queued .ensures) (queued-follows _ _ _ _ e v o _ _ q _ _ a ok .1))
+    let o = number start in
+    let sent = c .before .before .before .before .before .before .before .before .send-ump in
+    (e, queued-valid (start .args .self .sender) (start .args .cfg) _ _ e v o (sent .result) _ (sent .ensures), rw (c .before .before .mark-queued .ensures) (queued-follows (start .args .self .sender) (start .args .cfg) _ _ e v o (sent .result) _ (sent .ensures) _ _ a ok .1))
 
 same-length-2 : tie.Need-same-length-2
-same-length-2 c = search needs
+same-length-2 c = c .before .before .before .before .before .buf .given
 
 same-length-3 : tie.Need-same-length-3
-same-length-3 c = search needs
+same-length-3 c = c .before .before .before .ring2 .given ∙ c .before .before .before .before .before .before .before .before .before .before .before .before .before .before .ring .given
 
 returns-2 : tie.Need-returns-2
 returns-2 c =
-    both-written _ _ _ _ _ _ _ (sym (c .before .before .before .before .before .before .before .before .before .before .before .before .before .before .before .before .before .before .before .before .before .before .before .before .before .check .ensures) ∙ c .before .before .before .before .before .before .before .before .before .before .before .before .before .before .before .before .before .before .before .before .before .before .before .enum-told .given .1) (sym (c .before .before .before .before .before .before .before .before .before .before .before .before .before .before .before .before .before .before .test .ensures .answer) ∙ c .before .before .before .before .before .before .before .before .before .before .before .before .before .before .before .before .before .if1 .taken) _ _ (c .before .before .before .before .before .before .before .before .before .before .before .before .before .before .before .send-ump .ensures) (c .before .before .before .before .before .before .before .before .before .before .enum-told2 .given .1) _ _ _ (c .before .before .before .before .before .before .write-queued .ensures)
+    let start = c .before .before .before .before .before .before .before .before .before .before .before .before .before .before .before .before .before .before .before .before .before .before .before .before .before .before .before .before .before in
+    both-written (start .args .self) (start .args .cfg) (start .args .time) _ (start .args .p) _ _ (sym (c .before .before .before .before .before .before .before .before .before .before .before .before .before .before .before .before .before .before .before .before .before .before .before .before .before .check .ensures) ∙ c .before .before .before .before .before .before .before .before .before .before .before .before .before .before .before .before .before .before .before .before .before .before .before .enum-told .given .1) (sym (c .before .before .before .before .before .before .before .before .before .before .before .before .before .before .before .before .before .before .test .ensures .answer) ∙ c .before .before .before .before .before .before .before .before .before .before .before .before .before .before .before .before .before .if1 .taken) _ _ (c .before .before .before .before .before .before .before .before .before .before .before .before .before .before .before .send-ump .ensures) (c .before .before .before .before .before .before .before .before .before .before .enum-told2 .given .1) _ _ _ (c .before .before .before .before .before .before .write-queued .ensures)
 
 returns-3 : tie.Need-returns-3
-returns-3 c = both-settings _ _ _ _ _ _ _ _ (sym (c .before .before .before .check .ensures) ∙ c .before .why .given .1)
+returns-3 c =
+    let start = c .before .before .before .before .before .before .before in
+    both-settings (start .args .self) (start .args .cfg) (start .args .time) _ (start .args .p) _ _ _ (sym (c .before .before .before .check .ensures) ∙ c .before .why .given .1)
 
 same-length-4 : tie.Need-same-length-4
 same-length-4 c = search needs
 
 returns-4 : tie.Need-returns-4
-returns-4 c = both-state _ _ _ _ _ _ _ (sym (c .before .before .before .before .before .before .before .before .check .ensures) ∙ c .before .before .before .before .before .before .enum-told .given .1) (sym (c .before .test .ensures .answer) ∙ c .if1 .left)
+returns-4 c =
+    let start = c .before .before .before .before .before .before .before .before .before .before .before .before in
+    both-state (start .args .self) (start .args .cfg) (start .args .time) _ (start .args .p) _ _ (sym (c .before .before .before .before .before .before .before .before .check .ensures) ∙ c .before .before .before .before .before .before .enum-told .given .1) (sym (c .before .test .ensures .answer) ∙ c .if1 .left)
 
 pub send-and-write-spec : {M : Type 1} → statement M
 send-and-write-spec =

@@ -32,30 +32,36 @@ write-data-requires c κs = (
 )
 
 same-length : tie.Need-same-length
-same-length c = search needs
+same-length c = c .before .before .before .buf .given
 
 same-length-2 : tie.Need-same-length-2
-same-length-2 c = search needs
+same-length-2 c = c .before .ring .given
 
 returns : tie.Need-returns
 returns c =
-    c .before .before .before .before .write-data .ensures ∙ write-made _ _ _ _ _ _ (sym (c .before .before .before .before .before .before .before .before .before .before .before .before .before .before .before .before .check .ensures) ∙ c .before .before .before .before .before .before .before .before .before .before .before .before .before .before .enum-told .given .1) (sym (c .before .before .before .before .before .before .before .before .before .before .before .test .ensures .answer) ∙ c .before .before .before .before .before .before .before .before .before .before .if1 .taken) (sym (c .before .before .before .before .before .before .before .before .before .is-valid .ensures) ∙ c .before .before .before .before .before .before .before .before .if2 .taken)
+    let start = c .before .before .before .before .before .before .before .before .before .before .before .before .before .before .before .before .before .before .before in
+    c .before .before .before .before .write-data .ensures ∙ write-made (start .args .self) (start .args .cfg) (start .args .time) (start .args .p) _ _ (sym (c .before .before .before .before .before .before .before .before .before .before .before .before .before .before .before .before .check .ensures) ∙ c .before .before .before .before .before .before .before .before .before .before .before .before .before .before .enum-told .given .1) (sym (c .before .before .before .before .before .before .before .before .before .before .before .test .ensures .answer) ∙ c .before .before .before .before .before .before .before .before .before .before .if1 .taken) (sym (c .before .before .before .before .before .before .before .before .before .is-valid .ensures) ∙ c .before .before .before .before .before .before .before .before .if2 .taken)
 
 returns-2 : tie.Need-returns-2
-returns-2 c = write-settings _ _ _ _ _ _ _ (sym (c .before .before .before .check .ensures) ∙ c .before .why .given .1)
+returns-2 c =
+    let start = c .before .before .before .before .before .before in
+    write-settings (start .args .self) (start .args .cfg) (start .args .time) (start .args .p) _ _ _ (sym (c .before .before .before .check .ensures) ∙ c .before .why .given .1)
 
 same-length-3 : tie.Need-same-length-3
 same-length-3 c = search needs
 
 returns-3 : tie.Need-returns-3
 returns-3 c =
-    write-payload _ _ _ _ _ _ (sym (c .before .before .before .before .before .before .before .before .check .ensures) ∙ c .before .before .before .before .before .before .enum-told .given .1) (sym (c .before .before .before .test .ensures .answer) ∙ c .before .before .if1 .taken) (sym (c .before .is-valid .ensures) ∙ c .if2 .left)
+    let start = c .before .before .before .before .before .before .before .before .before .before .before in
+    write-payload (start .args .self) (start .args .cfg) (start .args .time) (start .args .p) _ _ (sym (c .before .before .before .before .before .before .before .before .check .ensures) ∙ c .before .before .before .before .before .before .enum-told .given .1) (sym (c .before .before .before .test .ensures .answer) ∙ c .before .before .if1 .taken) (sym (c .before .is-valid .ensures) ∙ c .if2 .left)
 
 same-length-4 : tie.Need-same-length-4
 same-length-4 c = search needs
 
 returns-4 : tie.Need-returns-4
-returns-4 c = write-state _ _ _ _ _ _ (sym (c .before .before .before .before .before .before .check .ensures) ∙ c .before .before .before .before .enum-told .given .1) (sym (c .before .test .ensures .answer) ∙ c .if1 .left)
+returns-4 c =
+    let start = c .before .before .before .before .before .before .before .before .before in
+    write-state (start .args .self) (start .args .cfg) (start .args .time) (start .args .p) _ _ (sym (c .before .before .before .before .before .before .check .ensures) ∙ c .before .before .before .before .enum-told .given .1) (sym (c .before .test .ensures .answer) ∙ c .if1 .left)
 
 pub write-data-spec : {M : Type 1} → statement M
 write-data-spec =

@@ -8,7 +8,7 @@ write-request-requires : tie.Need-write-request-requires
 write-request-requires c κs = search needs
 
 same-length : tie.Need-same-length
-same-length c = search needs
+same-length c = c .before .before .before .buf .given
 
 returns : tie.Need-returns
 returns c = take-end _ _ _ _ _ _ (c .before .before .before .before .write-request .ensures)
