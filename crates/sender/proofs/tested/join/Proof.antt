@@ -18,7 +18,7 @@ append-to-last-requires c κs =
     (p .0, p .1 some .0, p .1 some .1)
 
 same-length : tie.Need-same-length
-same-length c = search needs
+same-length c = c .before .ring .given
 
 returns-2 : tie.Need-returns-2
 returns-2 c =

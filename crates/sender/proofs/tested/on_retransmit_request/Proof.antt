@@ -15,7 +15,8 @@ cast-if2 c = search needs
 
 returns : tie.Need-returns
 returns c =
-    request-error _ _ _ (c .before .before .before .before .before .before .if1 .taken) _ (c .before .distance .ensures) (c .if2 .taken)
+    let start = c .before .before .before .before .before .before .before in
+    request-error (start .args .s) (start .args .cfg) (start .args .req) (c .before .before .before .before .before .before .if1 .taken) _ (c .before .distance .ensures) (c .if2 .taken)
 
 push-request-requires : tie.Need-push-request-requires
 push-request-requires c κs = search needs
@@ -25,8 +26,9 @@ outcome-requires c κs = search needs
 
 returns-2 : tie.Need-returns-2
 returns-2 c =
+    let start = c .before .before .before .before .before .before .before .before .before .before in
     let tested = c .before .before .before .before in
-    request-queued _ _ _ (tested .before .before .before .before .before .if1 .taken) _ (tested .distance .ensures) (c .before .before .before .if2 .left) _ (c .before .before .push-request .ensures) _ (c .outcome .ensures)
+    request-queued (start .args .s) (start .args .cfg) (start .args .req) (tested .before .before .before .before .before .if1 .taken) _ (tested .distance .ensures) (c .before .before .before .if2 .left) _ (c .before .before .push-request .ensures) _ (c .outcome .ensures)
 
 returns-3 : tie.Need-returns-3
 returns-3 c = request-off _ _ _ (c .if1 .left)

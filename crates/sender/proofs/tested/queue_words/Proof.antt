@@ -79,10 +79,12 @@ add-t13 c =
     omega (arith, valid-small _ _ (c .before .before .before .before .before .before .before .before .before .before .before .before .before .before .before .before .before .before .before .before .before .before .before .pre .0), c .before .before .before .before .before .before .before .before .before .before .before .if1 .left)
 
 add-t17 : tie.Need-add-t17
-add-t17 c = search needs
+add-t17 c =
+    let v = c .before .before .before .before .before .before .before .before .before .before .before .before .before .before .before .before .before .before .before .before .before .before .before .before .pre .0 in
+    omega (arith, valid-words _ _ v, valid-small _ _ v, c .before .before .before .before .before .before .before .before .before .before .before .before .if1 .left)
 
 same-length-2 : tie.Need-same-length-2
-same-length-2 c = search needs
+same-length-2 c = c .before .before .before .ring2 .given ∙ c .before .before .before .before .before .before .before .before .ring .given
 
 returns-2 : tie.Need-returns-2
 returns-2 c =

@@ -12,7 +12,7 @@ start-requires c κs =
     (g .least, g .most, g .ring, f .least, f .most)
 
 same-length : tie.Need-same-length
-same-length c = search needs
+same-length c = c .before .ring .given
 
 returns : tie.Need-returns
 returns c = search needs

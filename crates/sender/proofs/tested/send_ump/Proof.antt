@@ -27,7 +27,7 @@ returns-2 c =
     sent-refused _ _ _ _ (c .before .before .before .before .if1 .left) _ (sym (c .before .before .before .check .ensures) ∙ c .before .why .given .1)
 
 same-length : tie.Need-same-length
-same-length c = search needs
+same-length c = c .before .ring .given
 
 returns-3 : tie.Need-returns-3
 returns-3 c =

@@ -11,7 +11,7 @@ clear-requests-requires : tie.Need-clear-requests-requires
 clear-requests-requires c κs = search needs
 
 same-length : tie.Need-same-length
-same-length c = search needs
+same-length c = c .before .before .ring .given
 
 returns : tie.Need-returns
 returns c = start-made _ _ (c .before .before .before .before .before .before .args .ring .now) _ _ _ (c .before .before .before .clear .ensures) (c .clear-requests .ensures)

@@ -33,7 +33,7 @@ start-requires : tie.Need-start-requires
 start-requires c κs = sizes-fit _ _ _ (sym (c .before .before .before .before .before .outside .ensures) ∙ c .before .before .before .before .if1 .left) (c .before .before .before .if2 .left) (sym (c .before .before .outside2 .ensures) ∙ c .before .if3 .left)
 
 same-length : tie.Need-same-length
-same-length c = search needs
+same-length c = c .before .ring .given
 
 returns-4 : tie.Need-returns-4
 returns-4 c = new-done _ _ _ _ _ (sym (c .before .before .before .before .before .before .before .before .outside .ensures) ∙ c .before .before .before .before .before .before .before .if1 .left) (c .before .before .before .before .before .before .if2 .left) (sym (c .before .before .before .before .before .outside2 .ensures) ∙ c .before .before .before .before .if3 .left) (c .before .before .start .ensures)

@@ -9,10 +9,10 @@ is-valid-requires : tie.Need-is-valid-requires
 is-valid-requires c κs = search needs
 
 reset-requires : tie.Need-reset-requires
-reset-requires c κs = cc
+reset-requires c κs = sym (c .before .before .is-valid .ensures) ∙ c .before .if1 .taken
 
 same-length : tie.Need-same-length
-same-length c = search needs
+same-length c = c .before .ring .given
 
 returns : tie.Need-returns
 returns c = reset-done _ _ (sym (c .before .before .before .before .before .is-valid .ensures) ∙ c .before .before .before .before .if1 .taken) _ _ (c .before .before .reset .ensures)

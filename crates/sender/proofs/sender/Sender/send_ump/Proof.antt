@@ -25,7 +25,7 @@ send-ump-requires c κs =
     (sym (c .before .before .is-valid .ensures) ∙ c .before .if1 .taken, sym (c .before .before .before .before .before .before .check .ensures) ∙ c .before .before .before .before .enum-told .given .1)
 
 same-length : tie.Need-same-length
-same-length c = search needs
+same-length c = c .before .ring .given
 
 returns : tie.Need-returns
 unfolding sendAnswer
