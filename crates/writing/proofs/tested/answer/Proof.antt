@@ -21,7 +21,7 @@ write-error-requires : tie.Need-write-error-requires
 write-error-requires c κs = search needs
 
 same-length : tie.Need-same-length
-same-length c = search needs
+same-length c = c .before .buf .given
 
 returns : tie.Need-returns
 returns c =
@@ -47,7 +47,7 @@ write-entries-requires c κs =
     (p .1, answer-standing (start .args .s) (start .args .req) _ (c .before .before .before .before .before .distance .ensures) (c .before .before .before .before .if1 .left) _ (c .reach .ensures) _ _ (p .0) (c .before .before .before .index-of .ensures .0))
 
 same-length-2 : tie.Need-same-length-2
-same-length-2 c = search needs
+same-length-2 c = c .before .buf2 .given
 
 returns-2 : tie.Need-returns-2
 returns-2 c =

@@ -44,7 +44,7 @@ returns-3 c =
     idled-off (start .args .s) (start .args .cfg) (start .args .time) _ (c .enum-told .given .1)
 
 same-length : tie.Need-same-length
-same-length c = search needs
+same-length c = c .before .before .before .before .ring .given
 
 returns-4 : tie.Need-returns-4
 returns-4 c =

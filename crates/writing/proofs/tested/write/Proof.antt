@@ -53,7 +53,7 @@ same-length-3 : tie.Need-same-length-3
 same-length-3 c = omega (arith, c .before .buf2 .given, c .before .before .before .before .before .before .before .before .before .before .before .before .before .before .before .buf .given)
 
 same-length-4 : tie.Need-same-length-4
-same-length-4 c = search needs
+same-length-4 c = c .before .before .before .before .before .before .before .before .ring .given
 
 returns-2 : tie.Need-returns-2
 returns-2 c =

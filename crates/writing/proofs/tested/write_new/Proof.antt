@@ -81,7 +81,7 @@ write-row-requires c κs =
     )
 
 same-length : tie.Need-same-length
-same-length c = search needs
+same-length c = c .before .buf .given
 
 returns-4 : tie.Need-returns-4
 returns-4 c =

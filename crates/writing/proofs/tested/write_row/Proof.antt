@@ -48,7 +48,7 @@ add-t17 c =
     omega (arith, row-most _ _ (p .0) _ _ (p .1) _ _ _ (p .3 .few) (p .3 .place) (p .3 .words) (p .3 .room) _ _ _ _ (c .before .before .before .before .before .before .before .before .before .write-entries .ensures), valid-few _ _ (p .0), valid-small _ _ (p .0), p .2, p .3 .few)
 
 same-length : tie.Need-same-length
-same-length c = search needs
+same-length c = c .before .before .before .before .before .before .before .before .before .buf .given
 
 returns : tie.Need-returns
 returns c =

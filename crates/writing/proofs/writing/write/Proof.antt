@@ -32,10 +32,10 @@ write-requires c κs = (
 )
 
 same-length : tie.Need-same-length
-same-length c = search needs
+same-length c = c .before .before .before .buf .given
 
 same-length-2 : tie.Need-same-length-2
-same-length-2 c = search needs
+same-length-2 c = c .before .ring .given
 
 returns : tie.Need-returns
 returns c =
