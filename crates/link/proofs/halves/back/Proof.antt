@@ -16,7 +16,7 @@ replied-requires : tie.Need-replied-requires
 replied-requires c κs = search needs
 
 same-length : tie.Need-same-length
-same-length c = search needs
+same-length c = c .before .other .given
 
 returns-2 : tie.Need-returns-2
 returns-2 c = c .before .before .replied .ensures

@@ -27,10 +27,12 @@ arrive-requires : tie.Need-arrive-requires
 arrive-requires c κs = halving.part-short _ _ _ (c .part .ensures) (c .before .before .before .before .before .buf2 .given)
 
 same-length : tie.Need-same-length
-same-length c = search needs
+same-length c = c .before .before .before .before .before .other .given
 
 returns : tie.Need-returns
-returns c = (halving.back-is _ _ _ _ _ _ (c .before .before .before .before .before .before .before .chamber-turn .result) _ _ (c .before .before .before .before .before .before .before .chamber-turn .ensures .0) (c .before .before .before .before .before .before .before .chamber-turn .ensures .1) _ (c .before .part .ensures) _ (c .arrive .ensures .0), c .before .before .before .before .before .before .before .chamber-turn .ensures .2)
+returns c =
+    let start = c .before .before .before .before .before .before .before .before .before .before .before .before in
+    (halving.back-is (start .args .console) (start .args .chamber) (start .args .cfg) (start .args .time) _ _ (c .before .before .before .before .before .before .before .chamber-turn .result) _ _ (c .before .before .before .before .before .before .before .chamber-turn .ensures .0) (c .before .before .before .before .before .before .before .chamber-turn .ensures .1) _ (c .before .part .ensures) _ (c .arrive .ensures .0), c .before .before .before .before .before .before .before .chamber-turn .ensures .2)
 
 pub replied-spec : {M : Type 1} → statement M
 replied-spec =

@@ -10,13 +10,15 @@ console-rests-requires : tie.Need-console-rests-requires
 console-rests-requires c κs = search needs
 
 returns : tie.Need-returns
-returns c = (there-rests _ _ _ _ _ _ _ _ _ _ (sym (c .before .console-rests .ensures) ∙ c .if1 .taken), record { handed = omega arith; losses = omega arith })
+returns c =
+    let start = c .before .before .before .before in
+    (there-rests (start .args .console) (start .args .chamber) (start .args .cfg) (start .args .time) _ _ _ _ _ _ (sym (c .before .console-rests .ensures) ∙ c .if1 .taken), record { handed = omega arith; losses = omega arith })
 
 spoken-requires : tie.Need-spoken-requires
 spoken-requires c κs = search needs
 
 same-length : tie.Need-same-length
-same-length c = search needs
+same-length c = c .before .ring .given
 
 returns-2 : tie.Need-returns-2
 returns-2 c = c .before .before .spoken .ensures

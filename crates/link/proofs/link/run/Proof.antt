@@ -45,21 +45,24 @@ returns-3 : tie.Need-returns-3
 returns-3 c = run-settings _ _ _ _ _ _ _ _ _ _ _ (sym (c .before .before .before .check .ensures) ∙ c .before .why .given .1)
 
 same-length : tie.Need-same-length
-same-length c = search needs
+same-length c = c .before .before .before .before .before .ring .given
 
 returns-4 : tie.Need-returns-4
-returns-4 c = run-start _ _ _ _ _ _ _ _ _ _ (sym (c .before .before .before .before .before .before .before .before .before .before .before .before .check .ensures) ∙ c .before .before .before .before .before .before .before .before .before .before .enum-told .given .1) _ _ (c .before .before .before .before .before .before .new .ensures) _ (c .before .answer .given .1)
+returns-4 c =
+    let start = c .before .before .before .before .before .before .before .before .before .before .before .before .before .before .before in
+    run-start (start .args .cfg) (start .args .window) (start .args .words) (start .args .places) (start .args .seed) (start .args .drop) (start .args .figure) (start .args .budget) _ _ (sym (c .before .before .before .before .before .before .before .before .before .before .before .before .check .ensures) ∙ c .before .before .before .before .before .before .before .before .before .before .enum-told .given .1) (c .before .before .before .before .before .before .new .result) _ (c .before .before .before .before .before .before .new .ensures) _ (c .before .answer .given .1)
 
 same-length-2 : tie.Need-same-length-2
-same-length-2 c = search needs
+same-length-2 c = c .before .before .before .ring2 .given ∙ c .before .before .before .before .before .before .before .before .before .before .before .before .before .before .before .before .ring .given
 
 same-length-3 : tie.Need-same-length-3
-same-length-3 c = search needs
+same-length-3 c = c .before .other2 .given ∙ c .before .before .before .before .before .before .before .before .before .other .given
 
 returns-5 : tie.Need-returns-5
 returns-5 c =
-    run-starts _ _ _ _ _ _ _ _ _ _ (sym (c .before .before .before .before .before .before .before .before .before .before .before .before .before .before .before .before .before .before .before .before .before .before .before .check .ensures) ∙ c .before .before .before .before .before .before .before .before .before .before .before .before .before .before .before .before .before .before .before .before .before .enum-told .given .1) _ _ (c .before .before .before .before .before .before .before .before .before .before .before .before .before .before .before .before .before .new .ensures) (c .before .before .before .before .before .before .before .before .before .before .before .before .enum-told2 .given .1) (c .before .before .before .before .before .before .before .before .before .before .before .before .before .before .before .before .before .before .before .before .if1 .left) (c .before .before .before .before .before .before .before .before .before .before .before .before .before .before .before .before .before .before .before .if2 .left)
-    _ _ (c .before .before .before .before .before .before .before .before .before .before .new2 .ensures) _ refl _ (c .before .before .before .before .steps .ensures)
+    let start = c .before .before .before .before .before .before .before .before .before .before .before .before .before .before .before .before .before .before .before .before .before .before .before .before .before .before in
+    run-starts (start .args .cfg) (start .args .window) (start .args .words) (start .args .places) (start .args .seed) (start .args .drop) (start .args .figure) (start .args .budget) _ _ (sym (c .before .before .before .before .before .before .before .before .before .before .before .before .before .before .before .before .before .before .before .before .before .before .before .check .ensures) ∙ c .before .before .before .before .before .before .before .before .before .before .before .before .before .before .before .before .before .before .before .before .before .enum-told .given .1) (c .before .before .before .before .before .before .before .before .before .before .before .before .before .before .before .before .before .new .result) _ (c .before .before .before .before .before .before .before .before .before .before .before .before .before .before .before .before .before .new .ensures) (c .before .before .before .before .before .before .before .before .before .before .before .before .enum-told2 .given .1) (c .before .before .before .before .before .before .before .before .before .before .before .before .before .before .before .before .before .before .before .before .if1 .left) (c .before .before .before .before .before .before .before .before .before .before .before .before .before .before .before .before .before .before .before .if2 .left)
+    (c .before .before .before .before .before .before .before .before .before .before .new2 .result) _ (c .before .before .before .before .before .before .before .before .before .before .new2 .ensures) _ refl _ (c .before .before .before .before .steps .ensures)
 
 pub run-spec : {M : Type 1} → statement M
 run-spec =

@@ -45,7 +45,7 @@ returns c =
     let a = start .args in
     let t = c .before .before .before .before .before .before .before .before .before .before .before .before .before .before .before .before .before .before .there .ensures in
     let b = c .before .before .before .before .before .before .before .before .before .before .back .ensures in
-    (halving.step-is (a .s) (a .cfg) (a .time) (a .figure) (a .ring .now) (a .other .now) _ _ (c .before .before .before .before .before .before .before .before .before .before .before .before .before .before .before .before .before .before .before .before .before .before .draw .ensures) (c .before .before .before .before .before .before .before .before .before .before .before .before .before .before .before .before .before .before .before .before .before .draw2 .ensures) _ _ (t .0) _ _ (b .0), record { handed = omega (arith, p .1 .handed, t .1 .handed); losses = omega (arith, p .1 .losses, t .1 .losses, b .1) })
+    (halving.step-is (a .s) (a .cfg) (a .time) (a .figure) (a .ring .now) (a .other .now) _ _ (c .before .before .before .before .before .before .before .before .before .before .before .before .before .before .before .before .before .before .before .before .before .before .draw .ensures) (c .before .before .before .before .before .before .before .before .before .before .before .before .before .before .before .before .before .before .before .before .before .draw2 .ensures) (c .before .before .before .before .before .before .before .before .before .before .before .before .before .before .before .before .before .before .there .result) _ (t .0) (c .before .before .before .before .before .before .before .before .before .before .back .result) _ (b .0), record { handed = omega (arith, p .1 .handed, t .1 .handed); losses = omega (arith, p .1 .losses, t .1 .losses, b .1) })
 
 pub step-spec : {M : Type 1} → statement M
 step-spec =

@@ -22,7 +22,7 @@ returns : tie.Need-returns
 returns c = turning.begin-none _ _ (c .before .before .before .pre) (c .enum-told .given .1)
 
 same-length : tie.Need-same-length
-same-length c = search needs
+same-length c = c .before .before .buf .given
 
 returns-2 : tie.Need-returns-2
 returns-2 c = turning.begin-error _ _ _ _ _ (c .before .before .before .before .before .before .before .before .before .pre) (c .before .before .before .before .before .before .waiting .given .1) (c .before .before .before .write .ensures)

@@ -21,10 +21,10 @@ write-requires : tie.Need-write-requires
 write-requires c κs = search needs
 
 same-length : tie.Need-same-length
-same-length c = search needs
+same-length c = c .before .before .before .buf .given
 
 same-length-2 : tie.Need-same-length-2
-same-length-2 c = search needs
+same-length-2 c = c .before .ring .given
 
 returns : tie.Need-returns
 returns c = (turning.chamber-is _ _ _ _ _ (c .before .before .before .before .before .before .before .before .before .before .before .before .pre) _ (c .before .before .before .before .before .before .before .before .before .poll .ensures) _ (c .before .before .before .before .write .ensures .0), turning.poll-loss-is _ _ _ _ (c .before .before .before .before .before .before .before .before .before .poll .ensures) _ _ (c .before .before .before .before .before .event-loss .ensures .0) (c .before .before .before .before .write .ensures .1), omega (arith, c .before .before .before .before .before .event-loss .ensures .1, c .before .before .before .before .write .ensures .1))

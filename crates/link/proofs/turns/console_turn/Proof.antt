@@ -21,13 +21,15 @@ write-requires : tie.Need-write-requires
 write-requires c κs = search needs
 
 same-length : tie.Need-same-length
-same-length c = search needs
+same-length c = c .before .before .before .buf2 .given ∙ c .before .before .before .before .before .before .before .before .buf .given
 
 same-length-2 : tie.Need-same-length-2
-same-length-2 c = search needs
+same-length-2 c = c .before .ring2 .given ∙ c .before .before .before .before .before .before .before .before .before .before .before .before .ring .given
 
 returns : tie.Need-returns
-returns c = turning.console-is _ _ _ _ _ _ _ _ (c .before .before .before .before .before .before .before .before .before .before .before .before .before .queue .ensures) _ _ (c .before .before .before .before .before .before .before .before .before .begin .ensures) _ (c .before .before .before .before .write .ensures .0)
+returns c =
+    let start = c .before .before .before .before .before .before .before .before .before .before .before .before .before .before .before .before .before in
+    turning.console-is (start .args .s) (start .args .cfg) (start .args .time) _ _ (start .args .waiting) (c .before .before .before .before .before .before .before .before .before .before .before .before .before .queue .result) _ (c .before .before .before .before .before .before .before .before .before .before .before .before .before .queue .ensures) (c .before .before .before .before .before .before .before .before .before .begin .result) _ (c .before .before .before .before .before .before .before .before .before .begin .ensures) _ (c .before .before .before .before .write .ensures .0)
 
 pub console-turn-spec : {M : Type 1} → statement M
 console-turn-spec =

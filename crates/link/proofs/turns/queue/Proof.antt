@@ -24,7 +24,7 @@ send-ump-requires : tie.Need-send-ump-requires
 send-ump-requires c κs = search needs
 
 same-length : tie.Need-same-length
-same-length c = search needs
+same-length c = c .before .before .ring .given
 
 returns : tie.Need-returns
 returns c = turning.queued-is _ _ _ _ _ (turning.words-are _ _ (c .before .before .before .before .before .before .words .ensures)) _ _ (c .before .before .before .send-ump .ensures)

@@ -13,10 +13,10 @@ write-data-requires : tie.Need-write-data-requires
 write-data-requires c κs = search needs
 
 same-length : tie.Need-same-length
-same-length c = search needs
+same-length c = c .before .before .before .before .before .buf .given
 
 same-length-2 : tie.Need-same-length-2
-same-length-2 c = search needs
+same-length-2 c = c .before .before .before .ring .given
 
 returns : tie.Need-returns
 returns c = (turning.written-turn _ _ _ _ _ _ _ _ _ (c .before .before .before .before .before .before .write-data .ensures), refl)
