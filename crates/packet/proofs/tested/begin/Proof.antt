@@ -9,7 +9,7 @@ put-word-requires : tie.Need-put-word-requires
 put-word-requires c κs = omega (arith, start-empty (c .before .before .before .args .p) (c .before .if1 .taken))
 
 same-length : tie.Need-same-length
-same-length c = search needs
+same-length c = c .before .buf .given
 
 returns : tie.Need-returns
 returns c =

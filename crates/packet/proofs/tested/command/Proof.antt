@@ -21,7 +21,7 @@ put-requires : tie.Need-put-requires
 put-requires c κs = search needs
 
 same-length : tie.Need-same-length
-same-length c = search needs
+same-length c = c .before .buf .given
 
 returns-3 : tie.Need-returns-3
 returns-3 c = written-done _ _ _ (search needs) (omega arith) _ _ (omega arith) (c .before .before .put .ensures .0) (c .before .before .put .ensures .1)

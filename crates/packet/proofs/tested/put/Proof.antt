@@ -1,4 +1,5 @@
 -- Header and words, stored after what the payload begins with, are the command's bytes.
+use mathlib.Core.Path.{_∙_}
 use native.Mathlib.Omega.{arith}
 use Rattle.packet.proofs.Written.{placed-words}
 use borrow.Author.Needs.{needs}
@@ -30,7 +31,7 @@ add-result-2 : tie.Need-add-result-2
 add-result-2 c = search needs
 
 same-length : tie.Need-same-length
-same-length c = search needs
+same-length c = c .before .buf3 .given ∙ c .before .before .before .before .before .buf2 .given ∙ c .before .before .before .before .before .before .before .before .before .buf .given
 
 returns : tie.Need-returns
 returns c =

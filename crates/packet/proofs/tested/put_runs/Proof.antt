@@ -1,4 +1,5 @@
 -- Header and both runs of words, stored after what the payload begins with, are the command's bytes.
+use mathlib.Core.Path.{_∙_}
 use native.Mathlib.Omega.{arith}
 use lib.ListN.{length-append}
 use Rattle.packet.proofs.Written.{placed-runs}
@@ -46,7 +47,7 @@ add-result-2 : tie.Need-add-result-2
 add-result-2 c = search needs
 
 same-length : tie.Need-same-length
-same-length c = search needs
+same-length c = c .before .buf4 .given ∙ c .before .before .before .before .before .buf3 .given ∙ c .before .before .before .before .before .before .before .before .before .buf2 .given ∙ c .before .before .before .before .before .before .before .before .before .before .before .before .before .buf .given
 
 returns : tie.Need-returns
 returns c =

@@ -12,7 +12,7 @@ command-requires : tie.Need-command-requires
 command-requires c κs = sym (c .before .before .is-valid .ensures) ∙ c .before .if1 .taken
 
 same-length : tie.Need-same-length
-same-length c = search needs
+same-length c = c .before .buf .given
 
 returns : tie.Need-returns
 returns c = search needs
