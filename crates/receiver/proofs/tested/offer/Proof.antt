@@ -20,14 +20,14 @@ no-fit-requires : tie.Need-no-fit-requires
 no-fit-requires c κs = search needs
 
 same-length : tie.Need-same-length
-same-length c = search needs
+same-length c = c .before .before .before .before .before .buf .given
 
 returns : tie.Need-returns
 returns c =
     offered-done _ _ _ _ _ _ (c .before .before .before .before .before .before .write-request .ensures) _ (c .with-asked .ensures) (c .before .enum-told .given .1)
 
 same-length-2 : tie.Need-same-length-2
-same-length-2 c = search needs
+same-length-2 c = c .before .before .before .before .before .buf .given
 
 returns-2 : tie.Need-returns-2
 returns-2 c =

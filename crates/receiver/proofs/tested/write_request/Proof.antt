@@ -33,7 +33,7 @@ offer-requires : tie.Need-offer-requires
 offer-requires c κs = search needs
 
 same-length : tie.Need-same-length
-same-length c = search needs
+same-length c = c .before .buf .given
 
 returns-2 : tie.Need-returns-2
 returns-2 c =

@@ -28,7 +28,7 @@ write-request-requires c κs =
     (sym (c .before .before .before .before .is-valid .ensures) ∙ c .before .before .before .if1 .taken, sym (c .before .before .is-valid2 .ensures) ∙ c .before .if2 .taken)
 
 same-length : tie.Need-same-length
-same-length c = search needs
+same-length c = c .before .buf .given
 
 returns : tie.Need-returns
 unfolding takeAnswer
