@@ -55,6 +55,13 @@ valid-unwritten s ring v =
     let d = rw z at (drop-entries (writtenCount s) (s .unsent) ring (h .head)) in
     sym (size-entries (s .unsent) ring (headerAt (writtenCount s) ring (h .head))) ∙ sym (ap size d) ∙ rw (length-entries (h .count) ring (h .head)) at u
 
+-- ---- numbers under other names
+pub at-most : (a b : ℕ) {x y : ℕ} → a ≡ x → b ≡ y → a ≤ b → x ≤ y
+at-most a b e f l = omega arith
+
+pub less-than : (a b : ℕ) {x y : ℕ} → a ≡ x → b ≡ y → a < b → x < y
+less-than a b e f l = omega arith
+
 -- ---- the last k written entries
 pub least-few : (a b k : ℕ) → k ≡ min a b → k ≤ b
 least-few a b k e = omega arith

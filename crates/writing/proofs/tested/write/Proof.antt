@@ -41,12 +41,13 @@ write-new-requires c κs =
     let start = c .before .before .before .before .before .before .before .before .before .before .before .before .before .before .before .before .before .before .before in
     let p = start .pre in
     let o = out-sound (start .args .s) (start .args .cfg) (start .args .time) _ _ _ _ _ _ _ _ (c .before .before .before .before .before .before .before .before .before .before .before .before .before .serve .ensures) (p .1) (p .2) in
-    let idled = c .before .before .before .before .before .before .queue-idle .ensures in
-    let held = idled-next _ _ _ _ (o .state) (bounds start .0) (bounds start .1) (bounds start .2) _ _ idled in (
+    let s = withQueue (start .args .s) (c .before .before .before .before .before .before .before .before .before .before .before .before .before .serve .result .queue) in
+    let idled = c .before .before .before .before .before .before .queue-idle in
+    let held = idled-next s (start .args .cfg) (start .args .time) _ (o .state) (bounds start .0) (bounds start .1) (bounds start .2) (idled .result) _ (idled .ensures) in (
       held,
       o .payload,
       omega (arith, o .grows, start-most _ _ (o .payload)),
-      mark-kept _ _ _ _ _ (p .3) _ _ idled held _ (c .before .before .mark-after .ensures),
+      mark-kept s (start .args .cfg) (start .args .time) _ (start .args .from) (p .3) (idled .result) _ (idled .ensures) held _ (c .before .before .mark-after .ensures),
     )
 
 same-length-3 : tie.Need-same-length-3

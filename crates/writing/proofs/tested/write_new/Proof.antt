@@ -1,7 +1,7 @@
 -- The walk ends at the first new command; where that fits, the repeats that fit beside it and the new ones are one row.
 use mathlib.Core.Path.{sym, _∙_}
 use native.Mathlib.Omega.{arith}
-use Rattle.writing.proofs.Repeating.{least-few, last-standing, last-words, last-end, again-place, new-none, new-large, new-more, new-row}
+use Rattle.writing.proofs.Repeating.{at-most, less-than, least-few, last-standing, last-words, last-end, again-place, new-none, new-large, new-more, new-row}
 use Rattle.sender.proofs.Validity.{valid-good, valid-unsent}
 use borrow.Author.Needs.{needs}
 use Rattle.writing.proofs.tested.write_new.Statement.{statement}
@@ -47,14 +47,14 @@ returns-2 c =
     let start = c .before .before .before .before .before .before .before .before .before .before .before .before .before .before .before .before in
     let w = c .before .before .before .before .before .walk .ensures in
     let e = w .0 ∙ last-end (start .args .s) _ (start .pre .0) _ _ (least-few _ _ _ (c .before .before .before .before .before .before .before .least .ensures)) (c .before .before .before .before .before .before .place-of .ensures .0) in
-    new-large (start .args .s) (start .args .cfg) (start .args .time) _ (start .args .p) _ _ (c .before .before .before .before .before .before .before .before .before .before .before .before .if1 .left) _ e (omega (arith, c .before .before .if2 .taken, c .before .before .before .pl .ensures, c .before .before .before .before .free-words .ensures)) (c .if3 .taken)
+    new-large (start .args .s) (start .args .cfg) (start .args .time) (start .args .before) (start .args .p) (start .args .buf .now) (start .args .ring .now) (c .before .before .before .before .before .before .before .before .before .before .before .before .if1 .left) _ e (at-most _ _ (c .before .before .before .before .free-words .ensures) (c .before .before .before .pl .ensures) (c .before .before .if2 .taken)) (c .if3 .taken)
 
 returns-3 : tie.Need-returns-3
 returns-3 c =
     let start = c .before .before .before .before .before .before .before .before .before .before .before .before .before .before .before .before in
     let w = c .before .before .before .before .before .walk .ensures in
     let e = w .0 ∙ last-end (start .args .s) _ (start .pre .0) _ _ (least-few _ _ _ (c .before .before .before .before .before .before .before .least .ensures)) (c .before .before .before .before .before .before .place-of .ensures .0) in
-    new-more (start .args .s) (start .args .cfg) (start .args .time) _ (start .args .p) _ _ (c .before .before .before .before .before .before .before .before .before .before .before .before .if1 .left) _ e (omega (arith, c .before .before .if2 .taken, c .before .before .before .pl .ensures, c .before .before .before .before .free-words .ensures)) (c .if3 .left)
+    new-more (start .args .s) (start .args .cfg) (start .args .time) (start .args .before) (start .args .p) (start .args .buf .now) (start .args .ring .now) (c .before .before .before .before .before .before .before .before .before .before .before .before .if1 .left) _ e (at-most _ _ (c .before .before .before .before .free-words .ensures) (c .before .before .before .pl .ensures) (c .before .before .if2 .taken)) (c .if3 .left)
 
 repeats-requires : tie.Need-repeats-requires
 repeats-requires c κs =
@@ -62,7 +62,7 @@ repeats-requires c κs =
     let few = least-few _ _ _ (c .before .before .before .before .before .before .least .ensures) in
     let at = c .before .before .before .before .before .place-of .ensures .0 in
     let w = c .before .before .before .before .walk .ensures in
-    (last-standing _ _ v _ _ few at, w .2, w .1, omega (arith, c .before .if2 .left, c .before .before .pl .ensures, c .before .before .before .free-words .ensures))
+    (last-standing _ _ v _ _ few at, w .2, w .1, less-than _ _ (c .before .before .pl .ensures) (c .before .before .before .free-words .ensures) (c .before .if2 .left))
 
 write-row-requires : tie.Need-write-row-requires
 write-row-requires c κs =
@@ -92,7 +92,7 @@ returns-4 c =
     let r = c .before .before .before .before .repeats .ensures in
     let e = c .before .before .before .before .before .before .before .before .before .walk .ensures .0 ∙ last-end (start .args .s) _ v _ _ few at in
     let a = again-place (start .args .s) _ v _ _ few at _ _ (r .few) (r .place) in
-    new-row (start .args .s) (start .args .cfg) (start .args .time) _ (start .args .p) _ _ (c .before .before .before .before .before .before .before .before .before .before .before .before .before .before .before .before .if1 .left) _ e _ (omega (arith, c .before .before .before .before .before .before .if2 .left, c .before .before .before .before .before .before .before .pl .ensures, c .before .before .before .before .before .before .before .before .free-words .ensures)) _ _ _ _ (c .before .before .before .before .before .before .before .before .before .before .before .least .ensures) at (r .packets) (last-end (start .args .s) _ v _ _ (omega (arith, r .few, c .before .before .before .before .before .before .before .before .before .before .before .least .ensures)) a ∙ sym e) (c .before .before .write-row .ensures)
+    new-row (start .args .s) (start .args .cfg) (start .args .time) (start .args .before) (start .args .p) (start .args .buf .now) (start .args .ring .now) (c .before .before .before .before .before .before .before .before .before .before .before .before .before .before .before .before .if1 .left) _ e _ (less-than _ _ (c .before .before .before .before .before .before .before .pl .ensures) (c .before .before .before .before .before .before .before .before .free-words .ensures) (c .before .before .before .before .before .before .if2 .left)) _ _ _ _ (c .before .before .before .before .before .before .before .before .before .before .before .least .ensures) at (r .packets) (last-end (start .args .s) _ v _ _ (omega (arith, r .few, c .before .before .before .before .before .before .before .before .before .before .before .least .ensures)) a ∙ sym e) (c .before .before .write-row .ensures)
 
 pub write-new-spec : {M : Type 1} → statement M
 write-new-spec =
