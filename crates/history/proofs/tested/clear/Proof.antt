@@ -7,7 +7,7 @@ zero-requires : tie.Need-zero-requires
 zero-requires c κs = search needs
 
 same-length : tie.Need-same-length
-same-length c = search needs
+same-length c = c .before .ring .given
 
 returns : tie.Need-returns
 returns c = rw (c .before .before .zero .ensures)

@@ -54,14 +54,15 @@ command-runs-requires : tie.Need-command-runs-requires
 command-runs-requires c κs = search needs
 
 same-length : tie.Need-same-length
-same-length c = search needs
+same-length c = c .before .buf .given
 
 returns : tie.Need-returns
 returns c =
     let at-run = c .before .before .before .before .before .before in
     let at-seq = at-run .before .before in
-    let p = at-seq .before .before .before .before .pre in
-    entry-written _ _ _ _ _ _ _ _ _ (p .1) (omega arith) (omega arith)
+    let start = at-seq .before .before .before .before in
+    let p = start .pre in
+    entry-written (start .args .p) (start .args .buf .now) (start .args .ring .now) (start .args .at) _ _ _ _ _ (p .1) (omega (arith, p .4, p .2)) (omega (arith, p .2))
     (at-seq .before .pl .ensures)
     (at-seq .seq .ensures)
     (at-run .before .slot .ensures .0)
