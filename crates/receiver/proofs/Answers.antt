@@ -6,14 +6,14 @@ use native.Mathlib.Omega.{arith}
 use Rattle.config.specs.Range.{outside}
 use Rattle.config.specs.Sequence.{turn}
 use Rattle.config.specs.declared.refusal.Refusal.{Refusal}
-use Rattle.config.specs.declared.refusal.Refusal.the-variants.{SizeNotAllowed}
+use Rattle.config.specs.declared.refusal.Refusal.the-variants.{SizeNotAllowed, InvalidState}
 use Rattle.config.specs.declared.answer.Outcome.the-variants.{Done, Refused}
 use Rattle.window.specs.Answers.{startAnswer}
 use Rattle.window.specs.Set.{maxWindow}
 use Rattle.window.specs.Window.{fresh}
 use Rattle.window.specs.declared.window.ReceiveWindow.{ReceiveWindow}
 use Rattle.window.specs.declared.window.Started.the-variants as started
-use Rattle.receiver.specs.Receiver.{validOf, restOf, freshOf}
+use Rattle.receiver.specs.Receiver.{validOf, restOf, freshOf, takenOf}
 use Rattle.receiver.specs.Answers.{newAnswer, resetAnswer, requestRefused, takeAnswer}
 use Rattle.receiver.specs.declared.receiver.Receiver.{Receiver}
 use Rattle.receiver.specs.declared.receiver.Start.the-variants.{Receiver as Started, Refused as StartRefused}
@@ -22,6 +22,10 @@ use mathlib.Core.List.{List}
 use Rattle.config.specs.Settings.{checkOf}
 use Rattle.config.specs.declared.settings.StreamConfig.{StreamConfig}
 use Rattle.packet.specs.declared.writer.PayloadWriter.{PayloadWriter}
+use lib.ListN.{length}
+use Rattle.config.specs.inner.Entries.{entry-refused, entry-made}
+use Rattle.config.specs.inner.Choices.{and-both, and-not-left, and-not-right}
+use Rattle.packet.specs.Write.{validOf as payloadValid}
 
 -- ---- starting
 a-window : (t : Bool) (f w : ReceiveWindow) → cond t (started.Refused SizeNotAllowed) (started.Window f) ≡ started.Window w → Started (restOf false w) ≡ cond t (StartRefused SizeNotAllowed) (Started (restOf false f))
@@ -47,6 +51,21 @@ unfolding resetAnswer
 reset-done r next v n = rw (n, v)
 
 -- ---- a due request
-pub take-settings : (r : Receiver) (s : StreamConfig) (p : PayloadWriter) (b : List ℕ) (why : Refusal) → checkOf s ≡ Refused why → requestRefused r p b why ≡ takeAnswer r s p b
-unfolding takeAnswer
-take-settings r s p b why e = rw e
+module _ (r : Receiver) (s : StreamConfig) (p : PayloadWriter) (b : List ℕ) where
+  pub take-settings : (why : Refusal) → checkOf s ≡ Refused why → requestRefused r p b why ≡ takeAnswer r s p b
+  unfolding takeAnswer
+  take-settings why e = rw e
+
+  module _ (e : checkOf s ≡ Done) where
+    pub take-state : validOf r ≡ false → requestRefused r p b InvalidState ≡ takeAnswer r s p b
+    unfolding takeAnswer
+    take-state v = entry-refused (requestRefused r p b) _ e (and-not-left _ v)
+
+    module _ (v : validOf r ≡ true) where
+      pub take-payload : payloadValid p (length b) ≡ false → requestRefused r p b InvalidState ≡ takeAnswer r s p b
+      unfolding takeAnswer
+      take-payload w = entry-refused (requestRefused r p b) _ e (and-not-right v w)
+
+      pub take-made : payloadValid p (length b) ≡ true → takenOf r s p b ≡ takeAnswer r s p b
+      unfolding takeAnswer
+      take-made w = entry-made (requestRefused r p b) _ e (and-both v w)

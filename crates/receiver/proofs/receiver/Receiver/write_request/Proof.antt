@@ -1,12 +1,9 @@
 -- Settings, receiver and payload are tested, and the rest is `tested::write_request`.
 use mathlib.Core.Path.{sym, _∙_}
-use Rattle.config.specs.inner.Entries.{entry-refused, entry-made}
-use Rattle.config.specs.inner.Choices.{and-both, and-not-left, and-not-right}
-use Rattle.receiver.specs.Answers.{takeAnswer, requestRefused}
 use borrow.Author.Needs.{needs}
 use Rattle.receiver.proofs.receiver.Receiver.write_request.Statement.{statement}
 use Rattle.receiver.proofs.receiver.Receiver.write_request.Tie as tie
-use Rattle.receiver.proofs.Answers.{take-settings}
+use Rattle.receiver.proofs.Answers.{take-settings, take-state, take-payload, take-made}
 
 check-requires : tie.Need-check-requires
 check-requires c κs = search needs
@@ -31,24 +28,25 @@ same-length : tie.Need-same-length
 same-length c = c .before .buf .given
 
 returns : tie.Need-returns
-unfolding takeAnswer
 returns c =
+    let start = c .before .before .before .before .before .before .before .before .before .before .before .before in
     c .before .before .write-request .ensures
-    ∙ entry-made (requestRefused _ _ _) _ (sym (c .before .before .before .before .before .before .before .before .before .before .check .ensures) ∙ c .before .before .before .before .before .before .before .before .enum-told .given .1) (and-both (sym (c .before .before .before .before .before .before .before .is-valid .ensures) ∙ c .before .before .before .before .before .before .if1 .taken) (sym (c .before .before .before .before .before .is-valid2 .ensures) ∙ c .before .before .before .before .if2 .taken))
+    ∙ take-made (start .args .self) (start .args .cfg) (start .args .p) _ (sym (c .before .before .before .before .before .before .before .before .before .before .check .ensures) ∙ c .before .before .before .before .before .before .before .before .enum-told .given .1) (sym (c .before .before .before .before .before .before .before .is-valid .ensures) ∙ c .before .before .before .before .before .before .if1 .taken) (sym (c .before .before .before .before .before .is-valid2 .ensures) ∙ c .before .before .before .before .if2 .taken)
 
 returns-2 : tie.Need-returns-2
-returns-2 c = take-settings _ _ _ _ _ (sym (c .before .before .before .check .ensures) ∙ c .before .why .given .1)
+returns-2 c =
+    let start = c .before .before .before .before .before in
+    take-settings (start .args .self) (start .args .cfg) (start .args .p) _ _ (sym (c .before .before .before .check .ensures) ∙ c .before .why .given .1)
 
 returns-3 : tie.Need-returns-3
-unfolding takeAnswer
 returns-3 c =
-    let passed = c .before .before .before .before in
-    entry-refused (requestRefused _ _ _) _ (sym (passed .before .before .check .ensures) ∙ passed .enum-told .given .1) (and-not-right (sym (c .before .before .before .is-valid .ensures) ∙ c .before .before .if1 .taken) (sym (c .before .is-valid2 .ensures) ∙ c .if2 .left))
+    let start = c .before .before .before .before .before .before .before .before in
+    take-payload (start .args .self) (start .args .cfg) (start .args .p) _ (sym (c .before .before .before .before .before .before .check .ensures) ∙ c .before .before .before .before .enum-told .given .1) (sym (c .before .before .before .is-valid .ensures) ∙ c .before .before .if1 .taken) (sym (c .before .is-valid2 .ensures) ∙ c .if2 .left)
 
 returns-4 : tie.Need-returns-4
-unfolding takeAnswer
 returns-4 c =
-    entry-refused (requestRefused _ _ _) _ (sym (c .before .before .before .before .check .ensures) ∙ c .before .before .enum-told .given .1) (and-not-left _ (sym (c .before .is-valid .ensures) ∙ c .if1 .left))
+    let start = c .before .before .before .before .before .before in
+    take-state (start .args .self) (start .args .cfg) (start .args .p) _ (sym (c .before .before .before .before .check .ensures) ∙ c .before .before .enum-told .given .1) (sym (c .before .is-valid .ensures) ∙ c .if1 .left)
 
 pub write-request-spec : {M : Type 1} → statement M
 write-request-spec =
