@@ -37,6 +37,17 @@ one-more passed k l f = omega arith
 pub further : (at i n i' : ℕ) → at ≤ i → i' ≡ i + n → at ≤ i'
 further at i n i' l e = omega arith
 
+pub fewer-left : (passed k : ℕ) → passed < k → k - (passed + 1) < k - passed
+fewer-left passed k l = omega arith
+
+pub header-parts : (h n pl : ℕ) → h ≡ n * turn + pl → pl ≤ 64 → (h % turn ≡ pl) × (h / turn ≡ n)
+header-parts h n pl e l = (omega arith, omega arith)
+
+-- an entry of pl words with header h goes by, from place i on
+pub gone-by : (at i pl passed k h : ℕ) {g : ℕ} → passed < k → at ≤ i → g ≡ h → h % turn ≡ pl
+    → (0 < passed + 1) × (passed + 1 ≤ k) × (at + (1 + pl) ≤ i + (1 + pl)) × (g ≡ h / turn * turn + pl) × (i + (1 + pl) - (1 + pl) ≡ i)
+gone-by at i pl passed k h l m e f = (omega arith, omega arith, omega arith, omega arith, omega arith)
+
 -- the place reached is in front of the end of the ring
 pub past-to : (b : List ℕ) (i n p d at seq prev words : ℕ) → i ≤ at → at < length b
     → Past b i n p d (slotOf (length b) i (at - i)) seq prev words → Past b i n p d at seq prev words

@@ -6,7 +6,7 @@ use lib.ListN.{length, getD}
 use Rattle.config.specs.Sequence.{turn}
 use Rattle.history.specs.Ring.{slotOf}
 use Rattle.history.specs.inner.Walk.{Past}
-use Rattle.history.proofs.Past.{past-start, past-to, one-more, further, less-number, place-after, number-next, header-right, past-wrong, past-turn, ran-lost, ran-on}
+use Rattle.history.proofs.Past.{past-start, past-to, one-more, further, fewer-left, less-number, place-after, number-next, header-right, past-wrong, past-turn, ran-lost, ran-on}
 use borrow.Author.Needs.{needs}
 use Rattle.history.proofs.headers.any_leg.Statement.{statement}
 use Rattle.history.proofs.headers.any_leg.Tie as tie
@@ -106,7 +106,7 @@ add-passed : tie.Need-add-passed Inv-loop μ-loop
 add-passed c = search needs
 
 loop-less : tie.Need-loop-less Inv-loop μ-loop
-loop-less c = search needs
+loop-less c = fewer-left _ _ (c .before .before .before .before .before .before .before .before .loop .inv .0)
 
 loop-again : tie.Need-loop-again Inv-loop μ-loop
 loop-again c =

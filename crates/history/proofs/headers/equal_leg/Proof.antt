@@ -8,7 +8,7 @@ use Rattle.config.specs.Sequence.{turn}
 use Rattle.history.specs.Ring.{slotOf}
 use Rattle.history.specs.inner.Walk.{Past}
 use Rattle.history.proofs.Slots.{slot-to}
-use Rattle.history.proofs.Past.{past-start, past-to, one-more, further, number-next, header-right, past-wrong, past-turn, ran-lost, ran-on}
+use Rattle.history.proofs.Past.{past-start, past-to, one-more, further, fewer-left, header-parts, gone-by, number-next, header-right, past-wrong, past-turn, ran-lost, ran-on}
 use borrow.Author.Needs.{needs}
 use Rattle.history.proofs.headers.equal_leg.Statement.{statement}
 use Rattle.history.proofs.headers.equal_leg.Tie as tie
@@ -43,9 +43,11 @@ goes :
     → let a = c .before .before .before in
     End a (a .loop .i + (1 + a .before .before .before .wrapping-sub-usize .result)) (a .loop .passed + 1) (c .wrapping-add-u32 .result)
 goes c =
-    let l = c .before .before .before .loop .inv in
+    let a = c .before .before .before in
+    let l = a .loop .inv in
     let n = number-next _ _ (l .4) (c .wrapping-add-u32 .ensures) in
-    (omega arith, omega arith, n .2, omega arith, past-turn _ _ _ _ _ _ _ _ (l .5) _ _ _ _ (omega arith) (omega arith) refl (n .0) (omega arith) (l .1))
+    let t = gone-by _ _ _ _ _ _ (l .0) (l .1) (c .before .if2 .left) (l .3) in
+    (t .0, t .1, n .2, t .2, past-turn _ _ _ _ _ _ _ _ (l .5) _ _ _ _ (t .3) (a .before .before .if1 .left) refl (n .0) (t .4) (l .1))
 
 -- the next header is another one
 stays : (c : tie.Then2 Inv-loop μ-loop) → let l = c .before .before .loop in End (c .before .before) (l .i) (l .passed) (l .header)
@@ -99,13 +101,15 @@ shared-slice-read-header c = search needs
 
 loop-holds : tie.Need-loop-holds Inv-loop μ-loop
 loop-holds c =
-    let h = header-right _ _ _ (omega arith) (c .before .before .wrapping-sub-usize .ensures) (c .before .if1 .left) in (
+    let start = c .before .before .before .before .before in
+    let h = header-right _ _ _ (omega arith) (c .before .before .wrapping-sub-usize .ensures) (c .before .if1 .left) in
+    let p = header-parts _ _ _ h (c .before .if1 .left) in (
+      start .pre .2,
       omega arith,
-      omega arith,
-      omega arith,
-      omega arith,
-      omega (arith, c .shared-slice-known3 .given (c .before .before .before .before .before .args .at)),
-      past-start _ _ _ _ _ (omega arith),
+      start .pre .0,
+      p .0,
+      omega (arith, c .shared-slice-known3 .given (start .args .at)),
+      past-start _ _ _ _ _ (p .1),
       λ f. absurd (f refl),
     )
 
@@ -125,7 +129,7 @@ add-passed : tie.Need-add-passed Inv-loop μ-loop
 add-passed c = search needs
 
 loop-less : tie.Need-loop-less Inv-loop μ-loop
-loop-less c = search needs
+loop-less c = fewer-left _ _ (c .before .before .before .before .before .loop .inv .0)
 
 loop-again : tie.Need-loop-again Inv-loop μ-loop
 loop-again c =
