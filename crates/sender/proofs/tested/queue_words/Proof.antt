@@ -59,10 +59,10 @@ mul-push-all c =
     omega (arith, c .before .before .before .before .before .before .before .before .before .before .before .front-words .ensures, valid-small _ _ (c .before .before .before .before .before .before .before .before .before .before .before .before .before .before .before .before .before .before .pre .0), c .before .before .before .before .before .before .if1 .left)
 
 sub-push-all : tie.Need-sub-push-all
-sub-push-all c = search needs
+sub-push-all c = c .before .before .before .before .before .before .before .before .before .before .before .front-words .ensures .1
 
 part-push-all-start : tie.Need-part-push-all-start
-part-push-all-start c = search needs
+part-push-all-start c = c .before .before .before .before .before .before .before .before .before .before .before .front-words .ensures .1
 
 part-push-all-end : tie.Need-part-push-all-end
 part-push-all-end c = search needs
@@ -89,7 +89,7 @@ same-length-2 c = c .before .before .before .ring2 .given ∙ c .before .before 
 returns-2 : tie.Need-returns-2
 returns-2 c =
     let start = c .before .before .before .before .before .before .before .before .before .before .before .before .before .before .before .before .before .before .before .before .before .before .before .before in
-    placed-queued _ _ _ _ _ _ _ (c .before .before .before .before .before .before .before .before .before .before .before .before .before .before .before .before .before .before .room .ensures) (c .before .before .before .before .before .before .before .before .before .before .before .before .before .before .before .before .before .front-words .ensures .0) (c .before .before .before .before .before .before .before .before .before .before .before .before .before .before .before .commands .ensures .0) _ _ _ _ (check-divides _ _ (start .pre .2) .whole) (c .before .before .before .before .before .before .before .before .before .before .before .before .if1 .left) (c .before .before .before .before .before .before .before .before .before .join .ensures) (c .before .before .before .before .push-all .ensures)
+    placed-queued (start .args .s) (start .args .ring .now) (start .args .max) (start .args .words .now) _ _ _ (c .before .before .before .before .before .before .before .before .before .before .before .before .before .before .before .before .before .before .room .ensures) (c .before .before .before .before .before .before .before .before .before .before .before .before .before .before .before .before .before .front-words .ensures .0) (c .before .before .before .before .before .before .before .before .before .before .before .before .before .before .before .commands .ensures .0) (c .before .before .before .before .before .before .before .before .before .join .result) (c .before .before .before .before .push-all .result) _ _ (check-divides _ _ (start .pre .2) .whole) (c .before .before .before .before .before .before .before .before .before .before .before .before .if1 .left) (c .before .before .before .before .before .before .before .before .before .join .ensures) (c .before .before .before .before .push-all .ensures)
 
 pub queue-words-spec : {M : Type 1} → statement M
 queue-words-spec =
