@@ -139,7 +139,7 @@ stream-test = record { new = refl; heard = refl; asked = refl; request = refl; b
 
 pub numbers-test : NumbersTest
 unfolding receiverValid validOf takenOf val setOf streamSend streamValid streamWrite dataWritten sentAfter sendAndWriteAnswer wantsAnswer typeWords divided messagesOf wholeOf slotOf ringStored ringRead headerAt wordsFrom numbered stateOk walkOk popOne popped grown pushed longer appended entryPacket fitting front behind commandsIn commandsOf longMessage above senderValid roomOf needOf joinedTo pushedAll queuedTo queuedOf wordsCheck placedOf sentOf rowOf packetsFrom servedIn servedOf idleNext idledOf sizesOf repeatsOf anyWords writtenOff newSent writtenBy sendAnswer writeAnswer checkOf payloadValid writtenOf bytesOf spliced
-numbers-test = record { sent = refl; behind = refl; wants = refl }
+numbers-test = record { sent = refl; behind = refl; wants = refl; yes = refl; left = refl; asked = refl; due = refl; products = (refl, refl) }
 
 pub layout-test : LayoutTest
 unfolding receiverData receiverValid validOf settledOf heardOf acceptOf classOf processed newOf spanOf lostOf missingOf movedOf val setOf topOf topIn bottomOf trailingZeros checkOf startAnswer spliced fourIn word twoIn pair flagsIn flagsNumber held receiverWords receiverOf holdsButTimer receiverHolds receiverFits waitsOf firstIn secondIn requestsIn wordsEntry within windowFits startExport

@@ -6,7 +6,10 @@ use mathlib.Core.List.{List, [], _∷_, _++_}
 use mathlib.Core.Path.{_≡_}
 use lib.ListN.{take, replicate, set, getD}
 use Rattle.config.specs.Settings.{defaults}
-use Rattle.config.specs.declared.refusal.Refusal.the-variants.{TooLarge, InvalidValue, ReasonNotAllowed, InvalidState}
+use Rattle.config.specs.Refusals.{numberOf}
+use Rattle.config.specs.declared.refusal.Refusal.the-variants.{TooLarge, InvalidValue, ReasonNotAllowed, InvalidState, InvalidRecord, DivisionsNotAllowed}
+use Rattle.config.specs.declared.answer.Answered.the-variants.{Is}
+use Rattle.config.specs.declared.answer.Deadline.the-variants.{At}
 use Rattle.packet.specs.Bytes.{bytesOf, wordsOf}
 use Rattle.packet.specs.Layout.{packet}
 use Rattle.packet.specs.Read.{header, nextOf}
@@ -41,6 +44,7 @@ use Rattle.writing.specs.declared.writing.Wrote.{Wrote}
 use Rattle.writing.specs.declared.writing.Writing.{Writing}
 use Rattle.writing.specs.declared.writing.Writing.the-variants.{Written, Refused as NotWritten}
 use Rattle.receiver.specs.Answers.{dataAnswer as receiverData}
+use Rattle.receiver.specs.declared.receiver.Request.the-variants.{More}
 use Rattle.receiver.specs.declared.receiver.Hearing.{Hearing}
 use Rattle.receiver.specs.declared.receiver.Hearing.the-variants.{Delivery}
 use Rattle.stream.specs.State.{unstarted, fresh as freshStream}
@@ -53,7 +57,7 @@ use Rattle.stream.specs.declared.stream.Heard.{Heard as StreamHeard}
 use Rattle.stream.specs.declared.stream.Wrote.{Wrote as StreamWrote}
 use Rattle.stream.specs.declared.sending.SendAndWrite.{SendAndWrite}
 use Rattle.stream.specs.declared.sending.SendAndWrite.the-variants.{Queued}
-use Rattle.c_answers.specs.Answers.{wantsOf}
+use Rattle.c_answers.specs.Answers.{writtenOf as writtenNumbers, requestOf, deadlineOf, wantsOf}
 use Rattle.c_answers.specs.Sending.{sentWrittenOf}
 use Rattle.c_state.specs.Receiver.{receiverHolds}
 use Rattle.c_state.specs.Sender.{requestsIn}
@@ -249,6 +253,13 @@ pub record NumbersTest : Type 0 where
   pub behind : sentWrittenOf (sentInto (unmade 10 1400)) ≡ record { commands = 0; refusal = 13; more = 0; queued = 1 }
   -- of a start that was refused
   pub wants : wantsOf (wantsAnswer unstarted [] 1000) ≡ record { refusal = 13; wants = 0 }
+  -- a stream that wants to write, commands that are left, a request that does not fit, a deadline
+  pub yes : wantsOf (Is true) ≡ record { refusal = 0; wants = 1 }
+  pub left : writtenNumbers (Written record { commands = 2; more = true }) ≡ record { commands = 2; refusal = 0; more = 1 }
+  pub asked : requestOf More ≡ record { refusal = 0; kind = 2 }
+  pub due : deadlineOf (At 1100) ≡ record { time = 1100; refusal = 0; kind = 1 }
+  -- of the products
+  pub products : (numberOf InvalidRecord ≡ 17) × (numberOf DivisionsNotAllowed ≡ 18)
 
 -- ---- words that a caller in C lends: a stream's, of which the first seven are its receiver's, and a window's
 -- a window of 64 whose highest is this number, with nothing missing, and nothing asked for
