@@ -1,11 +1,10 @@
-/* Calls that change nothing, refused ones among them, on a stream, a payload and a window in memory that can only be read: a call that
- * stored a word there would end this program.
+/* Calls of a receiver, a window and a payload that change nothing, refused ones among them, in memory that can only be read: a call
+ * that stored a word there would end this program.
  *
  * Built and run by tools/run_c_example. */
 #define _DEFAULT_SOURCE
 #include <sirmjold.h>
 #include <stdio.h>
-#include <string.h>
 #include <sys/mman.h>
 
 #define RING 256
@@ -55,15 +54,10 @@ static void receiving(struct kept *k)
     check(sirmjold_window_accept(k->window, SIRMJOLD_WINDOW_WORDS, 0).class_ == SIRMJOLD_DUPLICATE, "0 was accepted");
 }
 
-static void sending(struct kept *k)
+static void asking(struct kept *k)
 {
-    static const uint32_t cut = 0x40903C00, long_[65] = {0x20903C40};
-    check(sirmjold_send_ump(&k->stream, &cut, 1) == 5, "half a message");
-    check(sirmjold_send_ump(&k->stream, long_, 0) == 0, "no words");
-    check(sirmjold_on_retransmit_request(&k->stream, 7, 1).kind == 3, "a number that was not sent");
-    check(sirmjold_write_data(&k->stream, 9, &k->payload).commands == 0, "nothing to write");
-    check(sirmjold_send_and_write(&k->stream, 9, &cut, 1, &k->payload).refusal == 5, "half a message, in one call");
-    check(sirmjold_next_deadline(&k->stream).kind == 1 && !sirmjold_wants_write(&k->stream, 9).wants, "questions");
+    check(sirmjold_next_deadline(&k->stream).kind == 1, "a deadline");
+    check(sirmjold_wants_write(&k->stream, 9).wants == 0, "nothing to write");
 }
 
 static void writing(struct kept *k)
@@ -91,7 +85,7 @@ int main(void)
         return 2;
     }
     receiving(k);
-    sending(k);
+    asking(k);
     writing(k);
     refused(k);
     printf("%d calls stored nothing, %d were answered otherwise\n", passed, failed);

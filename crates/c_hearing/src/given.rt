@@ -33,7 +33,7 @@ fn request(cfg: StreamConfig, ring: &[u32], r: RetransmitRequest, s: &mut [u64])
     let done = before.on_retransmit_request(cfg, ring, r);
     let sender = done.sender;
     let outcome = done.outcome;
-    state::renew_sender(sender, s);
+    state::store_sender(sender, s);
     figures::of_outcome(answers::of_outcome(outcome))
 }
 

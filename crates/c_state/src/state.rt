@@ -129,26 +129,13 @@ pub fn store_sender(sender: Sender, words: &mut [u64])
     put(&waiting, words, REQUESTS);
 }
 
-// Stores what a call has left of the sender: where that is what the words have, nothing.
-pub fn renew_sender(sender: Sender, words: &mut [u64])
-    requires { ⌜ (length (now words) ≡ streamWords) × NarrowSender sender ⌝ }
-    ensures { λ _. ⌜ now (words .exit) ≡ withSender (now (words .entry)) sender ⌝ }
-{
-    let queue = sender.queue;
-    let items = queue.items;
-    let new = sender_part::figures(sender);
-    renew(&new, words, RECEIVER_WORDS);
-    let waiting = sender_part::requests(items);
-    renew(&waiting, words, REQUESTS);
-}
-
-// Stores what a call has left of a sender whose requests are those of the words.
-pub fn renew_figures(sender: Sender, words: &mut [u64])
+// Stores a sender whose requests are those of the words.
+pub fn store_figures(sender: Sender, words: &mut [u64])
     requires { ⌜ (senderFits (now words) ≡ true) × NarrowSender sender × (sender .queue .items ≡ senderIn (now words) .queue .items) ⌝ }
     ensures { λ _. ⌜ now (words .exit) ≡ withSender (now (words .entry)) sender ⌝ }
 {
     let new = sender_part::figures(sender);
-    renew(&new, words, RECEIVER_WORDS);
+    put(&new, words, RECEIVER_WORDS);
 }
 
 // Stores the stream into the words, which need have none yet.
@@ -180,5 +167,5 @@ pub fn store_written(changed: bool, s: DataStream, words: &mut [u64])
     let sender = s.sender;
     let receiver = s.receiver;
     store_changed(changed, receiver, words);
-    renew_sender(sender, words);
+    store_sender(sender, words);
 }

@@ -90,7 +90,7 @@ pub extern "C" fn sirmjold_stream_send_ump(
             let done = before.send_ump(settings::load(cfg), ring, words);
             let sender = done.sender;
             let answer = done.answer;
-            state::renew_figures(sender, s);
+            state::store_figures(sender, s);
             return answer.number();
         }
         return guard::INVALID_STATE;
@@ -117,7 +117,7 @@ pub extern "C" fn sirmjold_stream_on_retransmit_request(
             let done = before.on_retransmit_request(settings::load(cfg), ring, req);
             let sender = done.sender;
             let outcome = done.outcome;
-            state::renew_sender(sender, s);
+            state::store_sender(sender, s);
             return answers::of_outcome(outcome);
         }
         return answers::refused_outcome(guard::INVALID_STATE);

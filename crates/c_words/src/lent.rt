@@ -1,7 +1,8 @@
 // Words that a caller lends.
 ghost use mathlib.Core.Path.{_≡_};
-ghost use Prim.Native.Nat.{_+_, _≤_, _<_};
-ghost use lib.ListN.{length, set};
+ghost use mathlib.Core.Bool.{true};
+ghost use Prim.Native.Nat.{_+_, _≤_};
+ghost use lib.ListN.{length};
 ghost use Rattle.packet.specs.Bytes.{spliced};
 
 // Stores words from the place `at` on, where there need be none yet.
@@ -16,24 +17,28 @@ pub fn put(from: &[u64], to: &mut [u64], at: usize)
     }
 }
 
-// Stores a word at the place `at`, unless it stands there.
-fn renew_one(to: &mut [u64], at: usize, w: u64)
-    requires { ⌜ at < length (now to) ⌝ }
-    ensures { λ _. ⌜ now (to .exit) ≡ set (now (to .entry)) at w ⌝ }
+// Whether the words stand from the place `at` on.
+fn stand(from: &[u64], to: &[u64], at: usize) -> bool
+    requires { ⌜ at + length (now from) ≤ length (now to) ⌝ }
+    ensures { λ r. ⌜ (r ≡ true → now (to .entry) ≡ spliced (now (to .entry)) at (now (from .entry))) ⌝ }
 {
-    if to[at] != w {
-        to[at] = w;
+    let mut k = 0;
+    while k < from.len() {
+        if to[at + k] != from[k] {
+            return false;
+        }
+        k += 1;
     }
+    true
 }
 
-// Stores the words that differ from those from the place `at` on: where none does, nothing is stored.
+// Stores words from the place `at` on, unless they stand there: then nothing is stored.
 pub fn renew(from: &[u64], to: &mut [u64], at: usize)
     requires { ⌜ at + length (now from) ≤ length (now to) ⌝ }
     ensures { λ _. ⌜ now (to .exit) ≡ spliced (now (to .entry)) at (now (from .entry)) ⌝ }
 {
-    let mut k = 0;
-    while k < from.len() {
-        renew_one(to, at + k, from[k]);
-        k += 1;
+    if stand(from, &to[..], at) {
+        return;
     }
+    put(from, to, at);
 }

@@ -16,8 +16,8 @@ sender-in-requires c κs = both-sender _ (c .before .before .before .pre)
 on-retransmit-request-requires : tie.Need-on-retransmit-request-requires
 on-retransmit-request-requires c κs = search needs
 
-renew-sender-requires : tie.Need-renew-sender-requires
-renew-sender-requires c κs = (both-whole _ (c .before .before .before .before .before .before .before .pre), request-stored (c .before .before .before .before .before .before .before .args .s .now) (wide (c .before .before .before .before .before)) _ (c .before .before .before .sender-in .ensures) _ _ _ _ (c .before .before .on-retransmit-request .ensures))
+store-sender-requires : tie.Need-store-sender-requires
+store-sender-requires c κs = (both-whole _ (c .before .before .before .before .before .before .before .pre), request-stored (c .before .before .before .before .before .before .before .args .s .now) (wide (c .before .before .before .before .before)) _ (c .before .before .before .sender-in .ensures) _ _ _ _ (c .before .before .on-retransmit-request .ensures))
 
 of-outcome-requires : tie.Need-of-outcome-requires
 of-outcome-requires c κs = search needs
@@ -29,7 +29,7 @@ same-length : tie.Need-same-length
 same-length c = search needs
 
 returns : tie.Need-returns
-returns c = request-given (c .before .before .before .before .before .before .before .before .before .before .before .before .args .s .now) (wide (c .before .before .before .before .before .before .before .before .before .before)) _ (c .before .before .before .before .before .before .before .before .sender-in .ensures) _ _ _ _ (c .before .before .before .before .before .before .before .on-retransmit-request .ensures) (c .before .before .before .before .before .before .before .before .before .before .before .before .pre) _ (c .before .before .before .before .renew-sender .ensures) _ (c .before .of-outcome .ensures) _ (c .of-outcome2 .ensures)
+returns c = request-given (c .before .before .before .before .before .before .before .before .before .before .before .before .args .s .now) (wide (c .before .before .before .before .before .before .before .before .before .before)) _ (c .before .before .before .before .before .before .before .before .sender-in .ensures) _ _ _ _ (c .before .before .before .before .before .before .before .on-retransmit-request .ensures) (c .before .before .before .before .before .before .before .before .before .before .before .before .pre) _ (c .before .before .before .before .store-sender .ensures) _ (c .before .of-outcome .ensures) _ (c .of-outcome2 .ensures)
 
 pub request-spec : {M : Type 1} → statement M
 request-spec =
@@ -37,7 +37,7 @@ request-spec =
     (tie.spec
     sender-in-requires
     on-retransmit-request-requires
-    renew-sender-requires
+    store-sender-requires
     of-outcome-requires
     of-outcome-requires-2
     same-length

@@ -31,8 +31,8 @@ load-requires c κs = figures-small _ (passed _ (c .before .before .before .befo
 on-retransmit-request-requires : tie.Need-on-retransmit-request-requires
 on-retransmit-request-requires c κs = search needs
 
-renew-sender-requires : tie.Need-renew-sender-requires
-renew-sender-requires c κs = (sender-whole _ (sym (c .before .before .before .before .before .before .before .sender-fits .ensures) ∙ c .before .before .before .before .before .before .if2 .taken), request-narrow (c .before .before .before .before .before .before .before .before .before .before .before .before .before .before .args .s .now) (wide (c .before .before .before .before .before .before .before .before .before .before .before .before .before)) _ (c .before .before .before .before .sender-in .ensures) _ _ _ _ (c .before .before .on-retransmit-request .ensures))
+store-sender-requires : tie.Need-store-sender-requires
+store-sender-requires c κs = (sender-whole _ (sym (c .before .before .before .before .before .before .before .sender-fits .ensures) ∙ c .before .before .before .before .before .before .if2 .taken), request-narrow (c .before .before .before .before .before .before .before .before .before .before .before .before .before .before .args .s .now) (wide (c .before .before .before .before .before .before .before .before .before .before .before .before .before)) _ (c .before .before .before .before .sender-in .ensures) _ _ _ _ (c .before .before .on-retransmit-request .ensures))
 
 of-outcome-requires : tie.Need-of-outcome-requires
 of-outcome-requires c κs = search needs
@@ -42,7 +42,7 @@ same-length c = search needs
 
 returns : tie.Need-returns
 unfolding requestExport requestAnswer loaded
-returns c = made _ _ (passed _ (c .before .before .before .before .before .before .before .before .before .before .before .before .before .before .number .ensures) (c .before .before .before .before .before .before .before .before .before .before .before .before .before .if1 .taken)) (sym (c .before .before .before .before .before .before .before .before .before .before .before .sender-fits .ensures) ∙ c .before .before .before .before .before .before .before .before .before .before .if2 .taken) (rw (c .of-outcome .ensures, c .before .before .before .renew-sender .ensures, c .before .before .before .before .before .before .on-retransmit-request .ensures, c .before .before .before .before .before .before .before .before .sender-in .ensures, c .before .before .before .before .before .before .before .load .ensures))
+returns c = made _ _ (passed _ (c .before .before .before .before .before .before .before .before .before .before .before .before .before .before .number .ensures) (c .before .before .before .before .before .before .before .before .before .before .before .before .before .if1 .taken)) (sym (c .before .before .before .before .before .before .before .before .before .before .before .sender-fits .ensures) ∙ c .before .before .before .before .before .before .before .before .before .before .if2 .taken) (rw (c .of-outcome .ensures, c .before .before .before .store-sender .ensures, c .before .before .before .before .before .before .on-retransmit-request .ensures, c .before .before .before .before .before .before .before .before .sender-in .ensures, c .before .before .before .before .before .before .before .load .ensures))
 
 refused-outcome-requires : tie.Need-refused-outcome-requires
 refused-outcome-requires c κs = search needs
@@ -62,4 +62,4 @@ unfolding requestExport requestAnswer loaded
 returns-3 c = settings-refused _ _ _ _ (c .before .before .number .ensures) (c .before .if1 .left) (rw (c .refused-outcome2 .ensures))
 
 pub sirmjold-stream-on-retransmit-request-spec : {M : Type 1} → statement M
-sirmjold-stream-on-retransmit-request-spec = tie.close (tie.spec number-requires sender-fits-requires sender-in-requires load-requires on-retransmit-request-requires renew-sender-requires of-outcome-requires same-length returns refused-outcome-requires same-length-2 returns-2 refused-outcome-requires-2 returns-3)
+sirmjold-stream-on-retransmit-request-spec = tie.close (tie.spec number-requires sender-fits-requires sender-in-requires load-requires on-retransmit-request-requires store-sender-requires of-outcome-requires same-length returns refused-outcome-requires same-length-2 returns-2 refused-outcome-requires-2 returns-3)
