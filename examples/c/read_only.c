@@ -63,7 +63,7 @@ static void asking(struct kept *k)
 static void writing(struct kept *k)
 {
     check(sirmjold_put_ump_data(&k->payload, 1, k->history, 1) == 2, "a command that does not fit any more");
-    check(sirmjold_put_ump_data(&k->payload, 1, k->history, 5) == 3, "a command that fits no such payload");
+    check(sirmjold_put_ump_data(&k->payload, 1, k->history, 65) == 5, "more words than a command has");
     check(sirmjold_put_retransmit_error(&k->payload, 2, 0) == 11, "a reason that is not defined");
 }
 
