@@ -37,99 +37,99 @@ abbrev pub bit : Bool → ℕ
 bit false = 0
 bit true = 1
 
-abbrev pub spanNumbers : Span → Numbers
-spanNumbers Nothing = record { first = 0; count = 0 }
-spanNumbers (Of r) = record { first = r.first; count = r.count }
+abbrev pub span_numbers : Span → Numbers
+span_numbers Nothing = record { first = 0; count = 0 }
+span_numbers (Of r) = record { first = r.first; count = r.count }
 
-abbrev pub classNumber : Class → ℕ
-classNumber (New n) = 0
-classNumber Late = 1
-classNumber Duplicate = 2
+abbrev pub class_number : Class → ℕ
+class_number (New n) = 0
+class_number Late = 1
+class_number Duplicate = 2
 
-abbrev pub skippedIn : Class → ℕ
-skippedIn (New n) = n
-skippedIn Late = 0
-skippedIn Duplicate = 0
+abbrev pub skipped_in : Class → ℕ
+skipped_in (New n) = n
+skipped_in Late = 0
+skipped_in Duplicate = 0
 
 abbrev pub class_of : Class → Span → Span → CDelivery
 class_of c gap lost =
     record {
       refusal = 0;
-      class = classNumber c;
-      skipped = skippedIn c;
-      gap_first = (spanNumbers gap).first;
-      gap_count = (spanNumbers gap).count;
-      lost_first = (spanNumbers lost).first;
-      lost_count = (spanNumbers lost).count;
+      class = class_number c;
+      skipped = skipped_in c;
+      gap_first = (span_numbers gap).first;
+      gap_count = (span_numbers gap).count;
+      lost_first = (span_numbers lost).first;
+      lost_count = (span_numbers lost).count;
     }
 
-abbrev pub deliveryRefused : ℕ → CDelivery
-deliveryRefused n =
+abbrev pub delivery_refused : ℕ → CDelivery
+delivery_refused n =
     record { refusal = n; class = 0; skipped = 0; gap_first = 0; gap_count = 0; lost_first = 0; lost_count = 0 }
 
-abbrev pub deliveryOf : Hearing → CDelivery
-deliveryOf (Delivery d) = class_of d.class d.gap d.lost
-deliveryOf (NotHeard why) = deliveryRefused (number_of why)
+abbrev pub delivery_of : Hearing → CDelivery
+delivery_of (Delivery d) = class_of d.class d.gap d.lost
+delivery_of (NotHeard why) = delivery_refused (number_of why)
 
-abbrev pub writtenRefused : ℕ → CWritten
-writtenRefused n = record { commands = 0; refusal = n; more = 0 }
+abbrev pub written_refused : ℕ → CWritten
+written_refused n = record { commands = 0; refusal = n; more = 0 }
 
 abbrev pub written_of : Writing → CWritten
 written_of (Written w) = record { commands = w.commands; refusal = 0; more = bit w.more }
-written_of (NotWritten why) = writtenRefused (number_of why)
+written_of (NotWritten why) = written_refused (number_of why)
 
-abbrev pub acceptanceOf : Acceptance → CDelivery
-acceptanceOf (Heard c lost) = class_of c Nothing lost
-acceptanceOf (NotTaken why) = deliveryRefused (number_of why)
+abbrev pub acceptance_of : Acceptance → CDelivery
+acceptance_of (Heard c lost) = class_of c Nothing lost
+acceptance_of (NotTaken why) = delivery_refused (number_of why)
 
-abbrev pub ignoredNumber : WhyIgnored → ℕ
-ignoredNumber Pending = 1
-ignoredNumber Full = 2
+abbrev pub ignored_number : WhyIgnored → ℕ
+ignored_number Pending = 1
+ignored_number Full = 2
 
-abbrev pub outcomeRefused : ℕ → COutcome
-outcomeRefused n = record { refusal = n; kind = 0; reason = 0; seq = 0 }
+abbrev pub outcome_refused : ℕ → COutcome
+outcome_refused n = record { refusal = n; kind = 0; reason = 0; seq = 0 }
 
 -- an outcome that is its kind alone
-abbrev pub outcomeKind : ℕ → COutcome
-outcomeKind n = record { refusal = 0; kind = n; reason = 0; seq = 0 }
+abbrev pub outcome_kind : ℕ → COutcome
+outcome_kind n = record { refusal = 0; kind = n; reason = 0; seq = 0 }
 
-abbrev pub outcomeOf : RequestOutcome → COutcome
-outcomeOf Queued = outcomeKind 0
-outcomeOf (Ignored i) = outcomeKind (ignoredNumber i)
-outcomeOf (Error e) = record { refusal = 0; kind = 3; reason = e.reason; seq = e.seq }
-outcomeOf NotSupported = outcomeKind 4
-outcomeOf (NotServed why) = outcomeRefused (number_of why)
+abbrev pub outcome_of : RequestOutcome → COutcome
+outcome_of Queued = outcome_kind 0
+outcome_of (Ignored i) = outcome_kind (ignored_number i)
+outcome_of (Error e) = record { refusal = 0; kind = 3; reason = e.reason; seq = e.seq }
+outcome_of NotSupported = outcome_kind 4
+outcome_of (NotServed why) = outcome_refused (number_of why)
 
-abbrev pub eventRefused : ℕ → CEvent
-eventRefused n = record { refusal = n; kind = 0; reason = 0; seq = 0; first = 0; count = 0 }
+abbrev pub event_refused : ℕ → CEvent
+event_refused n = record { refusal = n; kind = 0; reason = 0; seq = 0; first = 0; count = 0 }
 
-abbrev pub eventOf : StreamEvent → CEvent
-eventOf NoEvent = eventRefused 0
-eventOf (DataLoss r) = record { refusal = 0; kind = 1; reason = 0; seq = 0; first = r.first; count = r.count }
-eventOf (ErrorLoss r e) = record { refusal = 0; kind = 2; reason = e.reason; seq = e.seq; first = r.first; count = r.count }
-eventOf (RetransmitError e) = record { refusal = 0; kind = 3; reason = e.reason; seq = e.seq; first = 0; count = 0 }
-eventOf (NotTold why) = eventRefused (number_of why)
+abbrev pub event_of : StreamEvent → CEvent
+event_of NoEvent = event_refused 0
+event_of (DataLoss r) = record { refusal = 0; kind = 1; reason = 0; seq = 0; first = r.first; count = r.count }
+event_of (ErrorLoss r e) = record { refusal = 0; kind = 2; reason = e.reason; seq = e.seq; first = r.first; count = r.count }
+event_of (RetransmitError e) = record { refusal = 0; kind = 3; reason = e.reason; seq = e.seq; first = 0; count = 0 }
+event_of (NotTold why) = event_refused (number_of why)
 
-abbrev pub requestRefused : ℕ → CRequest
-requestRefused n = record { refusal = n; kind = 0 }
+abbrev pub request_refused : ℕ → CRequest
+request_refused n = record { refusal = n; kind = 0 }
 
-abbrev pub requestOf : Request → CRequest
-requestOf NotDue = record { refusal = 0; kind = 0 }
-requestOf Asked = record { refusal = 0; kind = 1 }
-requestOf More = record { refusal = 0; kind = 2 }
-requestOf (NotAsked why) = requestRefused (number_of why)
+abbrev pub request_of : Request → CRequest
+request_of NotDue = record { refusal = 0; kind = 0 }
+request_of Asked = record { refusal = 0; kind = 1 }
+request_of More = record { refusal = 0; kind = 2 }
+request_of (NotAsked why) = request_refused (number_of why)
 
-abbrev pub deadlineRefused : ℕ → CDeadline
-deadlineRefused n = record { time = 0; refusal = n; kind = 0 }
+abbrev pub deadline_refused : ℕ → CDeadline
+deadline_refused n = record { time = 0; refusal = n; kind = 0 }
 
-abbrev pub deadlineOf : Deadline → CDeadline
-deadlineOf NoTime = record { time = 0; refusal = 0; kind = 0 }
-deadlineOf (At t) = record { time = t; refusal = 0; kind = 1 }
-deadlineOf (NotTimed why) = deadlineRefused (number_of why)
+abbrev pub deadline_of : Deadline → CDeadline
+deadline_of NoTime = record { time = 0; refusal = 0; kind = 0 }
+deadline_of (At t) = record { time = t; refusal = 0; kind = 1 }
+deadline_of (NotTimed why) = deadline_refused (number_of why)
 
-abbrev pub wantsRefused : ℕ → CWants
-wantsRefused n = record { refusal = n; wants = 0 }
+abbrev pub wants_refused : ℕ → CWants
+wants_refused n = record { refusal = n; wants = 0 }
 
-abbrev pub wantsOf : Answered → CWants
-wantsOf (Is b) = record { refusal = 0; wants = bit b }
-wantsOf (NotKnown why) = wantsRefused (number_of why)
+abbrev pub wants_of : Answered → CWants
+wants_of (Is b) = record { refusal = 0; wants = bit b }
+wants_of (NotKnown why) = wants_refused (number_of why)

@@ -7,12 +7,12 @@ use Rattle.c_answers.specs.Answers.{written_of}
 use Rattle.c_answers.specs.declared.answers.CWritten.{CWritten}
 use Rattle.c_answers.specs.declared.sending.CSentWritten.{CSentWritten}
 
-abbrev pub sentWrittenRefused : ℕ → CSentWritten
-sentWrittenRefused n = record { commands = 0; refusal = n; more = 0; queued = 0 }
+abbrev pub sent_written_refused : ℕ → CSentWritten
+sent_written_refused n = record { commands = 0; refusal = n; more = 0; queued = 0 }
 
-abbrev pub queuedWritten : CWritten → CSentWritten
-queuedWritten w = record { commands = w.commands; refusal = w.refusal; more = w.more; queued = 1 }
+abbrev pub queued_written : CWritten → CSentWritten
+queued_written w = record { commands = w.commands; refusal = w.refusal; more = w.more; queued = 1 }
 
-abbrev pub sentWrittenOf : SendAndWrite → CSentWritten
-sentWrittenOf (NotQueued why) = sentWrittenRefused (number_of why)
-sentWrittenOf (Queued w) = queuedWritten (written_of w)
+abbrev pub sent_written_of : SendAndWrite → CSentWritten
+sent_written_of (NotQueued why) = sent_written_refused (number_of why)
+sent_written_of (Queued w) = queued_written (written_of w)

@@ -1,7 +1,7 @@
 // Answers as numbers: each has 0, or the number of a refusal, in `refusal`; then every other field
 // is 0.
 ghost use Rattle.std.specs.Prelude.{◌≡◌};
-ghost use Rattle.c_answers.specs.Answers.{spanNumbers, classNumber, skippedIn, class_of, deliveryOf, deliveryRefused, writtenRefused, written_of, acceptanceOf, ignoredNumber, outcomeRefused, outcomeOf, eventRefused, eventOf, requestRefused, requestOf, deadlineRefused, deadlineOf, wantsRefused, wantsOf};
+ghost use Rattle.c_answers.specs.Answers.{span_numbers, class_number, skipped_in, class_of, delivery_of, delivery_refused, written_refused, written_of, acceptance_of, ignored_number, outcome_refused, outcome_of, event_refused, event_of, request_refused, request_of, deadline_refused, deadline_of, wants_refused, wants_of};
 
 use config::answer::{Answered, Deadline};
 use history::queue::Ignored;
@@ -87,7 +87,7 @@ pub struct Numbers {
 }
 
 fn of_ignored(a: Ignored) -> u8
-    ensures { result ≡ ignoredNumber a }
+    ensures { result ≡ ignored_number a }
 {
     match a {
         Ignored::Pending => 1,
@@ -96,7 +96,7 @@ fn of_ignored(a: Ignored) -> u8
 }
 
 pub fn refused_outcome(n: u8) -> COutcome
-    ensures { result ≡ outcomeRefused n }
+    ensures { result ≡ outcome_refused n }
 {
     COutcome {
         refusal: n,
@@ -107,7 +107,7 @@ pub fn refused_outcome(n: u8) -> COutcome
 }
 
 pub fn of_outcome(a: RequestOutcome) -> COutcome
-    ensures { result ≡ outcomeOf a }
+    ensures { result ≡ outcome_of a }
 {
     match a {
         RequestOutcome::Queued => refused_outcome(0),
@@ -134,7 +134,7 @@ pub fn of_outcome(a: RequestOutcome) -> COutcome
 }
 
 pub fn of_span(a: Span) -> Numbers
-    ensures { result ≡ spanNumbers a }
+    ensures { result ≡ span_numbers a }
 {
     match a {
         Span::Nothing => Numbers { first: 0, count: 0 },
@@ -146,7 +146,7 @@ pub fn of_span(a: Span) -> Numbers
 }
 
 pub fn refused_delivery(n: u8) -> CDelivery
-    ensures { result ≡ deliveryRefused n }
+    ensures { result ≡ delivery_refused n }
 {
     CDelivery {
         refusal: n,
@@ -160,7 +160,7 @@ pub fn refused_delivery(n: u8) -> CDelivery
 }
 
 fn class_number(c: Class) -> u8
-    ensures { result ≡ classNumber c }
+    ensures { result ≡ class_number c }
 {
     match c {
         Class::New(n) => 0,
@@ -170,7 +170,7 @@ fn class_number(c: Class) -> u8
 }
 
 fn skipped(c: Class) -> u16
-    ensures { result ≡ skippedIn c }
+    ensures { result ≡ skipped_in c }
 {
     match c {
         Class::New(n) => n,
@@ -196,7 +196,7 @@ pub fn of_class(class: Class, gap: Span, lost: Span) -> CDelivery
 }
 
 pub fn of_hearing(a: Hearing) -> CDelivery
-    ensures { result ≡ deliveryOf a }
+    ensures { result ≡ delivery_of a }
 {
     match a {
         Hearing::Delivery(d) => {
@@ -210,7 +210,7 @@ pub fn of_hearing(a: Hearing) -> CDelivery
 }
 
 pub fn refused_event(n: u8) -> CEvent
-    ensures { result ≡ eventRefused n }
+    ensures { result ≡ event_refused n }
 {
     CEvent {
         refusal: n,
@@ -223,7 +223,7 @@ pub fn refused_event(n: u8) -> CEvent
 }
 
 pub fn of_event(a: StreamEvent) -> CEvent
-    ensures { result ≡ eventOf a }
+    ensures { result ≡ event_of a }
 {
     match a {
         StreamEvent::Nothing => refused_event(0),
@@ -256,7 +256,7 @@ pub fn of_event(a: StreamEvent) -> CEvent
 }
 
 pub fn refused_request(n: u8) -> CRequest
-    ensures { result ≡ requestRefused n }
+    ensures { result ≡ request_refused n }
 {
     CRequest {
         refusal: n,
@@ -265,7 +265,7 @@ pub fn refused_request(n: u8) -> CRequest
 }
 
 pub fn of_request(a: Request) -> CRequest
-    ensures { result ≡ requestOf a }
+    ensures { result ≡ request_of a }
 {
     match a {
         Request::Nothing => CRequest {
@@ -285,7 +285,7 @@ pub fn of_request(a: Request) -> CRequest
 }
 
 pub fn refused_deadline(n: u8) -> CDeadline
-    ensures { result ≡ deadlineRefused n }
+    ensures { result ≡ deadline_refused n }
 {
     CDeadline {
         time: 0,
@@ -295,7 +295,7 @@ pub fn refused_deadline(n: u8) -> CDeadline
 }
 
 pub fn of_deadline(a: Deadline) -> CDeadline
-    ensures { result ≡ deadlineOf a }
+    ensures { result ≡ deadline_of a }
 {
     match a {
         Deadline::Nothing => CDeadline {
@@ -313,7 +313,7 @@ pub fn of_deadline(a: Deadline) -> CDeadline
 }
 
 pub fn refused_wants(n: u8) -> CWants
-    ensures { result ≡ wantsRefused n }
+    ensures { result ≡ wants_refused n }
 {
     CWants {
         refusal: n,
@@ -322,7 +322,7 @@ pub fn refused_wants(n: u8) -> CWants
 }
 
 pub fn of_wants(a: Answered) -> CWants
-    ensures { result ≡ wantsOf a }
+    ensures { result ≡ wants_of a }
 {
     match a {
         Answered::Is(b) => CWants {
@@ -334,7 +334,7 @@ pub fn of_wants(a: Answered) -> CWants
 }
 
 pub fn refused_written(n: u8) -> CWritten
-    ensures { result ≡ writtenRefused n }
+    ensures { result ≡ written_refused n }
 {
     CWritten {
         commands: 0,
@@ -357,7 +357,7 @@ pub fn of_writing(a: Writing) -> CWritten
 }
 
 pub fn of_acceptance(a: Acceptance) -> CDelivery
-    ensures { result ≡ acceptanceOf a }
+    ensures { result ≡ acceptance_of a }
 {
     match a {
         Acceptance::Heard { class, lost } => of_class(class, Span::Nothing, lost),

@@ -1,6 +1,6 @@
 // Queueing and writing in one call, as numbers.
 ghost use Rattle.std.specs.Prelude.{◌≡◌};
-ghost use Rattle.c_answers.specs.Sending.{sentWrittenRefused, sentWrittenOf};
+ghost use Rattle.c_answers.specs.Sending.{sent_written_refused, sent_written_of};
 
 use super::answers;
 use stream::sending::SendAndWrite;
@@ -17,7 +17,7 @@ pub struct CSentWritten {
 }
 
 pub fn refused_sent_written(n: u8) -> CSentWritten
-    ensures { result ≡ sentWrittenRefused n }
+    ensures { result ≡ sent_written_refused n }
 {
     CSentWritten {
         commands: 0,
@@ -28,7 +28,7 @@ pub fn refused_sent_written(n: u8) -> CSentWritten
 }
 
 pub fn of_send_and_write(a: SendAndWrite) -> CSentWritten
-    ensures { result ≡ sentWrittenOf a }
+    ensures { result ≡ sent_written_of a }
 {
     match a {
         SendAndWrite::NotQueued(why) => refused_sent_written(why.number()),

@@ -2,21 +2,21 @@
 use Rattle.std.specs.Prelude.{◌≡◌, ℕ, List}
 use Rattle.packet.specs.Layout.{packet}
 use Rattle.packet.specs.Write.{written_of}
-use Rattle.command.specs.Write.{dataWritten, requestPacket, errorWritten}
-use Rattle.read_command.specs.Next.{readAt}
-use Rattle.c_codec.specs.Exports.{openExport, commandExport}
+use Rattle.command.specs.Write.{data_written, request_packet, error_written}
+use Rattle.read_command.specs.Next.{read_at}
+use Rattle.c_codec.specs.Exports.{open_export, command_export}
 
 pub record RefusedKeeps : Type 0 where
   -- a payload's words and bytes
-  pub payload-new : (p : List ℕ) (max : ℕ) → let e = openExport p max in (e.0 ≡ 0 → ⊥) → e.1 ≡ p
-  pub raw-write : (p b : List ℕ) (code csd1 csd2 : ℕ) (ws : List ℕ) → let e = commandExport (λ w. written_of w b (packet code csd1 csd2 ws)) p b in
+  pub payload_new : (p : List ℕ) (max : ℕ) → let e = open_export p max in (e.0 ≡ 0 → ⊥) → e.1 ≡ p
+  pub raw_write : (p b : List ℕ) (code csd1 csd2 : ℕ) (ws : List ℕ) → let e = command_export (λ w. written_of w b (packet code csd1 csd2 ws)) p b in
       (e.0 ≡ 0 → ⊥) → (e.1 ≡ p) × (e.2 ≡ b)
-  pub data-write : (p b : List ℕ) (seq : ℕ) (ws : List ℕ) → let e = commandExport (λ w. dataWritten w b seq ws) p b in
+  pub data_write : (p b : List ℕ) (seq : ℕ) (ws : List ℕ) → let e = command_export (λ w. data_written w b seq ws) p b in
       (e.0 ≡ 0 → ⊥) → (e.1 ≡ p) × (e.2 ≡ b)
-  pub request-write : (p b : List ℕ) (seq count : ℕ) → let e = commandExport (λ w. written_of w b (requestPacket record { seq = seq; count = count })) p b in
+  pub request_write : (p b : List ℕ) (seq count : ℕ) → let e = command_export (λ w. written_of w b (request_packet record { seq = seq; count = count })) p b in
       (e.0 ≡ 0 → ⊥) → (e.1 ≡ p) × (e.2 ≡ b)
-  pub error-write : (p b : List ℕ) (reason seq : ℕ) → let e = commandExport (λ w. errorWritten record { reason = reason; seq = seq } w b) p b in
+  pub error_write : (p b : List ℕ) (reason seq : ℕ) → let e = command_export (λ w. error_written record { reason = reason; seq = seq } w b) p b in
       (e.0 ≡ 0 → ⊥) → (e.1 ≡ p) × (e.2 ≡ b)
   -- the arrays of a read
-  pub command-next : (b : List ℕ) (at : ℕ) (words lens : List ℕ) → let e = readAt b at words lens in
+  pub command_next : (b : List ℕ) (at : ℕ) (words lens : List ℕ) → let e = read_at b at words lens in
       (e.0.refusal ≡ 0 → ⊥) → (e.1 ≡ words) × (e.2 ≡ lens)

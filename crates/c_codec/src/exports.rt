@@ -3,9 +3,9 @@
 ghost use Rattle.std.specs.Prelude.{◌≡◌};
 ghost use Rattle.packet.specs.Write.{written_of};
 ghost use Rattle.packet.specs.Layout.{packet};
-ghost use Rattle.read_command.specs.Next.{readAt};
-ghost use Rattle.command.specs.Write.{dataWritten, requestPacket, errorWritten};
-ghost use Rattle.c_codec.specs.Exports.{openExport, commandExport};
+ghost use Rattle.read_command.specs.Next.{read_at};
+ghost use Rattle.command.specs.Write.{data_written, request_packet, error_written};
+ghost use Rattle.c_codec.specs.Exports.{open_export, command_export};
 
 use c_words::{guard, payload};
 use command::data::UmpData;
@@ -17,7 +17,7 @@ use read_command::next::Read;
 // An empty payload; 4 when the limit is not 8 to 1,400 bytes.
 #[unsafe(no_mangle)]
 pub extern "C" fn sirmjold_payload_new(p: &mut [u64], max: usize) -> u8
-    ensures { (result, p.new) ≡ openExport p.old max }
+    ensures { (result, p.new) ≡ open_export p.old max }
 {
     if p.len() == 2 {
         match PayloadWriter::new(max) {
@@ -43,7 +43,7 @@ pub extern "C" fn sirmjold_payload_command(
     csd2: u8,
     words: &[u32],
 ) -> u8
-    ensures { (result, p.new, buf.new) ≡ commandExport (λ w. written_of w buf.old (packet code csd1 csd2 words.now)) p.old buf.old }
+    ensures { (result, p.new, buf.new) ≡ command_export (λ w. written_of w buf.old (packet code csd1 csd2 words.now)) p.old buf.old }
 {
     if p.len() == 2 {
         let before = payload::load(&p[..]);
@@ -64,7 +64,7 @@ pub extern "C" fn sirmjold_ump_data_write(
     seq: u16,
     words: &[u32],
 ) -> u8
-    ensures { (result, p.new, buf.new) ≡ commandExport (λ w. dataWritten w buf.old seq words.now) p.old buf.old }
+    ensures { (result, p.new, buf.new) ≡ command_export (λ w. data_written w buf.old seq words.now) p.old buf.old }
 {
     if p.len() == 2 {
         let done = UmpData::write(payload::load(&p[..]), buf, seq, words);
@@ -84,7 +84,7 @@ pub extern "C" fn sirmjold_retransmit_request_write(
     seq: u16,
     count: u16,
 ) -> u8
-    ensures { (result, p.new, buf.new) ≡ commandExport (λ w. written_of w buf.old (requestPacket record { seq = seq; count = count })) p.old buf.old }
+    ensures { (result, p.new, buf.new) ≡ command_export (λ w. written_of w buf.old (request_packet record { seq = seq; count = count })) p.old buf.old }
 {
     if p.len() == 2 {
         let req = RetransmitRequest { seq, count };
@@ -105,7 +105,7 @@ pub extern "C" fn sirmjold_retransmit_error_write(
     reason: u8,
     seq: u16,
 ) -> u8
-    ensures { (result, p.new, buf.new) ≡ commandExport (λ w. errorWritten record { reason = reason; seq = seq } w buf.old) p.old buf.old }
+    ensures { (result, p.new, buf.new) ≡ command_export (λ w. error_written record { reason = reason; seq = seq } w buf.old) p.old buf.old }
 {
     if p.len() == 2 {
         let err = RetransmitError { reason, seq };
@@ -127,7 +127,7 @@ pub extern "C" fn sirmjold_command_next(
     words: &mut [u32],
     lens: &mut [u8],
 ) -> Read
-    ensures { (result, words.new, lens.new) ≡ readAt payload.now at words.old lens.old }
+    ensures { (result, words.new, lens.new) ≡ read_at payload.now at words.old lens.old }
 {
     next::next(payload, at, words, lens)
 }

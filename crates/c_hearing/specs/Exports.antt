@@ -5,22 +5,22 @@ use Rattle.config.specs.Refusals.{number_of}
 use Rattle.config.specs.declared.refusal.Refusal.TheVariants.{BadSignature}
 use Rattle.packet.specs.Read.{signed}
 use Rattle.read_command.specs.Next.{first_of}
-use Rattle.c_words.specs.Entry.{wordsEntry}
-use Rattle.c_words.specs.Settings.{settingsCheck, settingsOf}
+use Rattle.c_words.specs.Entry.{words_entry}
+use Rattle.c_words.specs.Settings.{settings_check, settings_of}
 use Rattle.c_state.specs.Stream.{fits}
-use Rattle.c_hearing.specs.Walk.{hearFrom}
+use Rattle.c_hearing.specs.Walk.{hear_from}
 use Rattle.c_hearing.specs.declared.walk.CHeard.{CHeard}
 
-abbrev pub heardRefused : ℕ → CHeard
-heardRefused n = record { next = 0; count = 0; refusal = n }
+abbrev pub heard_refused : ℕ → CHeard
+heard_refused n = record { next = 0; count = 0; refusal = n }
 
 -- 0 stands for the first command's place: there the payload is opened, and refused without its signature
-unfoldable pub openedAt : {A : Type 0} → List ℕ → ℕ → (ℕ → A) → A → A
-openedAt b at refused hear = cond (not (eqb at 0) || signed b) hear (refused (number_of BadSignature))
+unfoldable pub opened_at : {A : Type 0} → List ℕ → ℕ → (ℕ → A) → A → A
+opened_at b at refused hear = cond (not (eqb at 0) || signed b) hear (refused (number_of BadSignature))
 
 -- a command has four bytes or more: there are no more than a quarter of the payload's bytes
-unfoldable pub hearExport : List ℕ → List ℕ → ℕ → List ℕ → List ℕ → ℕ → List ℕ → CHeard × List ℕ × List ℕ
-hearExport st cfg time ring b at out =
-    let refused : ℕ → CHeard × List ℕ × List ℕ = λ n. (heardRefused n, st, out) in
-    wordsEntry (settingsCheck cfg) (fits st) refused
-    (openedAt b at refused (hearFrom (length b / 4) (settingsOf cfg) time ring b (first_of at) 0 st out))
+unfoldable pub hear_export : List ℕ → List ℕ → ℕ → List ℕ → List ℕ → ℕ → List ℕ → CHeard × List ℕ × List ℕ
+hear_export st cfg time ring b at out =
+    let refused : ℕ → CHeard × List ℕ × List ℕ = λ n. (heard_refused n, st, out) in
+    words_entry (settings_check cfg) (fits st) refused
+    (opened_at b at refused (hear_from (length b / 4) (settings_of cfg) time ring b (first_of at) 0 st out))

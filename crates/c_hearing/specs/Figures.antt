@@ -8,27 +8,27 @@ use Rattle.c_state.specs.Pack.{word, pair}
 use Rattle.c_hearing.specs.declared.figures.Figures.{Figures}
 
 -- kind, code | words | number | count
-abbrev pub readWord : Read → ℕ
-readWord r = word (pair r.kind r.code) r.len r.seq r.count
+abbrev pub read_word : Read → ℕ
+read_word r = word (pair r.kind r.code) r.len r.seq r.count
 
 abbrev figures : ℕ → ℕ → Figures
 figures first second = record { first = first; second = second }
 
 -- a refusal's number, or 0, alone
-abbrev pub numberFigures : ℕ → Figures
-numberFigures n = figures n 0
+abbrev pub number_figures : ℕ → Figures
+number_figures n = figures n 0
 
 -- refusal, class | skipped | first and count of the gap, then those of the loss
-abbrev pub deliveryFigures : CDelivery → Figures
-deliveryFigures d =
+abbrev pub delivery_figures : CDelivery → Figures
+delivery_figures d =
     figures
     (word (pair d.refusal d.class) d.skipped d.gap_first d.gap_count)
     (word d.lost_first d.lost_count 0 0)
 
 -- refusal, kind | reason | number
-abbrev pub outcomeFigures : COutcome → Figures
-outcomeFigures o = figures (word (pair o.refusal o.kind) o.reason o.seq 0) 0
+abbrev pub outcome_figures : COutcome → Figures
+outcome_figures o = figures (word (pair o.refusal o.kind) o.reason o.seq 0) 0
 
 -- refusal, kind | reason | number, then first and count of the loss
-abbrev pub eventFigures : CEvent → Figures
-eventFigures e = figures (word (pair e.refusal e.kind) e.reason e.seq 0) (word e.first e.count 0 0)
+abbrev pub event_figures : CEvent → Figures
+event_figures e = figures (word (pair e.refusal e.kind) e.reason e.seq 0) (word e.first e.count 0 0)

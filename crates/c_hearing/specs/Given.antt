@@ -6,31 +6,31 @@ use Rattle.command.specs.declared.parse.Command.{Command}
 use Rattle.command.specs.declared.parse.Command.TheVariants.{UmpData, RetransmitRequest, RetransmitError, Raw, Refused}
 use Rattle.command.specs.declared.retransmit.RetransmitRequest.{RetransmitRequest as Request}
 use Rattle.command.specs.declared.retransmit.RetransmitError.{RetransmitError as Error}
-use Rattle.stream.specs.Ends.{dataAnswer, requestAnswer, errorAnswer}
-use Rattle.c_answers.specs.Answers.{deliveryOf, outcomeOf, eventOf}
-use Rattle.c_state.specs.Stream.{loaded, withReceiver, withSender}
-use Rattle.c_hearing.specs.Figures.{numberFigures, deliveryFigures, outcomeFigures, eventFigures}
+use Rattle.stream.specs.Ends.{data_answer, request_answer, error_answer}
+use Rattle.c_answers.specs.Answers.{delivery_of, outcome_of, event_of}
+use Rattle.c_state.specs.Stream.{loaded, with_receiver, with_sender}
+use Rattle.c_hearing.specs.Figures.{number_figures, delivery_figures, outcome_figures, event_figures}
 use Rattle.c_hearing.specs.declared.figures.Figures.{Figures}
 
-unfoldable pub dataGiven : List ℕ → StreamConfig → ℕ → ℕ → Figures × List ℕ
-dataGiven st cfg time seq =
-    let e = dataAnswer (loaded st) cfg time seq in
-    (deliveryFigures (deliveryOf e.answer), withReceiver st e.stream.receiver)
+unfoldable pub data_given : List ℕ → StreamConfig → ℕ → ℕ → Figures × List ℕ
+data_given st cfg time seq =
+    let e = data_answer (loaded st) cfg time seq in
+    (delivery_figures (delivery_of e.answer), with_receiver st e.stream.receiver)
 
-unfoldable pub requestGiven : List ℕ → StreamConfig → List ℕ → Request → Figures × List ℕ
-requestGiven st cfg ring r =
-    let e = requestAnswer (loaded st) cfg ring r in
-    (outcomeFigures (outcomeOf e.outcome), withSender st e.stream.sender)
+unfoldable pub request_given : List ℕ → StreamConfig → List ℕ → Request → Figures × List ℕ
+request_given st cfg ring r =
+    let e = request_answer (loaded st) cfg ring r in
+    (outcome_figures (outcome_of e.outcome), with_sender st e.stream.sender)
 
-unfoldable pub errorGiven : List ℕ → Error → Figures × List ℕ
-errorGiven st err =
-    let e = errorAnswer (loaded st) err in
-    (eventFigures (eventOf e.event), withReceiver st e.stream.receiver)
+unfoldable pub error_given : List ℕ → Error → Figures × List ℕ
+error_given st err =
+    let e = error_answer (loaded st) err in
+    (event_figures (event_of e.event), with_receiver st e.stream.receiver)
 
 -- no call takes a command of another code, nor one that is refused as it is read
 abbrev pub given_of : List ℕ → StreamConfig → ℕ → List ℕ → Command → Figures × List ℕ
-given_of st cfg time ring (UmpData d) = dataGiven st cfg time d.seq
-given_of st cfg time ring (RetransmitRequest r) = requestGiven st cfg ring r
-given_of st cfg time ring (RetransmitError e) = errorGiven st e
-given_of st cfg time ring (Raw h) = (numberFigures 0, st)
-given_of st cfg time ring (Refused why) = (numberFigures (number_of why), st)
+given_of st cfg time ring (UmpData d) = data_given st cfg time d.seq
+given_of st cfg time ring (RetransmitRequest r) = request_given st cfg ring r
+given_of st cfg time ring (RetransmitError e) = error_given st e
+given_of st cfg time ring (Raw h) = (number_figures 0, st)
+given_of st cfg time ring (Refused why) = (number_figures (number_of why), st)

@@ -1,7 +1,7 @@
 // Hearing a payload in one call. As in the other calls, settings and words are tested first; then 1 for a
 // payload that does not begin with the signature. A refused call changes nothing.
 ghost use Rattle.std.specs.Prelude.{◌≡◌};
-ghost use Rattle.c_hearing.specs.Exports.{heardRefused, hearExport};
+ghost use Rattle.c_hearing.specs.Exports.{heard_refused, hear_export};
 
 use super::walk;
 use super::walk::CHeard;
@@ -13,7 +13,7 @@ use read_command::next;
 const BAD_SIGNATURE: u8 = 1;
 
 fn refused(n: u8) -> CHeard
-    ensures { result ≡ heardRefused n }
+    ensures { result ≡ heard_refused n }
 {
     CHeard {
         next: 0,
@@ -33,7 +33,7 @@ pub extern "C" fn sirmjold_stream_hear(
     at: usize,
     heard: &mut [u64],
 ) -> CHeard
-    ensures { (result, s.new, heard.new) ≡ hearExport s.old cfg.now time ring.now payload.now at heard.old }
+    ensures { (result, s.new, heard.new) ≡ hear_export s.old cfg.now time ring.now payload.now at heard.old }
 {
     let number = settings::number(cfg);
     if number == 0 {

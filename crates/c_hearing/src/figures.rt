@@ -9,8 +9,8 @@
 //                first and count of the loss
 ghost use Rattle.std.specs.Prelude.{◌≡◌};
 ghost use Rattle.c_state.specs.Pack.{word as word_of, pair as pair_of};
-ghost use Rattle.read_command.specs.Next.{commandRead};
-ghost use Rattle.c_hearing.specs.Figures.{readWord, numberFigures, deliveryFigures, outcomeFigures, eventFigures};
+ghost use Rattle.read_command.specs.Next.{command_read};
+ghost use Rattle.c_hearing.specs.Figures.{read_word, number_figures, delivery_figures, outcome_figures, event_figures};
 
 use c_answers::answers::{CDelivery, CEvent, COutcome};
 use c_state::pack;
@@ -32,7 +32,7 @@ pub fn read(kind: u8, code: u8, len: u8, seq: u16, count: u16) -> u64
 
 // A command of `len` words.
 pub fn of_command(len: u8, command: Command) -> u64
-    ensures { result ≡ readWord (commandRead len 0 0 command) }
+    ensures { result ≡ read_word (command_read len 0 0 command) }
 {
     match command {
         Command::UmpData(d) => read(3, 0, len, d.seq, 0),
@@ -45,7 +45,7 @@ pub fn of_command(len: u8, command: Command) -> u64
 
 // The answer to a command that no call takes: 0, or the number by which it is refused.
 pub fn of_number(n: u8) -> Figures
-    ensures { result ≡ numberFigures n }
+    ensures { result ≡ number_figures n }
 {
     Figures {
         first: n as u64,
@@ -54,7 +54,7 @@ pub fn of_number(n: u8) -> Figures
 }
 
 pub fn of_delivery(d: CDelivery) -> Figures
-    ensures { result ≡ deliveryFigures d }
+    ensures { result ≡ delivery_figures d }
 {
     Figures {
         first: pack::word(
@@ -68,7 +68,7 @@ pub fn of_delivery(d: CDelivery) -> Figures
 }
 
 pub fn of_outcome(o: COutcome) -> Figures
-    ensures { result ≡ outcomeFigures o }
+    ensures { result ≡ outcome_figures o }
 {
     Figures {
         first: pack::word(pack::pair(o.refusal, o.kind), o.reason as u16, o.seq, 0),
@@ -77,7 +77,7 @@ pub fn of_outcome(o: COutcome) -> Figures
 }
 
 pub fn of_event(e: CEvent) -> Figures
-    ensures { result ≡ eventFigures e }
+    ensures { result ≡ event_figures e }
 {
     Figures {
         first: pack::word(pack::pair(e.refusal, e.kind), e.reason as u16, e.seq, 0),

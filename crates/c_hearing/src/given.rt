@@ -1,9 +1,9 @@
 // A command is given to its end. The words of a stream that was tested stay those of a stream.
 ghost use Rattle.std.specs.Prelude.{◌≡◌, true};
-ghost use Rattle.config.specs.Settings.{checkOf};
+ghost use Rattle.config.specs.Settings.{check_of};
 ghost use Rattle.config.specs.declared.answer.Outcome.TheVariants.{Done};
 ghost use Rattle.c_state.specs.Stream.{fits};
-ghost use Rattle.c_hearing.specs.Given.{dataGiven, requestGiven, errorGiven, given_of};
+ghost use Rattle.c_hearing.specs.Given.{data_given, request_given, error_given, given_of};
 
 use super::figures;
 use super::figures::Figures;
@@ -16,8 +16,8 @@ use config::settings::StreamConfig;
 
 // A data command.
 fn data(cfg: StreamConfig, time: u64, seq: SeqNum, s: &mut [u64]) -> Figures
-    requires { (fits s.old ≡ true) × (checkOf cfg ≡ Done) }
-    ensures { ((result, s.new) ≡ dataGiven s.old cfg time seq) × (fits s.new ≡ true) }
+    requires { (fits s.old ≡ true) × (check_of cfg ≡ Done) }
+    ensures { ((result, s.new) ≡ data_given s.old cfg time seq) × (fits s.new ≡ true) }
 {
     figures::of_delivery(answers::of_hearing(receiving::hear(cfg, time, seq, s)))
 }
@@ -25,7 +25,7 @@ fn data(cfg: StreamConfig, time: u64, seq: SeqNum, s: &mut [u64]) -> Figures
 // A Retransmit Request.
 fn request(cfg: StreamConfig, ring: &[u32], r: RetransmitRequest, s: &mut [u64]) -> Figures
     requires { fits s.old ≡ true }
-    ensures { ((result, s.new) ≡ requestGiven s.old cfg ring.now r) × (fits s.new ≡ true) }
+    ensures { ((result, s.new) ≡ request_given s.old cfg ring.now r) × (fits s.new ≡ true) }
 {
     let before = state::sender_in(&s[..]);
     let done = before.on_retransmit_request(cfg, ring, r);
@@ -38,7 +38,7 @@ fn request(cfg: StreamConfig, ring: &[u32], r: RetransmitRequest, s: &mut [u64])
 // A Retransmit Error.
 fn error(e: RetransmitError, s: &mut [u64]) -> Figures
     requires { fits s.old ≡ true }
-    ensures { ((result, s.new) ≡ errorGiven s.old e) × (fits s.new ≡ true) }
+    ensures { ((result, s.new) ≡ error_given s.old e) × (fits s.new ≡ true) }
 {
     let before = state::receiver_in(&s[..]);
     let done = before.on_retransmit_error(e);
@@ -50,7 +50,7 @@ fn error(e: RetransmitError, s: &mut [u64]) -> Figures
 
 // Any command.
 pub fn give(cfg: StreamConfig, time: u64, ring: &[u32], command: Command, s: &mut [u64]) -> Figures
-    requires { (fits s.old ≡ true) × (checkOf cfg ≡ Done) }
+    requires { (fits s.old ≡ true) × (check_of cfg ≡ Done) }
     ensures { ((result, s.new) ≡ given_of s.old cfg time ring.now command) × (fits s.new ≡ true) }
 {
     match command {

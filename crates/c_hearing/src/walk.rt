@@ -1,12 +1,12 @@
 // The commands of a payload, one after the other. Each has four words in `heard`: its place, the command
 // as it was read, and what was answered.
 ghost use Rattle.std.specs.Prelude.{◌≡◌, true, [], ◌∷◌, ◌+◌, ◌*◌, ◌/◌, ◌≤◌, length};
-ghost use Rattle.config.specs.Settings.{checkOf};
+ghost use Rattle.config.specs.Settings.{check_of};
 ghost use Rattle.config.specs.declared.answer.Outcome.TheVariants.{Done};
 ghost use Rattle.packet.specs.Bytes.{words_of, spliced};
 ghost use Rattle.packet.specs.Read.{next_of};
 ghost use Rattle.c_state.specs.Stream.{fits};
-ghost use Rattle.c_hearing.specs.Walk.{answered, cutTurn, wholeTurn, turnAt, hearFrom};
+ghost use Rattle.c_hearing.specs.Walk.{answered, cut_turn, whole_turn, turn_at, hear_from};
 
 use super::figures::Figures;
 use super::{figures, given};
@@ -48,7 +48,7 @@ fn put(at: usize, read: u64, f: Figures, count: usize, heard: &mut [u64])
 
 // A command that is cut: it has an answer, and ends the payload.
 fn cut(header: Header, at: usize, count: usize, heard: &mut [u64]) -> Turn
-    ensures { (result, heard.new) ≡ cutTurn header at count heard.old }
+    ensures { (result, heard.new) ≡ cut_turn header at count heard.old }
 {
     if heard.len() / ANSWER <= count {
         return Turn {
@@ -79,8 +79,8 @@ fn whole(
     s: &mut [u64],
     heard: &mut [u64],
 ) -> Turn
-    requires { (fits s.old ≡ true) × (checkOf cfg ≡ Done) }
-    ensures { ((result, s.new, heard.new) ≡ wholeTurn cfg time ring.now header at next (words_of body.now) count s.old heard.old) × (fits s.new ≡ true) }
+    requires { (fits s.old ≡ true) × (check_of cfg ≡ Done) }
+    ensures { ((result, s.new, heard.new) ≡ whole_turn cfg time ring.now header at next (words_of body.now) count s.old heard.old) × (fits s.new ≡ true) }
 {
     if heard.len() / ANSWER <= count {
         return Turn {
@@ -116,8 +116,8 @@ fn hear_at(
     s: &mut [u64],
     heard: &mut [u64],
 ) -> Turn
-    requires { (fits s.old ≡ true) × (checkOf cfg ≡ Done) }
-    ensures { ((result, s.new, heard.new) ≡ turnAt (next_of payload.now at) cfg time ring.now payload.now at count s.old heard.old) × (fits s.new ≡ true) }
+    requires { (fits s.old ≡ true) × (check_of cfg ≡ Done) }
+    ensures { ((result, s.new, heard.new) ≡ turn_at (next_of payload.now at) cfg time ring.now payload.now at count s.old heard.old) × (fits s.new ≡ true) }
 {
     let cursor = Cursor { at };
     match cursor.next(payload) {
@@ -156,8 +156,8 @@ pub fn hear(
     s: &mut [u64],
     heard: &mut [u64],
 ) -> CHeard
-    requires { (fits s.old ≡ true) × (checkOf cfg ≡ Done) }
-    ensures { (result, s.new, heard.new) ≡ hearFrom (length payload.now / 4) cfg time ring.now payload.now from 0 s.old heard.old }
+    requires { (fits s.old ≡ true) × (check_of cfg ≡ Done) }
+    ensures { (result, s.new, heard.new) ≡ hear_from (length payload.now / 4) cfg time ring.now payload.now from 0 s.old heard.old }
 {
     let mut at = from;
     let mut count = 0;

@@ -16,57 +16,57 @@ use Rattle.held_notes.specs.Calls.{delivered, told}
 use Rattle.held_notes.specs.Answers.{answer_of}
 use Rattle.held_notes.specs.declared.held.HeldNotes.{HeldNotes}
 use Rattle.held_notes.specs.declared.held.Given.{Given as Left}
-use Rattle.c_held_notes.specs.Numbers.{class_of, span_of, hearingOf, eventOf, given_of}
+use Rattle.c_held_notes.specs.Numbers.{class_of, span_of, hearing_of, event_of, given_of}
 use Rattle.c_held_notes.specs.declared.exports.CGiven.{CGiven}
 
 module _ (n : ℕ) where
-  pub class-new : n ≡ 0 → New 0 ≡ class_of n
+  pub class_new : n ≡ 0 → New 0 ≡ class_of n
   unfolding class_of
-  class-new a = rw (eq-eqb n 0 a)
+  class_new a = rw (eq_eqb n 0 a)
 
-  pub class-late : (n ≡ 0 → ⊥) → n ≡ 1 → Late ≡ class_of n
+  pub class_late : (n ≡ 0 → ⊥) → n ≡ 1 → Late ≡ class_of n
   unfolding class_of
-  class-late a b = rw (ne_eqb n 0 a, eq-eqb n 1 b)
+  class_late a b = rw (ne_eqb n 0 a, eq_eqb n 1 b)
 
-  pub class-other : (n ≡ 0 → ⊥) → (n ≡ 1 → ⊥) → Duplicate ≡ class_of n
+  pub class_other : (n ≡ 0 → ⊥) → (n ≡ 1 → ⊥) → Duplicate ≡ class_of n
   unfolding class_of
-  class-other a b = rw (ne_eqb n 0 a, ne_eqb n 1 b)
+  class_other a b = rw (ne_eqb n 0 a, ne_eqb n 1 b)
 
   pub span_none : n ≡ 0 → Nothing ≡ span_of n
   unfolding span_of
-  span_none a = rw (eq-eqb n 0 a)
+  span_none a = rw (eq_eqb n 0 a)
 
-  pub span-some : (n ≡ 0 → ⊥) → Of record { first = 0; count = n } ≡ span_of n
+  pub span_some : (n ≡ 0 → ⊥) → Of record { first = 0; count = n } ≡ span_of n
   unfolding span_of
-  span-some a = rw (ne_eqb n 0 a)
+  span_some a = rw (ne_eqb n 0 a)
 
-  pub event-loss : n ≡ 1 → DataLoss record { first = 0; count = 1 } ≡ eventOf n
-  unfolding eventOf
-  event-loss a = rw (eq-eqb n 1 a)
+  pub event_loss_lem : n ≡ 1 → DataLoss record { first = 0; count = 1 } ≡ event_of n
+  unfolding event_of
+  event_loss_lem a = rw (eq_eqb n 1 a)
 
-  pub event-error-loss : (n ≡ 1 → ⊥) → n ≡ 2 → DataLoss record { first = 0; count = 1 } ≡ eventOf n
-  unfolding eventOf
-  event-error-loss a b = rw (ne_eqb n 1 a, eq-eqb n 2 b)
+  pub event_error_loss : (n ≡ 1 → ⊥) → n ≡ 2 → DataLoss record { first = 0; count = 1 } ≡ event_of n
+  unfolding event_of
+  event_error_loss a b = rw (ne_eqb n 1 a, eq_eqb n 2 b)
 
-  pub event-none : (n ≡ 1 → ⊥) → (n ≡ 2 → ⊥) → NoEvent ≡ eventOf n
-  unfolding eventOf
-  event-none a b = rw (ne_eqb n 1 a, ne_eqb n 2 b)
+  pub event_none : (n ≡ 1 → ⊥) → (n ≡ 2 → ⊥) → NoEvent ≡ event_of n
+  unfolding event_of
+  event_none a b = rw (ne_eqb n 1 a, ne_eqb n 2 b)
 
 module _ (refusal class count : ℕ) where
-  pub hearing-done : refusal ≡ 0 → (c : Class) (l : Span) → c ≡ class_of class → l ≡ span_of count
-      → Delivered record { seq = 0; class = c; gap = Nothing; lost = l } ≡ hearingOf refusal class count
-  unfolding hearingOf
-  hearing-done a c l e f = rw (eq-eqb refusal 0 a) (ap₂ (λ (x : Class) (y : Span). Delivered record { seq = 0; class = x; gap = Nothing; lost = y }) e f)
+  pub hearing_done : refusal ≡ 0 → (c : Class) (l : Span) → c ≡ class_of class → l ≡ span_of count
+      → Delivered record { seq = 0; class = c; gap = Nothing; lost = l } ≡ hearing_of refusal class count
+  unfolding hearing_of
+  hearing_done a c l e f = rw (eq_eqb refusal 0 a) (ap₂ (λ (x : Class) (y : Span). Delivered record { seq = 0; class = x; gap = Nothing; lost = y }) e f)
 
-  pub hearing-refused : (refusal ≡ 0 → ⊥) → HearingRefused InvalidState ≡ hearingOf refusal class count
-  unfolding hearingOf
-  hearing-refused a = rw (ne_eqb refusal 0 a)
+  pub hearing_refused_lem : (refusal ≡ 0 → ⊥) → HearingRefused InvalidState ≡ hearing_of refusal class count
+  unfolding hearing_of
+  hearing_refused_lem a = rw (ne_eqb refusal 0 a)
 
 -- ---- by what the numbers stand for
 
-pub by-hearing : (s : HeldNotes) (ws : List ℕ) (g : Left) (r : CGiven) {h k : Hearing} → h ≡ k → g ≡ answer_of s (delivered h ws) → r ≡ given_of g
+pub by_hearing : (s : HeldNotes) (ws : List ℕ) (g : Left) (r : CGiven) {h k : Hearing} → h ≡ k → g ≡ answer_of s (delivered h ws) → r ≡ given_of g
     → r ≡ given_of (answer_of s (delivered k ws))
-by-hearing s ws g r e a i = i ∙ ap given_of (a ∙ ap (λ (x : Hearing). answer_of s (delivered x ws)) e)
+by_hearing s ws g r e a i = i ∙ ap given_of (a ∙ ap (λ (x : Hearing). answer_of s (delivered x ws)) e)
 
-pub by-event : (s : HeldNotes) (g : Left) (r : CGiven) {d e : StreamEvent} → d ≡ e → g ≡ answer_of s (told d) → r ≡ given_of g → r ≡ given_of (answer_of s (told e))
-by-event s g r e a i = i ∙ ap given_of (a ∙ ap (λ (x : StreamEvent). answer_of s (told x)) e)
+pub by_event : (s : HeldNotes) (g : Left) (r : CGiven) {d e : StreamEvent} → d ≡ e → g ≡ answer_of s (told d) → r ≡ given_of g → r ≡ given_of (answer_of s (told e))
+by_event s g r e a i = i ∙ ap given_of (a ∙ ap (λ (x : StreamEvent). answer_of s (told x)) e)

@@ -1,6 +1,6 @@
 -- The stream's answers by the numbers that include/sirmjold.h has for them, and what is given as numbers.
 use Rattle.std.specs.Prelude.{ℕ, Bool, cond, ◌||◌, eqb}
-use Rattle.config.specs.Refusals.{outcomeNumber}
+use Rattle.config.specs.Refusals.{outcome_number}
 use Rattle.config.specs.declared.refusal.Refusal.TheVariants.{InvalidState}
 use Rattle.window.specs.declared.window.Class.{Class}
 use Rattle.window.specs.declared.window.Class.TheVariants.{New, Late, Duplicate}
@@ -21,14 +21,14 @@ class_of n = cond (eqb n 0) (New 0) (cond (eqb n 1) Late Duplicate)
 unfoldable pub span_of : ℕ → Span
 span_of count = cond (eqb count 0) Nothing (Of record { first = 0; count = count })
 
-unfoldable pub hearingOf : ℕ → ℕ → ℕ → Hearing
-hearingOf refusal class count =
+unfoldable pub hearing_of : ℕ → ℕ → ℕ → Hearing
+hearing_of refusal class count =
     cond (eqb refusal 0) (Delivered record { seq = 0; class = class_of class; gap = Nothing; lost = span_of count }) (HearingRefused InvalidState)
 
-unfoldable pub eventOf : ℕ → StreamEvent
-eventOf kind = cond (eqb kind 1 || eqb kind 2) (DataLoss record { first = 0; count = 1 }) NoEvent
+unfoldable pub event_of : ℕ → StreamEvent
+event_of kind = cond (eqb kind 1 || eqb kind 2) (DataLoss record { first = 0; count = 1 }) NoEvent
 
 -- ---- what is given
 
 unfoldable pub given_of : Left → CGiven
-given_of g = record { state = g.state; notes = g.notes; refusal = outcomeNumber g.answer }
+given_of g = record { state = g.state; notes = g.notes; refusal = outcome_number g.answer }

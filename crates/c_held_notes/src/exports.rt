@@ -3,7 +3,7 @@ ghost use Rattle.std.specs.Prelude.{◌≡◌};
 ghost use Rattle.packet.specs.Bytes.{words_of};
 ghost use Rattle.held_notes.specs.Calls.{delivered, told, restarted};
 ghost use Rattle.held_notes.specs.Answers.{answer_of, start_of};
-ghost use Rattle.c_held_notes.specs.Numbers.{class_of, span_of, hearingOf, eventOf, given_of};
+ghost use Rattle.c_held_notes.specs.Numbers.{class_of, span_of, hearing_of, event_of, given_of};
 
 use config::refusal::Refusal;
 use held_notes::held;
@@ -46,7 +46,7 @@ fn span_of(count: u16) -> Span
 
 // A delivery that was not refused, by its class and its loss.
 fn hearing_of(refusal: u8, class: u8, lost: u16) -> Hearing
-    ensures { result ≡ hearingOf refusal class lost }
+    ensures { result ≡ hearing_of refusal class lost }
 {
     if refusal == 0 {
         let is = class_of(class);
@@ -63,7 +63,7 @@ fn hearing_of(refusal: u8, class: u8, lost: u16) -> Hearing
 
 // An event: 1 and 2 tell a loss.
 fn event_of(kind: u8) -> StreamEvent
-    ensures { result ≡ eventOf kind }
+    ensures { result ≡ event_of kind }
 {
     if kind == 1 {
         return StreamEvent::DataLoss(SeqRange { first: 0, count: 1 });
@@ -106,7 +106,7 @@ pub extern "C" fn sirmjold_held_delivered(
     lost: u16,
     body: &[u8],
 ) -> CGiven
-    ensures { result ≡ given_of (answer_of state (delivered (hearingOf refusal class lost) (words_of body.now))) }
+    ensures { result ≡ given_of (answer_of state (delivered (hearing_of refusal class lost) (words_of body.now))) }
 {
     let hearing = hearing_of(refusal, class, lost);
     let g = held::delivered(state, hearing, body);
@@ -116,7 +116,7 @@ pub extern "C" fn sirmjold_held_delivered(
 // What it answered to a poll, a Retransmit Error or a NAK.
 #[unsafe(no_mangle)]
 pub extern "C" fn sirmjold_held_told(state: HeldNotes, kind: u8) -> CGiven
-    ensures { result ≡ given_of (answer_of state (told (eventOf kind))) }
+    ensures { result ≡ given_of (answer_of state (told (event_of kind))) }
 {
     let event = event_of(kind);
     let g = held::told(state, event);

@@ -1,7 +1,7 @@
 // A run on the pretend link as a C function, which include/sirmjold.h declares. The settings are eight lent words, as
 // for every other function, and both histories are lent.
 ghost use Rattle.std.specs.Prelude.{◌≡◌};
-ghost use Rattle.c_link.specs.Export.{reportOf, refusedBy, runExport};
+ghost use Rattle.c_link.specs.Export.{report_of, refused_by, run_export};
 
 use c_words::settings;
 use link::link::run;
@@ -18,7 +18,7 @@ pub struct CReport {
 }
 
 fn refused(number: u8) -> CReport
-    ensures { result ≡ refusedBy number }
+    ensures { result ≡ refused_by number }
 {
     CReport {
         steps: 0,
@@ -29,7 +29,7 @@ fn refused(number: u8) -> CReport
 }
 
 fn report(ran: Ran) -> CReport
-    ensures { result ≡ reportOf ran }
+    ensures { result ≡ report_of ran }
 {
     match ran {
         Ran::Done(r) => CReport {
@@ -57,7 +57,7 @@ pub extern "C" fn sirmjold_link_run(
     ring: &mut [u32],
     other: &mut [u32],
 ) -> CReport
-    ensures { (result, ring.new, other.new) ≡ runExport cfg.now window places seed «drop» figure budget ring.old other.old }
+    ensures { (result, ring.new, other.new) ≡ run_export cfg.now window places seed «drop» figure budget ring.old other.old }
 {
     let number = settings::number(cfg);
     if number == 0 {

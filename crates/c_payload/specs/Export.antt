@@ -7,26 +7,26 @@ use Rattle.config.specs.declared.answer.Outcome.TheVariants.{Done, Refused}
 use Rattle.packet.specs.declared.writer.Wrote.{Wrote}
 use Rattle.packet.specs.declared.writer.Opened.{Opened}
 use Rattle.packet.specs.declared.writer.Opened.TheVariants.{Payload, Refused as NotOpened}
-use Rattle.command.specs.Write.{dataWritten}
+use Rattle.command.specs.Write.{data_written}
 use Rattle.c_payload.specs.declared.CMade.{CMade}
 
-abbrev pub refusedBy : ℕ → CMade
-refusedBy n = record { len = 0; refusal = n }
+abbrev pub refused_by : ℕ → CMade
+refused_by n = record { len = 0; refusal = n }
 
-abbrev pub madeBy : Outcome → ℕ → CMade
-madeBy Done len = record { len = len; refusal = 0 }
-madeBy (Refused why) len = refusedBy (number_of why)
+abbrev pub made_by : Outcome → ℕ → CMade
+made_by Done len = record { len = len; refusal = 0 }
+made_by (Refused why) len = refused_by (number_of why)
 
 abbrev pub made_of : Wrote → CMade
-made_of e = madeBy e.answer e.payload.len
+made_of e = made_by e.answer e.payload.len
 
 -- the answer and the buffer; a payload that is not opened leaves the buffer as it was
-abbrev madeInto : Wrote × List ℕ → CMade × List ℕ
-madeInto e = (made_of e.0, e.1)
+abbrev made_into : Wrote × List ℕ → CMade × List ℕ
+made_into e = (made_of e.0, e.1)
 
-abbrev pub payloadBy : Opened → List ℕ → ℕ → List ℕ → CMade × List ℕ
-payloadBy (Payload p) b seq ws = madeInto (dataWritten p b seq ws)
-payloadBy (NotOpened why) b seq ws = (refusedBy (number_of why), b)
+abbrev pub payload_by : Opened → List ℕ → ℕ → List ℕ → CMade × List ℕ
+payload_by (Payload p) b seq ws = made_into (data_written p b seq ws)
+payload_by (NotOpened why) b seq ws = (refused_by (number_of why), b)
 
-unfoldable pub payloadExport : List ℕ → ℕ → ℕ → List ℕ → CMade × List ℕ
-payloadExport b max seq ws = payloadBy (opened_of max) b seq ws
+unfoldable pub payload_export : List ℕ → ℕ → ℕ → List ℕ → CMade × List ℕ
+payload_export b max seq ws = payload_by (opened_of max) b seq ws

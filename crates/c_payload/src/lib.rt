@@ -3,7 +3,7 @@
 //
 //   theorems   a refused call changes nothing that was lent
 ghost use Rattle.std.specs.Prelude.{◌≡◌};
-ghost use Rattle.c_payload.specs.Export.{made_of, payloadExport};
+ghost use Rattle.c_payload.specs.Export.{made_of, payload_export};
 
 use command::data::UmpData;
 use config::answer::Outcome;
@@ -44,7 +44,7 @@ pub extern "C" fn sirmjold_ump_data_payload(
     seq: u16,
     words: &[u32],
 ) -> CMade
-    ensures { (result, buf.new) ≡ payloadExport buf.old max seq words.now }
+    ensures { (result, buf.new) ≡ payload_export buf.old max seq words.now }
 {
     match PayloadWriter::new(max) {
         Opened::Payload(payload) => made(UmpData::write(payload, buf, seq, words)),

@@ -1,7 +1,7 @@
 // Queueing and writing in one call. As in the other calls, settings and words are tested first: 13 for
 // words that are no stream's and for a payload that is not two words, and then nothing is queued.
 ghost use Rattle.std.specs.Prelude.{◌≡◌};
-ghost use Rattle.c_sending.specs.Exports.{sendAndWriteExport};
+ghost use Rattle.c_sending.specs.Exports.{send_and_write_export};
 
 use c_answers::sending;
 use c_answers::sending::CSentWritten;
@@ -19,7 +19,7 @@ pub extern "C" fn sirmjold_stream_send_and_write(
     buf: &mut [u8],
     ring: &mut [u32],
 ) -> CSentWritten
-    ensures { (result, s.new, p.new, buf.new, ring.new) ≡ sendAndWriteExport s.old cfg.now time words.now p.old buf.old ring.old }
+    ensures { (result, s.new, p.new, buf.new, ring.new) ≡ send_and_write_export s.old cfg.now time words.now p.old buf.old ring.old }
 {
     let number = settings::number(cfg);
     if number == 0 {

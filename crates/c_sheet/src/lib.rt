@@ -1,7 +1,7 @@
 // The loss sheet as C functions, which include/sirmjold.h declares. A sheet is its three figures, by value, and a
 // ring of `n` words that the caller lends; answers are numbers.
 ghost use Rattle.std.specs.Prelude.{◌≡◌};
-ghost use Rattle.sheet_blocks.specs.Columns.{storedOf, restoredOf};
+ghost use Rattle.sheet_blocks.specs.Columns.{stored_of, restored_of};
 ghost use Rattle.loss_sheet.specs.Sheet.{start_of, block_of};
 
 use loss_sheet::sheet;
@@ -32,7 +32,7 @@ pub extern "C" fn sirmjold_sheet_block(
 // A block by column.
 #[unsafe(no_mangle)]
 pub extern "C" fn sirmjold_sheet_columns(block: &[u8], out: &mut [u8]) -> u8
-    ensures { (result, out.new) ≡ storedOf block.now out.old }
+    ensures { (result, out.new) ≡ stored_of block.now out.old }
 {
     columns::columns(block, out)
 }
@@ -40,7 +40,7 @@ pub extern "C" fn sirmjold_sheet_columns(block: &[u8], out: &mut [u8]) -> u8
 // A block from its columns.
 #[unsafe(no_mangle)]
 pub extern "C" fn sirmjold_sheet_restore(stored: &[u8], out: &mut [u8]) -> u8
-    ensures { (result, out.new) ≡ restoredOf stored.now out.old }
+    ensures { (result, out.new) ≡ restored_of stored.now out.old }
 {
     columns::restore(stored, out)
 }

@@ -6,58 +6,58 @@ use Prim.Native.Nat.{ℕ, ◌+◌, ◌≤◌}
 use native.Mathlib.Omega.{arith}
 use lib.ListN.{length, take, drop, drop_of_length-le}
 use Rattle.packet.specs.Bytes.{spliced}
-use Rattle.packet.proofs.Splice.{drop-spliced, take-before-spliced}
+use Rattle.packet.proofs.Splice.{drop_spliced, take_before_spliced}
 use Rattle.receiver.specs.declared.receiver.Receiver.{Receiver}
 use Rattle.sender.specs.declared.sender.Sender.{Sender}
-use Rattle.c_state.specs.Receiver.{receiverWords}
-use Rattle.c_state.specs.Sender.{senderWords}
-use Rattle.c_state.specs.Stream.{streamWords, receiverFits, senderFits, fits, receiverIn, senderIn, stored, receiverPart, senderPart, withReceiver, withSender}
-use Rattle.c_state.proofs.Senders.{length-sender}
-use Rattle.c_state.proofs.Streams.{receiver-known, sender-known, both-fit, receiver-part-same, sender-part-same}
+use Rattle.c_state.specs.Receiver.{receiver_words}
+use Rattle.c_state.specs.Sender.{sender_words}
+use Rattle.c_state.specs.Stream.{stream_words, receiver_fits, sender_fits, fits, receiver_in, sender_in, stored, receiver_part, sender_part, with_receiver, with_sender}
+use Rattle.c_state.proofs.Senders.{length_sender}
+use Rattle.c_state.proofs.Streams.{receiver_known, sender_known, both_fit, receiver_part_same, sender_part_same}
 
 -- ---- words that fit
 module _ (ws : List ℕ) where
-  pub receiver-whole : receiverFits ws ≡ true → length ws ≡ streamWords
-  receiver-whole e = (receiver-known ws e).0
+  pub receiver_whole : receiver_fits ws ≡ true → length ws ≡ stream_words
+  receiver_whole e = (receiver_known ws e).0
 
-  pub sender-whole : senderFits ws ≡ true → length ws ≡ streamWords
-  sender-whole e = (sender-known ws e).0
+  pub sender_whole : sender_fits ws ≡ true → length ws ≡ stream_words
+  sender_whole e = (sender_known ws e).0
 
-  pub both-receiver : fits ws ≡ true → receiverFits ws ≡ true
-  both-receiver e = (both-fit ws e).0
+  pub both_receiver : fits ws ≡ true → receiver_fits ws ≡ true
+  both_receiver e = (both_fit ws e).0
 
-  pub both-sender : fits ws ≡ true → senderFits ws ≡ true
-  both-sender e = (both-fit ws e).1
+  pub both_sender : fits ws ≡ true → sender_fits ws ≡ true
+  both_sender e = (both_fit ws e).1
 
-  pub both-whole : fits ws ≡ true → length ws ≡ streamWords
-  both-whole e = sender-whole (both-sender e)
+  pub both_whole : fits ws ≡ true → length ws ≡ stream_words
+  both_whole e = sender_whole (both_sender e)
 
 -- ---- the words of the other end
-module _ (ws : List ℕ) (l : length ws ≡ streamWords) where
-  pub sender-stays : (r : Receiver) → senderPart (withReceiver ws r) ≡ senderPart ws
-  unfolding receiverWords
-  sender-stays r = drop-spliced ws 0 (receiverWords r) (omega arith)
+module _ (ws : List ℕ) (l : length ws ≡ stream_words) where
+  pub sender_stays : (r : Receiver) → sender_part (with_receiver ws r) ≡ sender_part ws
+  unfolding receiver_words
+  sender_stays r = drop_spliced ws 0 (receiver_words r) (omega arith)
 
-  pub receiver-stays : (s : Sender) → receiverPart (withSender ws s) ≡ receiverPart ws
-  receiver-stays s = take-before-spliced ws 7 (senderWords s) (omega (arith, length-sender s))
+  pub receiver_stays : (s : Sender) → receiver_part (with_sender ws s) ≡ receiver_part ws
+  receiver_stays s = take_before_spliced ws 7 (sender_words s) (omega (arith, length_sender s))
 
   -- the words after a call, end to end
-  receiver-first : (r : Receiver) → withReceiver ws r ≡ receiverWords r ++ drop 7 ws
-  unfolding spliced receiverWords
-  receiver-first r = refl
+  receiver_first : (r : Receiver) → with_receiver ws r ≡ receiver_words r ++ drop 7 ws
+  unfolding spliced receiver_words
+  receiver_first r = refl
 
-  sender-last : (s : Sender) → withSender ws s ≡ take 7 ws ++ senderWords s
+  sender_last : (s : Sender) → with_sender ws s ≡ take 7 ws ++ sender_words s
   unfolding spliced
-  sender-last s =
-      let k = length-sender s in
-      let h : length ws ≤ 7 + length (senderWords s) = omega arith in
-      rw (drop_of_length-le ws h) (append-nil (take 7 ws ++ senderWords s))
+  sender_last s =
+      let k = length_sender s in
+      let h : length ws ≤ 7 + length (sender_words s) = omega arith in
+      rw (drop_of_length-le ws h) (append-nil (take 7 ws ++ sender_words s))
 
 module _ (ws : List ℕ) (all : fits ws ≡ true) where
-  pub receiver-stored : (r : Receiver) → withReceiver ws r ≡ stored record { sender = senderIn ws; receiver = r }
+  pub receiver_stored : (r : Receiver) → with_receiver ws r ≡ stored record { sender = sender_in ws; receiver = r }
   unfolding stored
-  receiver-stored r = receiver-first ws (both-whole ws all) r ∙ ap (λ (x : List ℕ). receiverWords r ++ x) (sym (sender-part-same ws (both-sender ws all)))
+  receiver_stored r = receiver_first ws (both_whole ws all) r ∙ ap (λ (x : List ℕ). receiver_words r ++ x) (sym (sender_part_same ws (both_sender ws all)))
 
-  pub sender-stored : (s : Sender) → withSender ws s ≡ stored record { sender = s; receiver = receiverIn ws }
+  pub sender_stored : (s : Sender) → with_sender ws s ≡ stored record { sender = s; receiver = receiver_in ws }
   unfolding stored
-  sender-stored s = sender-last ws (both-whole ws all) s ∙ ap (λ (x : List ℕ). x ++ senderWords s) (sym (receiver-part-same ws (both-receiver ws all)))
+  sender_stored s = sender_last ws (both_whole ws all) s ∙ ap (λ (x : List ℕ). x ++ sender_words s) (sym (receiver_part_same ws (both_receiver ws all)))

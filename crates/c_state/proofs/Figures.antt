@@ -6,27 +6,27 @@ use Prim.Native.Nat.{ℕ}
 use lib.ListN.{set, replicate}
 use Rattle.command.specs.declared.retransmit.RetransmitRequest.{RetransmitRequest}
 use Rattle.history.specs.Queue.{blank}
-use Rattle.window.specs.Set.{setOf}
+use Rattle.window.specs.Set.{set_of}
 use Rattle.receiver.specs.declared.receiver.Timer.TheVariants.{Running}
 use Rattle.receiver.specs.declared.receiver.Asked.TheVariants.{Request}
 use Rattle.idle.specs.declared.idle.IdleTimer.TheVariants.{Waiting}
 use Rattle.stream.specs.State.{fresh}
 use Rattle.stream.specs.declared.stream.DataStream.{DataStream}
-use Rattle.c_state.specs.Pack.{fourIn, word, twoIn, pair, flagsIn, flagsNumber, held}
-use Rattle.c_state.specs.Receiver.{receiverWords, holdsButTimer, receiverHolds}
-use Rattle.c_state.specs.Sender.{figureWords, requestWords, senderWords, senderHolds}
-use Rattle.c_state.specs.Stream.{receiverFits, senderFits, fits, stored}
+use Rattle.c_state.specs.Pack.{four_in, word, two_in, pair, flags_in, flags_number, held}
+use Rattle.c_state.specs.Receiver.{receiver_words, holds_but_timer, receiver_holds}
+use Rattle.c_state.specs.Sender.{figure_words, request_words, sender_words, sender_holds}
+use Rattle.c_state.specs.Stream.{receiver_fits, sender_fits, fits, stored}
 
 -- a window of 64, a history of 256 words, a ring of 4
-freshWords : List ℕ
-freshWords =
+fresh_words_lem : List ℕ
+fresh_words_lem =
     18446744073709551615 ∷ 0 ∷ 0 ∷ 0 ∷ 0 ∷ 4259839 ∷ 0
     ∷ 0 ∷ 16777216 ∷ 1125899906842624 ∷ 0 ∷ 0
     ∷ 0 ∷ 0 ∷ 0 ∷ 0 ∷ 0 ∷ 0 ∷ 0 ∷ 0 ∷ []
 
-fresh-words : stored (fresh 64 256 4) ≡ freshWords
-unfolding freshWords stored setOf receiverWords senderWords figureWords requestWords word pair flagsNumber
-fresh-words = refl
+fresh_words_lem : stored (fresh 64 256 4) ≡ fresh_words_lem
+unfolding fresh_words_lem stored set_of receiver_words sender_words figure_words request_words word pair flags_number
+fresh_words_lem = refl
 
 -- a timer that has asked twice and runs, a request due, one unanswered; two requests wait, one of them from place 1 on, and the idle timer waits
 busy : DataStream
@@ -53,39 +53,39 @@ busy =
       };
     }
 
-busyWords : List ℕ
-busyWords =
+busy_words_lem : List ℕ
+busy_words_lem =
     5 ∷ 1 ∷ 0 ∷ 0 ∷ 1000 ∷ 845524450148610 ∷ 2818
     ∷ 18445899678863851530 ∷ 5629508392583448 ∷ 76561206550331393 ∷ 2000 ∷ 200
     ∷ 562924183617536 ∷ 65532 ∷ 0 ∷ 0 ∷ 0 ∷ 0 ∷ 0 ∷ 0 ∷ []
 
-busy-words : stored busy ≡ busyWords
-unfolding busy busyWords stored receiverWords senderWords figureWords requestWords word pair flagsNumber
-busy-words = refl
+busy_words_lem : stored busy ≡ busy_words_lem
+unfolding busy busy_words_lem stored receiver_words sender_words figure_words request_words word pair flags_number
+busy_words_lem = refl
 
-busy-taken : fits busyWords ≡ true
-unfolding busyWords fits receiverFits senderFits receiverHolds holdsButTimer senderHolds fourIn twoIn flagsIn held
-busy-taken = refl
+busy_taken : fits busy_words_lem ≡ true
+unfolding busy_words_lem fits receiver_fits sender_fits receiver_holds holds_but_timer sender_holds four_in two_in flags_in held
+busy_taken = refl
 
 -- ---- words that are no stream's
 -- a position above the set's two words, a fifth flag, a due time beside a timer that does not run
-upper-refused : receiverFits (set busyWords 2 1) ≡ false
-unfolding busyWords receiverFits receiverHolds holdsButTimer fourIn twoIn flagsIn held
-upper-refused = refl
+upper_refused : receiver_fits (set busy_words_lem 2 1) ≡ false
+unfolding busy_words_lem receiver_fits receiver_holds holds_but_timer four_in two_in flags_in held
+upper_refused = refl
 
-flag-refused : receiverFits (set busyWords 6 4096) ≡ false
-unfolding busyWords receiverFits receiverHolds holdsButTimer fourIn twoIn flagsIn held
-flag-refused = refl
+flag_refused : receiver_fits (set busy_words_lem 6 4096) ≡ false
+unfolding busy_words_lem receiver_fits receiver_holds holds_but_timer four_in two_in flags_in held
+flag_refused = refl
 
-due-refused : receiverFits (set freshWords 4 1) ≡ false
-unfolding freshWords receiverFits receiverHolds holdsButTimer fourIn twoIn flagsIn held
-due-refused = refl
+due_refused : receiver_fits (set fresh_words_lem 4 1) ≡ false
+unfolding fresh_words_lem receiver_fits receiver_holds holds_but_timer four_in two_in flags_in held
+due_refused = refl
 
 -- a second flag of the sender, an idle step beside a timer that is off
-second-refused : senderFits (set busyWords 9 148618800588259329) ≡ false
-unfolding busyWords senderFits senderHolds fourIn twoIn held
-second-refused = refl
+second_refused : sender_fits (set busy_words_lem 9 148618800588259329) ≡ false
+unfolding busy_words_lem sender_fits sender_holds four_in two_in held
+second_refused = refl
 
-step-refused : senderFits (set freshWords 9 1125904201809920) ≡ false
-unfolding freshWords senderFits senderHolds fourIn twoIn held
-step-refused = refl
+step_refused : sender_fits (set fresh_words_lem 9 1125904201809920) ≡ false
+unfolding fresh_words_lem sender_fits sender_holds four_in two_in held
+step_refused = refl

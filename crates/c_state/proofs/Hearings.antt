@@ -7,19 +7,19 @@ use native.Mathlib.Omega.{arith}
 use borrow.Author.Tests.{lt-ltb, eqb-true}
 use Rattle.config.specs.Range.{within}
 use Rattle.config.specs.Sequence.{ahead}
-use Rattle.config.specs.Settings.{checkOf}
+use Rattle.config.specs.Settings.{check_of}
 use Rattle.config.specs.declared.refusal.Refusal.TheVariants.{InvalidState}
 use Rattle.config.specs.declared.answer.Outcome.TheVariants.{Done}
 use Rattle.config.specs.declared.settings.StreamConfig.{StreamConfig}
 use Rattle.window.specs.Window.{Valid, processed}
-use Rattle.window.specs.Arrival.{reach, class_of, taken_of, acceptOf}
+use Rattle.window.specs.Arrival.{reach, class_of, taken_of, accept_of}
 use Rattle.window.specs.declared.window.ReceiveWindow.{ReceiveWindow}
 use Rattle.window.specs.declared.window.Class.{Class}
 use Rattle.window.specs.declared.window.Class.TheVariants.{Late, Duplicate}
 use Rattle.window.specs.declared.window.Span.{Span}
 use Rattle.window.specs.declared.window.Arrival.{Arrival}
-use Rattle.receiver.specs.Receiver.{valid_of, rest_of, enabledOf, nothingMissing, dueAfter, gap_of, isGap, restarts, settled_of, heardOf, quietOf, polledAt, polledOf}
-use Rattle.receiver.specs.Answers.{hearingRefused, dataAnswer, eventRefused, pollAnswer}
+use Rattle.receiver.specs.Receiver.{valid_of, rest_of, enabled_of, nothing_missing, due_after, gap_of, is_gap, restarts, settled_of, heard_of, quiet_of, polled_at, polled_of}
+use Rattle.receiver.specs.Answers.{hearing_refused, data_answer, event_refused, poll_answer}
 use Rattle.receiver.specs.declared.receiver.Receiver.{Receiver}
 use Rattle.receiver.specs.declared.receiver.RequestTimer.{RequestTimer}
 use Rattle.receiver.specs.declared.receiver.Timer.{Timer}
@@ -31,162 +31,162 @@ use Rattle.receiver.specs.declared.receiver.Hearing.TheVariants.{Delivery as Del
 use Rattle.receiver.specs.declared.receiver.StreamEvent.{StreamEvent}
 use Rattle.receiver.specs.declared.receiver.StreamEvent.TheVariants.{Nothing, Refused as NotTold}
 use Rattle.receiver.specs.declared.receiver.Told.{Told}
-use Rattle.c_state.specs.Receiver.{NarrowReceiver, withWindow}
-use Rattle.c_state.specs.Stream.{receiverFits, receiverIn, withReceiver}
-use Rattle.c_state.specs.Receiving.{startsTimer, keptOf, heardInto, toldInto}
-use Rattle.c_state.proofs.Streams.{receiver-same}
-use Rattle.c_state.proofs.ReceiverSizes.{polled-size}
+use Rattle.c_state.specs.Receiver.{NarrowReceiver, with_window}
+use Rattle.c_state.specs.Stream.{receiver_fits, receiver_in, with_receiver}
+use Rattle.c_state.specs.Receiving.{starts_timer, kept_of, heard_into, told_into}
+use Rattle.c_state.proofs.Streams.{receiver_same}
+use Rattle.c_state.proofs.ReceiverSizes.{polled_size}
 
 -- a window that was tested fits its place
-pub valid-narrow : (w : ReceiveWindow) → Valid w → w.size < 65536
-valid-narrow w v = omega arith
+pub valid_narrow : (w : ReceiveWindow) → Valid w → w.size < 65536
+valid_narrow w v = omega arith
 
 -- ---- windows and receivers, part by part
 -- where a test answers false
 pub untrue : {A : Type 0} → ◌≡◌ {A = Bool} false true → A
 untrue e = absurd (let z : ◌≡◌ {A = ℕ} 1 0 = eqb-true 1 0 e in omega (arith, z))
 
-windows-of : (s h l g t i m k : ℕ) → s ≡ t → h ≡ i → l ≡ m → g ≡ k
+windows_of : (s h l g t i m k : ℕ) → s ≡ t → h ≡ i → l ≡ m → g ≡ k
     → ◌≡◌ {A = ReceiveWindow} (record { size = s; highest = h; bits = record { low = l; high = g } }) (record { size = t; highest = i; bits = record { low = m; high = k } })
-windows-of s h l g t i m k a b c d = rw (a, b, c, d)
+windows_of s h l g t i m k a b c d = rw (a, b, c, d)
 
-pub same-windows : (v w : ReceiveWindow) → v.size ≡ w.size → v.highest ≡ w.highest → v.bits.low ≡ w.bits.low → v.bits.high ≡ w.bits.high → v ≡ w
-same-windows v w a b c d = windows-of v.size v.highest v.bits.low v.bits.high w.size w.highest w.bits.low w.bits.high a b c d
+pub same_windows : (v w : ReceiveWindow) → v.size ≡ w.size → v.highest ≡ w.highest → v.bits.low ≡ w.bits.low → v.bits.high ≡ w.bits.high → v ≡ w
+same_windows v w a b c d = windows_of v.size v.highest v.bits.low v.bits.high w.size w.highest w.bits.low w.bits.high a b c d
 
-rest-of : (v w : ReceiveWindow) (t : Timer) (q f : Bool) (a : Asked) → q ≡ false → t ≡ Stopped → a ≡ Unasked → v ≡ w
+rest_of_lem : (v w : ReceiveWindow) (t : Timer) (q f : Bool) (a : Asked) → q ≡ false → t ≡ Stopped → a ≡ Unasked → v ≡ w
     → ◌≡◌ {A = Receiver} (record { window = v; timer = t; request_due = q; refused = f; asked = a }) (rest_of f w)
-rest-of v w t q f a eq et ea ew = rw (eq, et, ea, ew)
+rest_of_lem v w t q f a eq et ea ew = rw (eq, et, ea, ew)
 
-pub rest-is : (r : Receiver) (w : ReceiveWindow) → r.request_due ≡ false → r.timer ≡ Stopped → r.asked ≡ Unasked → r.window ≡ w → r ≡ rest_of r.refused w
-rest-is r w eq et ea ew = rest-of r.window w r.timer r.request_due r.refused r.asked eq et ea ew
+pub rest_is : (r : Receiver) (w : ReceiveWindow) → r.request_due ≡ false → r.timer ≡ Stopped → r.asked ≡ Unasked → r.window ≡ w → r ≡ rest_of r.refused w
+rest_is r w eq et ea ew = rest_of_lem r.window w r.timer r.request_due r.refused r.asked eq et ea ew
 
 -- ---- the timer's start
 module _ (r : Receiver) (s : StreamConfig) (class : Class) where
-  pub starts_by : isGap class ≡ true → enabledOf r s ≡ true → restarts r.timer ≡ startsTimer r s class
+  pub starts_by : is_gap class ≡ true → enabled_of r s ≡ true → restarts r.timer ≡ starts_timer r s class
   starts_by g e = rw (g, e)
 
-  pub starts-disabled : isGap class ≡ true → enabledOf r s ≡ false → false ≡ startsTimer r s class
-  starts-disabled g e = rw (g, e)
+  pub starts_disabled : is_gap class ≡ true → enabled_of r s ≡ false → false ≡ starts_timer r s class
+  starts_disabled g e = rw (g, e)
 
-  pub starts-no-gap : isGap class ≡ false → false ≡ startsTimer r s class
-  starts-no-gap g = rw g
+  pub starts_no_gap : is_gap class ≡ false → false ≡ starts_timer r s class
+  starts_no_gap g = rw g
 
 -- ---- what a number leaves
-pub settled-rest : (r : Receiver) (s : StreamConfig) (time : ℕ) (w : ReceiveWindow) (class : Class) → nothingMissing w ≡ true → rest_of r.refused w ≡ settled_of r s time w class
+pub settled_rest : (r : Receiver) (s : StreamConfig) (time : ℕ) (w : ReceiveWindow) (class : Class) → nothing_missing w ≡ true → rest_of r.refused w ≡ settled_of r s time w class
 unfolding settled_of
-settled-rest r s time w class m = rw m
+settled_rest r s time w class m = rw m
 
-module _ (r : Receiver) (s : StreamConfig) (time : ℕ) (w : ReceiveWindow) (class : Class) (m : nothingMissing w ≡ false) where
-  pub settled-started : (due : ℕ) → due ≡ dueAfter s.request_delay_ms 0 time → startsTimer r s class ≡ true
+module _ (r : Receiver) (s : StreamConfig) (time : ℕ) (w : ReceiveWindow) (class : Class) (m : nothing_missing w ≡ false) where
+  pub settled_started : (due : ℕ) → due ≡ due_after s.request_delay_ms 0 time → starts_timer r s class ≡ true
       → ◌≡◌ {A = Receiver} (record { window = w; timer = Running record { due = due; sent = 0 }; request_due = r.request_due; refused = r.refused; asked = r.asked }) (settled_of r s time w class)
   unfolding settled_of
-  settled-started due d t = rw (m, t, d)
+  settled_started due d t = rw (m, t, d)
 
-  pub settled-window : startsTimer r s class ≡ false → withWindow r w ≡ settled_of r s time w class
+  pub settled_window : starts_timer r s class ≡ false → with_window r w ≡ settled_of r s time w class
   unfolding settled_of
-  settled-window t = rw (m, t)
+  settled_window t = rw (m, t)
 
 module _ (r : Receiver) (w : ReceiveWindow) where
-  pub kept-rest : nothingMissing w ≡ true → rest_of r.refused w ≡ keptOf r w
-  unfolding keptOf
-  kept-rest m = rw m
+  pub kept_rest : nothing_missing w ≡ true → rest_of r.refused w ≡ kept_of r w
+  unfolding kept_of
+  kept_rest m = rw m
 
-  pub kept-window : nothingMissing w ≡ false → withWindow r w ≡ keptOf r w
-  unfolding keptOf
-  kept-window m = rw m
+  pub kept_window : nothing_missing w ≡ false → with_window r w ≡ kept_of r w
+  unfolding kept_of
+  kept_window m = rw m
 
   -- a receiver that is at rest with this window stays, and so does one that has it
-  pub rest-kept : nothingMissing w ≡ true → r ≡ rest_of r.refused w → keptOf r w ≡ r
-  rest-kept m e = sym (kept-rest m) ∙ sym e
+  pub rest_kept : nothing_missing w ≡ true → r ≡ rest_of r.refused w → kept_of r w ≡ r
+  rest_kept m e = sym (kept_rest m) ∙ sym e
 
-  pub window-kept : nothingMissing w ≡ false → r.window ≡ w → keptOf r w ≡ r
-  window-kept m e = sym (kept-window m) ∙ ap (withWindow r) (sym e)
+  pub window_kept : nothing_missing w ≡ false → r.window ≡ w → kept_of r w ≡ r
+  window_kept m e = sym (kept_window m) ∙ ap (with_window r) (sym e)
 
-  pub kept-settled : (s : StreamConfig) (time : ℕ) (class : Class) → isGap class ≡ false → keptOf r w ≡ settled_of r s time w class
-  unfolding keptOf settled_of
-  kept-settled s time class g = rw g
+  pub kept_settled : (s : StreamConfig) (time : ℕ) (class : Class) → is_gap class ≡ false → kept_of r w ≡ settled_of r s time w class
+  unfolding kept_of settled_of
+  kept_settled s time class g = rw g
 
 -- a number that is not ahead brings no gap
 module _ (w : ReceiveWindow) (seq : ℕ) (e : within 1 reach (ahead w.highest seq) ≡ false) where
-  no-gap-by : (t : Bool) → isGap (taken_of w seq (cond t Late Duplicate)).class ≡ false
-  no-gap-by true = refl
-  no-gap-by false = refl
+  no_gap_by : (t : Bool) → is_gap (taken_of w seq (cond t Late Duplicate)).class ≡ false
+  no_gap_by true = refl
+  no_gap_by false = refl
 
-  pub behind-no-gap : isGap (acceptOf w seq).class ≡ false
-  unfolding acceptOf class_of
-  behind-no-gap = rw e (no-gap-by (within 1 w.size (ahead seq w.highest) && not (processed w (ahead seq w.highest))))
+  pub behind_no_gap : is_gap (accept_of w seq).class ≡ false
+  unfolding accept_of class_of
+  behind_no_gap = rw e (no_gap_by (within 1 w.size (ahead seq w.highest) && not (processed w (ahead seq w.highest))))
 
 -- ---- the answer, and the words
 module _ (ws : List ℕ) (r : Receiver) (s : StreamConfig) (time seq : ℕ) where
-  pub heard-into : (taken : Arrival) (gap : Span) (after : List ℕ) → taken ≡ acceptOf r.window seq
-      → after ≡ withReceiver ws (settled_of r s time taken.window taken.class) → gap ≡ gap_of r.window.highest taken.class
-      → ◌≡◌ {A = Hearing × List ℕ} (Delivered record { seq = seq; class = taken.class; gap = gap; lost = taken.lost }, after) (heardInto ws (heardOf r s time seq))
-  unfolding heardOf
-  heard-into taken gap after t a g = rw (a, g, t)
+  pub heard_into_lem : (taken : Arrival) (gap : Span) (after : List ℕ) → taken ≡ accept_of r.window seq
+      → after ≡ with_receiver ws (settled_of r s time taken.window taken.class) → gap ≡ gap_of r.window.highest taken.class
+      → ◌≡◌ {A = Hearing × List ℕ} (Delivered record { seq = seq; class = taken.class; gap = gap; lost = taken.lost }, after) (heard_into ws (heard_of r s time seq))
+  unfolding heard_of
+  heard_into_lem taken gap after t a g = rw (a, g, t)
 
 -- words that stay are those of the receiver that they have
-module _ (ws : List ℕ) (r : Receiver) (e : receiverFits ws ≡ true) (f : r ≡ receiverIn ws) where
-  pub words-stay : (next : Receiver) → next ≡ r → ws ≡ withReceiver ws next
-  words-stay next g = sym (receiver-same ws e) ∙ ap (withReceiver ws) (sym (g ∙ f))
+module _ (ws : List ℕ) (r : Receiver) (e : receiver_fits ws ≡ true) (f : r ≡ receiver_in ws) where
+  pub words_stay : (next : Receiver) → next ≡ r → ws ≡ with_receiver ws next
+  words_stay next g = sym (receiver_same ws e) ∙ ap (with_receiver ws) (sym (g ∙ f))
 
 -- ---- a call whose state is tested first
-module _ (ws : List ℕ) (r : Receiver) (s : StreamConfig) (time seq : ℕ) (f : r ≡ receiverIn ws) (p : checkOf s ≡ Done) where
-  heard-valid : valid_of r ≡ true → heardOf r s time seq ≡ dataAnswer r s time seq
-  unfolding dataAnswer
-  heard-valid v = rw (p, v)
+module _ (ws : List ℕ) (r : Receiver) (s : StreamConfig) (time seq : ℕ) (f : r ≡ receiver_in ws) (p : check_of s ≡ Done) where
+  heard_valid : valid_of r ≡ true → heard_of r s time seq ≡ data_answer r s time seq
+  unfolding data_answer
+  heard_valid v = rw (p, v)
 
-  heard-invalid : valid_of r ≡ false → hearingRefused r InvalidState ≡ dataAnswer r s time seq
-  unfolding dataAnswer
-  heard-invalid v = rw (p, v)
+  heard_invalid : valid_of r ≡ false → hearing_refused r InvalidState ≡ data_answer r s time seq
+  unfolding data_answer
+  heard_invalid v = rw (p, v)
 
-  pub heard-tested : valid_of r ≡ true → (x : Hearing × List ℕ) → x ≡ heardInto ws (heardOf r s time seq) → x ≡ heardInto ws (dataAnswer (receiverIn ws) s time seq)
-  heard-tested v x e = e ∙ ap (heardInto ws) (heard-valid v) ∙ ap (λ (y : Receiver). heardInto ws (dataAnswer y s time seq)) f
+  pub heard_tested : valid_of r ≡ true → (x : Hearing × List ℕ) → x ≡ heard_into ws (heard_of r s time seq) → x ≡ heard_into ws (data_answer (receiver_in ws) s time seq)
+  heard_tested v x e = e ∙ ap (heard_into ws) (heard_valid v) ∙ ap (λ (y : Receiver). heard_into ws (data_answer y s time seq)) f
 
-  pub heard-refused : valid_of r ≡ false → receiverFits ws ≡ true → ◌≡◌ {A = Hearing × List ℕ} (NotHeard InvalidState, ws) (heardInto ws (dataAnswer (receiverIn ws) s time seq))
-  heard-refused v e =
-      ap (λ (l : List ℕ). (NotHeard InvalidState, l)) (words-stay ws r e f r refl)
-      ∙ ap (heardInto ws) (heard-invalid v)
-      ∙ ap (λ (y : Receiver). heardInto ws (dataAnswer y s time seq)) f
+  pub heard_refused_lem : valid_of r ≡ false → receiver_fits ws ≡ true → ◌≡◌ {A = Hearing × List ℕ} (NotHeard InvalidState, ws) (heard_into ws (data_answer (receiver_in ws) s time seq))
+  heard_refused_lem v e =
+      ap (λ (l : List ℕ). (NotHeard InvalidState, l)) (words_stay ws r e f r refl)
+      ∙ ap (heard_into ws) (heard_invalid v)
+      ∙ ap (λ (y : Receiver). heard_into ws (data_answer y s time seq)) f
 
-module _ (ws : List ℕ) (r : Receiver) (s : StreamConfig) (time : ℕ) (f : r ≡ receiverIn ws) (p : checkOf s ≡ Done) where
-  told-valid : valid_of r ≡ true → polledOf r s time ≡ pollAnswer r s time
-  unfolding pollAnswer
-  told-valid v = rw (p, v)
+module _ (ws : List ℕ) (r : Receiver) (s : StreamConfig) (time : ℕ) (f : r ≡ receiver_in ws) (p : check_of s ≡ Done) where
+  told_valid : valid_of r ≡ true → polled_of r s time ≡ poll_answer r s time
+  unfolding poll_answer
+  told_valid v = rw (p, v)
 
-  told-invalid : valid_of r ≡ false → eventRefused r InvalidState ≡ pollAnswer r s time
-  unfolding pollAnswer
-  told-invalid v = rw (p, v)
+  told_invalid : valid_of r ≡ false → event_refused r InvalidState ≡ poll_answer r s time
+  unfolding poll_answer
+  told_invalid v = rw (p, v)
 
-  pub told-tested : valid_of r ≡ true → (x : StreamEvent × List ℕ) → x ≡ toldInto ws (polledOf r s time) → x ≡ toldInto ws (pollAnswer (receiverIn ws) s time)
-  told-tested v x e = e ∙ ap (toldInto ws) (told-valid v) ∙ ap (λ (y : Receiver). toldInto ws (pollAnswer y s time)) f
+  pub told_tested : valid_of r ≡ true → (x : StreamEvent × List ℕ) → x ≡ told_into ws (polled_of r s time) → x ≡ told_into ws (poll_answer (receiver_in ws) s time)
+  told_tested v x e = e ∙ ap (told_into ws) (told_valid v) ∙ ap (λ (y : Receiver). told_into ws (poll_answer y s time)) f
 
-  pub told-refused : valid_of r ≡ false → receiverFits ws ≡ true → ◌≡◌ {A = StreamEvent × List ℕ} (NotTold InvalidState, ws) (toldInto ws (pollAnswer (receiverIn ws) s time))
-  told-refused v e =
-      ap (λ (l : List ℕ). (NotTold InvalidState, l)) (words-stay ws r e f r refl)
-      ∙ ap (toldInto ws) (told-invalid v)
-      ∙ ap (λ (y : Receiver). toldInto ws (pollAnswer y s time)) f
+  pub told_refused : valid_of r ≡ false → receiver_fits ws ≡ true → ◌≡◌ {A = StreamEvent × List ℕ} (NotTold InvalidState, ws) (told_into ws (poll_answer (receiver_in ws) s time))
+  told_refused v e =
+      ap (λ (l : List ℕ). (NotTold InvalidState, l)) (words_stay ws r e f r refl)
+      ∙ ap (told_into ws) (told_invalid v)
+      ∙ ap (λ (y : Receiver). told_into ws (poll_answer y s time)) f
 
 -- ---- a poll
-pub told-into : (ws : List ℕ) (e next : Told) (after : List ℕ) → e ≡ next → after ≡ withReceiver ws e.receiver → ◌≡◌ {A = StreamEvent × List ℕ} (e.event, after) (toldInto ws next)
-told-into ws e next after q a = rw a (ap (toldInto ws) q)
+pub told_into_lem : (ws : List ℕ) (e next : Told) (after : List ℕ) → e ≡ next → after ≡ with_receiver ws e.receiver → ◌≡◌ {A = StreamEvent × List ℕ} (e.event, after) (told_into ws next)
+told_into_lem ws e next after q a = rw a (ap (told_into ws) q)
 
-pub polled-narrow : (r : Receiver) (s : StreamConfig) (time : ℕ) (e : Told) → e ≡ polledOf r s time → r.window.size < 65536 → NarrowReceiver e.receiver
-polled-narrow r s time e q h = omega (arith, ap (λ (x : Told). x.receiver.window.size) q, polled-size r s time)
+pub polled_narrow : (r : Receiver) (s : StreamConfig) (time : ℕ) (e : Told) → e ≡ polled_of r s time → r.window.size < 65536 → NarrowReceiver e.receiver
+polled_narrow r s time e q h = omega (arith, ap (λ (x : Told). x.receiver.window.size) q, polled_size r s time)
 
-module _ (ws : List ℕ) (r : Receiver) (fit : receiverFits ws ≡ true) (f : r ≡ receiverIn ws) (s : StreamConfig) (time : ℕ) where
-  quiet : polledOf r s time ≡ quietOf r → ◌≡◌ {A = StreamEvent × List ℕ} (Nothing, ws) (toldInto ws (polledOf r s time))
-  quiet e = ap (λ (l : List ℕ). (Nothing, l)) (words-stay ws r fit f r refl) ∙ ap (toldInto ws) (sym e)
+module _ (ws : List ℕ) (r : Receiver) (fit : receiver_fits ws ≡ true) (f : r ≡ receiver_in ws) (s : StreamConfig) (time : ℕ) where
+  quiet : polled_of r s time ≡ quiet_of r → ◌≡◌ {A = StreamEvent × List ℕ} (Nothing, ws) (told_into ws (polled_of r s time))
+  quiet e = ap (λ (l : List ℕ). (Nothing, l)) (words_stay ws r fit f r refl) ∙ ap (told_into ws) (sym e)
 
-  stopped : r.timer ≡ Stopped → polledOf r s time ≡ quietOf r
-  unfolding polledOf
-  stopped e = ap (polledAt r s time) e
+  stopped : r.timer ≡ Stopped → polled_of r s time ≡ quiet_of r
+  unfolding polled_of
+  stopped e = ap (polled_at r s time) e
 
-  pub polled-stopped : r.timer ≡ Stopped → ◌≡◌ {A = StreamEvent × List ℕ} (Nothing, ws) (toldInto ws (polledOf r s time))
-  polled-stopped e = quiet (stopped e)
+  pub polled_stopped : r.timer ≡ Stopped → ◌≡◌ {A = StreamEvent × List ℕ} (Nothing, ws) (told_into ws (polled_of r s time))
+  polled_stopped e = quiet (stopped e)
 
-  early : (t : RequestTimer) → r.timer ≡ Running t → time < t.due → polledOf r s time ≡ quietOf r
-  unfolding polledOf
-  early t e h = ap (polledAt r s time) e ∙ rw (lt-ltb time t.due h)
+  early : (t : RequestTimer) → r.timer ≡ Running t → time < t.due → polled_of r s time ≡ quiet_of r
+  unfolding polled_of
+  early t e h = ap (polled_at r s time) e ∙ rw (lt-ltb time t.due h)
 
-  pub polled-early : (t : RequestTimer) → r.timer ≡ Running t → time < t.due → ◌≡◌ {A = StreamEvent × List ℕ} (Nothing, ws) (toldInto ws (polledOf r s time))
-  polled-early t e h = quiet (early t e h)
+  pub polled_early : (t : RequestTimer) → r.timer ≡ Running t → time < t.due → ◌≡◌ {A = StreamEvent × List ℕ} (Nothing, ws) (told_into ws (polled_of r s time))
+  polled_early t e h = quiet (early t e h)

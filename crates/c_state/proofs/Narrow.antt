@@ -9,45 +9,45 @@ use lib.Seq.{get_or-drop}
 use lib.Dec.{eqb, leb}
 use borrow.Author.Tests.{leb-true, not-false}
 use Rattle.config.specs.Range.{within, outside}
-use Rattle.config.specs.Settings.{checkOf}
+use Rattle.config.specs.Settings.{check_of}
 use Rattle.config.specs.inner.Tests.{and_left, and_right}
 use Rattle.config.specs.declared.answer.Outcome.{Outcome}
 use Rattle.config.specs.declared.answer.Outcome.TheVariants.{Done, Refused}
 use Rattle.config.specs.declared.settings.StreamConfig.{StreamConfig}
-use Rattle.packet.specs.Write.{valid_of as payloadValid}
+use Rattle.packet.specs.Write.{valid_of as payload_valid}
 use Rattle.packet.specs.declared.writer.PayloadWriter.{PayloadWriter}
-use Rattle.window.specs.Set.{maxWindow}
+use Rattle.window.specs.Set.{max_window}
 use Rattle.command.specs.declared.retransmit.RetransmitRequest.{RetransmitRequest}
 use Rattle.command.specs.declared.retransmit.RetransmitError.{RetransmitError}
 use Rattle.receiver.specs.Receiver.{taken_of}
 use Rattle.receiver.specs.declared.receiver.Receiver.{Receiver}
 use Rattle.receiver.specs.declared.receiver.Request.{Request}
 use Rattle.receiver.specs.declared.receiver.Request.TheVariants.{Nothing as NotDue, Written as Taken, More as NoSpace, Refused as NotTaken}
-use Rattle.sender.specs.State.{valid_of as senderValid}
+use Rattle.sender.specs.State.{valid_of as sender_valid}
 use Rattle.sender.specs.declared.sender.Sender.{Sender}
-use Rattle.stream.specs.State.{valid_of, fresh, withReceiver}
-use Rattle.stream.specs.Answers.{sizesOut, newAnswer, resetRefused, resetAnswer}
-use Rattle.stream.specs.Ends.{sendAnswer, requestAnswer, dataAnswer, errorAnswer, nakAnswer, pollAnswer, takeAnswer}
-use Rattle.stream.specs.Writing.{sentAfter, afterRequest, dataWritten, writeAnswer}
-use Rattle.stream.specs.Sending.{afterSend, sendAndWriteAnswer}
+use Rattle.stream.specs.State.{valid_of, fresh, with_receiver}
+use Rattle.stream.specs.Answers.{sizes_out, new_answer, reset_refused, reset_answer}
+use Rattle.stream.specs.Ends.{send_answer, request_answer, data_answer, error_answer, nak_answer, poll_answer, take_answer}
+use Rattle.stream.specs.Writing.{sent_after, after_request, data_written, write_answer}
+use Rattle.stream.specs.Sending.{after_send, send_and_write_answer}
 use Rattle.stream.specs.declared.stream.DataStream.{DataStream}
 use Rattle.stream.specs.declared.stream.Started.{Started}
 use Rattle.stream.specs.declared.stream.WasReset.{WasReset}
 use Rattle.stream.specs.declared.stream.Wrote.{Wrote}
-use Rattle.stream.proofs.Validity.{valid-sender}
-use Rattle.c_state.specs.Pack.{fourIn, twoIn}
-use Rattle.c_state.specs.Receiver.{NarrowReceiver, receiverOf}
-use Rattle.c_state.specs.Sender.{senderOf}
+use Rattle.stream.proofs.Validity.{valid_sender}
+use Rattle.c_state.specs.Pack.{four_in, two_in}
+use Rattle.c_state.specs.Receiver.{NarrowReceiver, receiver_of}
+use Rattle.c_state.specs.Sender.{sender_of}
 use Rattle.c_state.specs.Stream.{loaded}
 use Rattle.c_state.specs.Theorems.{NarrowStream, StaysNarrow, Wide}
-use Rattle.config.specs.inner.Choices.{or_left, or_right, by-check}
-use Rattle.c_state.proofs.Choices.{by-test, by_state, by-entry}
-use Rattle.c_state.proofs.ReceiverSizes.{data-size, poll-size, error-size, nak-size, take-size, taken-kept}
-use Rattle.c_state.proofs.SenderSizes.{valid-within, send-narrow, send-number, request-narrow, written-narrow}
+use Rattle.config.specs.inner.Choices.{or_left, or_right, by_check}
+use Rattle.c_state.proofs.Choices.{by_test, by_state, by_entry}
+use Rattle.c_state.proofs.ReceiverSizes.{data_size, poll_size, error_size, nak_size, take_size, taken_kept}
+use Rattle.c_state.proofs.SenderSizes.{valid_within, send_narrow, send_number, request_narrow, written_narrow}
 
 -- ---- a start
-fresh-narrow : (window words places : ℕ) → window < 65536 → words < 65536 → places < 256 → NarrowStream (fresh window words places)
-fresh-narrow window words places w h q = (
+fresh_narrow : (window words places : ℕ) → window < 65536 → words < 65536 → places < 256 → NarrowStream (fresh window words places)
+fresh_narrow window words places w h q = (
   w,
   record {
     size = h;
@@ -69,45 +69,45 @@ inside low high n e = leb-true n high (and_right (leb low n) _ (not-false (withi
 abbrev NarrowStarted : Started × List ℕ → Type 0
 NarrowStarted x = NarrowStream x.0.stream
 
-pub start-narrow : (cfg : StreamConfig) (window words places : ℕ) (ring : List ℕ) → NarrowStream (newAnswer cfg window words places ring).0.stream
-unfolding newAnswer
-start-narrow cfg window words places ring =
-    let none = fresh-narrow 0 0 0 (omega arith) (omega arith) (omega arith) in
-    by-check NarrowStarted (checkOf cfg) _ _ (λ _. none)
-    (λ _. by-test NarrowStarted (sizesOut window words places ring) _ _ none
+pub start_narrow : (cfg : StreamConfig) (window words places : ℕ) (ring : List ℕ) → NarrowStream (new_answer cfg window words places ring).0.stream
+unfolding new_answer
+start_narrow cfg window words places ring =
+    let none = fresh_narrow 0 0 0 (omega arith) (omega arith) (omega arith) in
+    by_check NarrowStarted (check_of cfg) _ _ (λ _. none)
+    (λ _. by_test NarrowStarted (sizes_out window words places ring) _ _ none
     (λ e.
-    let a = or_right (outside 1 maxWindow window) _ e in
+    let a = or_right (outside 1 max_window window) _ e in
     let b = or_right (outside 65 32768 words) _ a in
-    let w = inside 1 maxWindow window (or_left (outside 1 maxWindow window) _ e) in
+    let w = inside 1 max_window window (or_left (outside 1 max_window window) _ e) in
     let h = inside 65 32768 words (or_left (outside 65 32768 words) _ a) in
     let q = inside 1 16 places (or_right (not (eqb (length ring) words)) _ b) in
-    fresh-narrow window words places (omega arith) (omega arith) (omega arith)))
+    fresh_narrow window words places (omega arith) (omega arith) (omega arith)))
 
 -- ---- words that are loaded
 module _ (w : ℕ) where
-  four-narrow : ((fourIn w).a < 65536) × ((fourIn w).b < 65536) × ((fourIn w).c < 65536)
-  unfolding fourIn
-  four-narrow = (omega arith, omega arith, omega arith)
+  four_narrow : ((four_in w).a < 65536) × ((four_in w).b < 65536) × ((four_in w).c < 65536)
+  unfolding four_in
+  four_narrow = (omega arith, omega arith, omega arith)
 
-  last-narrow : w < 18446744073709551616 → (fourIn w).d < 65536
-  unfolding fourIn
-  last-narrow h = omega arith
+  last_narrow : w < 18446744073709551616 → (four_in w).d < 65536
+  unfolding four_in
+  last_narrow h = omega arith
 
-  low_narrow : (twoIn w).low < 256
-  unfolding twoIn
+  low_narrow : (two_in w).low < 256
+  unfolding two_in
   low_narrow = omega arith
 
-pub words-narrow : (ws : List ℕ) → Wide ws → NarrowStream (loaded ws) × ((loaded ws).sender.history.oldest < 65536)
-unfolding loaded receiverOf senderOf
-words-narrow ws wide =
+pub words_narrow : (ws : List ℕ) → Wide ws → NarrowStream (loaded ws) × ((loaded ws).sender.history.oldest < 65536)
+unfolding loaded receiver_of sender_of
+words_narrow ws wide =
     let part = drop 7 ws in
-    let none = four-narrow (get_or part 0 0) in
-    let one = four-narrow (get_or part 1 0) in
-    let two = four-narrow (get_or part 2 0) in
+    let none = four_narrow (get_or part 0 0) in
+    let one = four_narrow (get_or part 1 0) in
+    let two = four_narrow (get_or part 2 0) in
     let at_none : get_or part 0 0 < 18446744073709551616 = rw (get_or-drop 7 ws 0 0) (wide 7) in
     let at_one : get_or part 1 0 < 18446744073709551616 = rw (get_or-drop 7 ws 1 0) (wide 8) in (
       (
-        (four-narrow (get_or (take 7 ws) 5 0)).1,
+        (four_narrow (get_or (take 7 ws) 5 0)).1,
         record {
           size = one.1;
           head = none.0;
@@ -115,13 +115,13 @@ words-narrow ws wide =
           count = none.2;
           last = one.0;
           unsent = one.2;
-          words = last-narrow (get_or part 1 0) at_one;
+          words = last_narrow (get_or part 1 0) at_one;
           front = two.0;
           waiting = two.1;
-          places = low_narrow (fourIn (get_or part 2 0)).d;
+          places = low_narrow (four_in (get_or part 2 0)).d;
         },
       ),
-      last-narrow (get_or part 0 0) at_none,
+      last_narrow (get_or part 0 0) at_none,
     )
 
 -- ---- calls
@@ -133,58 +133,58 @@ module _ (d : DataStream) (n : NarrowStream d) (o : d.sender.history.oldest < 65
   same_size : (m : ℕ) → m ≡ d.receiver.window.size → m < 65536
   same_size m e = omega (arith, n.0)
 
-  reset-narrow : (ring : List ℕ) → NarrowStream (resetAnswer d ring).0.stream
-  unfolding resetAnswer
-  reset-narrow ring =
-      by_state (λ (x : WasReset × List ℕ). NarrowStream x.0.stream) (valid_of d ring) (resetRefused d ring) _ n
-      (λ _. fresh-narrow d.receiver.window.size d.sender.history.size d.sender.queue.size n.0 n.1.size n.1.places)
+  reset_narrow : (ring : List ℕ) → NarrowStream (reset_answer d ring).0.stream
+  unfolding reset_answer
+  reset_narrow ring =
+      by_state (λ (x : WasReset × List ℕ). NarrowStream x.0.stream) (valid_of d ring) (reset_refused d ring) _ n
+      (λ _. fresh_narrow d.receiver.window.size d.sender.history.size d.sender.queue.size n.0 n.1.size n.1.places)
 
   -- a write, after the request
-  module _ (cfg : StreamConfig) (time : ℕ) (ring : List ℕ) (v : senderValid d.sender ring ≡ true) where
-    sent-narrow : (k : ℕ) (r : Receiver) → NarrowReceiver r → (p : PayloadWriter) (b : List ℕ) → NarrowStream (sentAfter k (withReceiver d r) cfg time p b ring).0.stream
-    unfolding sentAfter
-    sent-narrow k r m p b = (m, written-narrow d.sender cfg time p b ring (valid-within d.sender ring v o n.1.last))
+  module _ (cfg : StreamConfig) (time : ℕ) (ring : List ℕ) (v : sender_valid d.sender ring ≡ true) where
+    sent_narrow : (k : ℕ) (r : Receiver) → NarrowReceiver r → (p : PayloadWriter) (b : List ℕ) → NarrowStream (sent_after k (with_receiver d r) cfg time p b ring).0.stream
+    unfolding sent_after
+    sent_narrow k r m p b = (m, written_narrow d.sender cfg time p b ring (valid_within d.sender ring v o n.1.last))
 
-    after-narrow : (q : Request) (r : Receiver) → NarrowReceiver r → (p : PayloadWriter) (b : List ℕ) → NarrowStream (afterRequest q (withReceiver d r) cfg time p b ring).0.stream
-    after-narrow (NotTaken why) r m p b = (m, n.1)
-    after-narrow NoSpace r m p b = (m, n.1)
-    after-narrow NotDue r m p b = sent-narrow 0 r m p b
-    after-narrow Taken r m p b = sent-narrow 1 r m p b
+    after_narrow : (q : Request) (r : Receiver) → NarrowReceiver r → (p : PayloadWriter) (b : List ℕ) → NarrowStream (after_request q (with_receiver d r) cfg time p b ring).0.stream
+    after_narrow (NotTaken why) r m p b = (m, n.1)
+    after_narrow NoSpace r m p b = (m, n.1)
+    after_narrow NotDue r m p b = sent_narrow 0 r m p b
+    after_narrow Taken r m p b = sent_narrow 1 r m p b
 
-  write-narrow : (cfg : StreamConfig) (time : ℕ) (p : PayloadWriter) (b ring : List ℕ) → NarrowStream (writeAnswer d cfg time p b ring).0.stream
-  unfolding writeAnswer dataWritten
-  write-narrow cfg time p b ring =
+  write_narrow : (cfg : StreamConfig) (time : ℕ) (p : PayloadWriter) (b ring : List ℕ) → NarrowStream (write_answer d cfg time p b ring).0.stream
+  unfolding write_answer data_written
+  write_narrow cfg time p b ring =
       let t = taken_of d.receiver cfg p b in
-      by-entry NarrowWrote (checkOf cfg) (valid_of d ring && payloadValid p (length b)) _ _ (λ _. n)
+      by_entry NarrowWrote (check_of cfg) (valid_of d ring && payload_valid p (length b)) _ _ (λ _. n)
       (λ _ e.
-      let v = valid-sender d ring (and_left (valid_of d ring) _ e) in
-      after-narrow cfg time ring v t.0.answer t.0.receiver (same_size _ (taken-kept d.receiver cfg p b)) t.0.payload t.1)
+      let v = valid_sender d ring (and_left (valid_of d ring) _ e) in
+      after_narrow cfg time ring v t.0.answer t.0.receiver (same_size _ (taken_kept d.receiver cfg p b)) t.0.payload t.1)
 
-  sent-stream : (cfg : StreamConfig) (ring ws : List ℕ) → NarrowStream (sendAnswer d cfg ring ws).0.stream × ((sendAnswer d cfg ring ws).0.stream.sender.history.oldest < 65536)
-  unfolding sendAnswer
-  sent-stream cfg ring ws = ((n.0, send-narrow d.sender ring n.1 o cfg ws), send-number d.sender ring o cfg ws)
+  sent_stream : (cfg : StreamConfig) (ring ws : List ℕ) → NarrowStream (send_answer d cfg ring ws).0.stream × ((send_answer d cfg ring ws).0.stream.sender.history.oldest < 65536)
+  unfolding send_answer
+  sent_stream cfg ring ws = ((n.0, send_narrow d.sender ring n.1 o cfg ws), send_number d.sender ring o cfg ws)
 
 -- queueing and a write
-both-narrow : (d : DataStream) → NarrowStream d → d.sender.history.oldest < 65536
-    → (cfg : StreamConfig) (time : ℕ) (ws : List ℕ) (p : PayloadWriter) (b ring : List ℕ) → NarrowStream (sendAndWriteAnswer d cfg time ws p b ring).0.stream
-unfolding sendAndWriteAnswer
-both-narrow d n o cfg time ws p b ring = by (sendAnswer d cfg ring ws).0.answer
+both_narrow : (d : DataStream) → NarrowStream d → d.sender.history.oldest < 65536
+    → (cfg : StreamConfig) (time : ℕ) (ws : List ℕ) (p : PayloadWriter) (b ring : List ℕ) → NarrowStream (send_and_write_answer d cfg time ws p b ring).0.stream
+unfolding send_and_write_answer
+both_narrow d n o cfg time ws p b ring = by (send_answer d cfg ring ws).0.answer
   where
-    by : (a : Outcome) → let e = sendAnswer d cfg ring ws in NarrowStream (afterSend a e.0.stream cfg time p b e.1).0.stream
-    by (Refused why) = (sent-stream d n o cfg ring ws).0
-    by Done = let k = sent-stream d n o cfg ring ws in write-narrow _ k.0 k.1 cfg time p b _
+    by : (a : Outcome) → let e = send_answer d cfg ring ws in NarrowStream (after_send a e.0.stream cfg time p b e.1).0.stream
+    by (Refused why) = (sent_stream d n o cfg ring ws).0
+    by Done = let k = sent_stream d n o cfg ring ws in write_narrow _ k.0 k.1 cfg time p b _
 
-pub stays-narrow : (d : DataStream) → NarrowStream d → d.sender.history.oldest < 65536 → StaysNarrow d
-unfolding requestAnswer dataAnswer errorAnswer nakAnswer pollAnswer takeAnswer
-stays-narrow d n o = record {
-  reset = reset-narrow d n o;
-  send = λ cfg ring ws. (sent-stream d n o cfg ring ws).0;
-  request = λ cfg ring r. (n.0, request-narrow d.sender ring n.1 cfg r);
-  hear = λ cfg time seq. (same_size d n o _ (data-size d.receiver cfg time seq), n.1);
-  error = λ e. (same_size d n o _ (error-size d.receiver e), n.1);
-  nak = (same_size d n o _ (nak-size d.receiver), n.1);
-  poll = λ cfg time. (same_size d n o _ (poll-size d.receiver cfg time), n.1);
-  take = λ cfg p b. (same_size d n o _ (take-size d.receiver cfg p b), n.1);
-  write = write-narrow d n o;
-  both = both-narrow d n o;
+pub stays_narrow : (d : DataStream) → NarrowStream d → d.sender.history.oldest < 65536 → StaysNarrow d
+unfolding request_answer data_answer error_answer nak_answer poll_answer take_answer
+stays_narrow d n o = record {
+  reset = reset_narrow d n o;
+  send = λ cfg ring ws. (sent_stream d n o cfg ring ws).0;
+  request = λ cfg ring r. (n.0, request_narrow d.sender ring n.1 cfg r);
+  hear = λ cfg time seq. (same_size d n o _ (data_size d.receiver cfg time seq), n.1);
+  error = λ e. (same_size d n o _ (error_size d.receiver e), n.1);
+  nak = (same_size d n o _ (nak_size d.receiver), n.1);
+  poll = λ cfg time. (same_size d n o _ (poll_size d.receiver cfg time), n.1);
+  take = λ cfg p b. (same_size d n o _ (take_size d.receiver cfg p b), n.1);
+  write = write_narrow d n o;
+  both = both_narrow d n o;
 }

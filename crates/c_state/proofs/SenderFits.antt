@@ -7,90 +7,90 @@ use native.Mathlib.Omega.{arith}
 use lib.ListN.{length, get_or, drop}
 use lib.Dec.{eqb}
 use borrow.Author.Tests.{le-leb}
-use Rattle.config.specs.Settings.{checkOf}
+use Rattle.config.specs.Settings.{check_of}
 use Rattle.config.specs.declared.settings.StreamConfig.{StreamConfig}
 use Rattle.command.specs.declared.retransmit.RetransmitRequest.{RetransmitRequest}
-use Rattle.packet.proofs.Splice.{length-spliced}
+use Rattle.packet.proofs.Splice.{length_spliced}
 use Rattle.idle.specs.declared.idle.IdleTimer.{IdleTimer}
 use Rattle.idle.specs.declared.idle.IdleTimer.TheVariants.{Off, Waiting}
 use Rattle.sender.specs.State.{valid_of}
-use Rattle.sender.specs.Requests.{notWritten, requestedOf}
-use Rattle.sender.specs.Answers.{requestRefused, requestAnswer}
+use Rattle.sender.specs.Requests.{not_written, requested_of}
+use Rattle.sender.specs.Answers.{request_refused, request_answer}
 use Rattle.sender.specs.declared.sender.Sender.{Sender}
 use Rattle.sender.specs.declared.sender.RequestHeard.{RequestHeard}
 use Rattle.c_answers.specs.Answers.{bit}
-use Rattle.c_state.specs.Pack.{fourIn, word, twoIn, pair, held}
-use Rattle.c_state.specs.Receiver.{receiverHolds}
-use Rattle.c_state.specs.Sender.{NarrowSender, idleIn, idleWords, figureWords, senderWords, senderOf, senderHolds}
-use Rattle.c_state.specs.Stream.{receiverFits, fits, senderIn, senderPart, withSender}
+use Rattle.c_state.specs.Pack.{four_in, word, two_in, pair, held}
+use Rattle.c_state.specs.Receiver.{receiver_holds}
+use Rattle.c_state.specs.Sender.{NarrowSender, idle_in, idle_words, figure_words, sender_words, sender_of, sender_holds}
+use Rattle.c_state.specs.Stream.{receiver_fits, fits, sender_in, sender_part, with_sender}
 use Rattle.c_state.specs.declared.sender_part.IdleWords.{IdleWords}
-use Rattle.c_state.proofs.Choices.{by-test, by-entry}
-use Rattle.c_state.proofs.Ends.{both-receiver, both-whole, receiver-stays}
-use Rattle.c_state.proofs.Packed.{four-word, two-pair, bit-back, bit-small}
-use Rattle.c_state.proofs.Parts.{rest-spliced}
-use Rattle.c_state.proofs.Senders.{length-sender}
-use Rattle.c_state.proofs.Streams.{sender-long, receiver-long, fits-sender}
+use Rattle.c_state.proofs.Choices.{by_test, by_entry}
+use Rattle.c_state.proofs.Ends.{both_receiver, both_whole, receiver_stays}
+use Rattle.c_state.proofs.Packed.{four_word, two_pair, bit_back, bit_small}
+use Rattle.c_state.proofs.Parts.{rest_spliced}
+use Rattle.c_state.proofs.Senders.{length_sender}
+use Rattle.c_state.proofs.Streams.{sender_long, receiver_long, fits_sender}
 
 -- ---- the idle timer
-idle-held : (i : IdleTimer) → let w = idleWords i in held w.on w.due w.interval w.step ≡ true
+idle_held : (i : IdleTimer) → let w = idle_words i in held w.on w.due w.interval w.step ≡ true
 unfolding held
-idle-held Off = refl
-idle-held (Waiting i) = refl
+idle_held Off = refl
+idle_held (Waiting i) = refl
 
-idle-in : (on : Bool) (due step interval : ℕ) → step < 65536 → (idleWords (idleIn on due step interval)).step < 65536
-idle-in true due step interval h = h
-idle-in false due step interval h = omega arith
+idle_in_lem : (on : Bool) (due step interval : ℕ) → step < 65536 → (idle_words (idle_in on due step interval)).step < 65536
+idle_in_lem true due step interval h = h
+idle_in_lem false due step interval h = omega arith
 
-third-narrow : (w : ℕ) → (fourIn w).c < 65536
-unfolding fourIn
-third-narrow w = omega arith
+third_narrow : (w : ℕ) → (four_in w).c < 65536
+unfolding four_in
+third_narrow w = omega arith
 
-loaded-step : (ws : List ℕ) → (idleWords (senderOf ws).idle).step < 65536
-unfolding senderOf
-loaded-step ws =
-    let q = fourIn (get_or ws 2 0) in
-    idle-in (eqb (twoIn q.d).high 1) (get_or ws 3 0) q.c (get_or ws 4 0) (third-narrow (get_or ws 2 0))
+loaded_step : (ws : List ℕ) → (idle_words (sender_of ws).idle).step < 65536
+unfolding sender_of
+loaded_step ws =
+    let q = four_in (get_or ws 2 0) in
+    idle_in_lem (eqb (two_in q.d).high 1) (get_or ws 3 0) q.c (get_or ws 4 0) (third_narrow (get_or ws 2 0))
 
 -- ---- a sender, stored
-module _ (s : Sender) (n : NarrowSender s) (step : (idleWords s.idle).step < 65536) where
+module _ (s : Sender) (n : NarrowSender s) (step : (idle_words s.idle).step < 65536) where
   abbrev i : IdleWords
-  i = idleWords s.idle
+  i = idle_words s.idle
 
-  third : fourIn (word s.queue.head s.queue.len i.step (pair s.queue.size (bit i.on)))
+  third : four_in (word s.queue.head s.queue.len i.step (pair s.queue.size (bit i.on)))
       ≡ record { a = s.queue.head; b = s.queue.len; c = i.step; d = pair s.queue.size (bit i.on) }
-  third = four-word _ _ _ _ n.front n.waiting step
+  third = four_word _ _ _ _ n.front n.waiting step
 
-  size-and-flag : twoIn (pair s.queue.size (bit i.on)) ≡ record { low = s.queue.size; high = bit i.on }
-  size-and-flag = two-pair _ _ n.places
+  size_and_flag : two_in (pair s.queue.size (bit i.on)) ≡ record { low = s.queue.size; high = bit i.on }
+  size_and_flag = two_pair _ _ n.places
 
-  holds : senderHolds (senderWords s) ≡ true
-  unfolding senderHolds senderWords figureWords
-  holds = rw (third, size-and-flag, bit-back i.on, le-leb (bit i.on) 1 (bit-small i.on), idle-held s.idle)
+  holds : sender_holds (sender_words s) ≡ true
+  unfolding sender_holds sender_words figure_words
+  holds = rw (third, size_and_flag, bit_back i.on, le-leb (bit i.on) 1 (bit_small i.on), idle_held s.idle)
 
 -- ---- a request
-requested-idle : (s : Sender) (ring : List ℕ) (cfg : StreamConfig) (r : RetransmitRequest) → (requestAnswer s cfg ring r).sender.idle ≡ s.idle
-unfolding requestAnswer requestedOf
-requested-idle s ring cfg r =
-    by-entry (λ (x : RequestHeard). x.sender.idle ≡ s.idle) (checkOf cfg) (valid_of s ring) _ _ (λ _. refl)
-    (λ _ _. by-test (λ (x : RequestHeard). x.sender.idle ≡ s.idle) (not cfg.retransmit) _ _ refl
-    (λ _. by-test (λ (x : RequestHeard). x.sender.idle ≡ s.idle) (notWritten s r.seq) _ _ refl (λ _. refl)))
+requested_idle : (s : Sender) (ring : List ℕ) (cfg : StreamConfig) (r : RetransmitRequest) → (request_answer s cfg ring r).sender.idle ≡ s.idle
+unfolding request_answer requested_of
+requested_idle s ring cfg r =
+    by_entry (λ (x : RequestHeard). x.sender.idle ≡ s.idle) (check_of cfg) (valid_of s ring) _ _ (λ _. refl)
+    (λ _ _. by_test (λ (x : RequestHeard). x.sender.idle ≡ s.idle) (not cfg.retransmit) _ _ refl
+    (λ _. by_test (λ (x : RequestHeard). x.sender.idle ≡ s.idle) (not_written s r.seq) _ _ refl (λ _. refl)))
 
 -- ---- the words
 module _ (st : List ℕ) (all : fits st ≡ true) where
-  with-fits : (s : Sender) → NarrowSender s → (idleWords s.idle).step < 65536 → fits (withSender st s) ≡ true
-  with-fits s n step =
-      let l = both-whole st all in
-      let k = length-sender s in
-      let m : length (withSender st s) ≡ 20 = length-spliced st 7 (senderWords s) (omega arith) ∙ l in
-      let part : senderPart (withSender st s) ≡ senderWords s = rest-spliced st (senderWords s) 7 (omega arith) (omega arith) in
-      let front : receiverFits (withSender st s) ≡ true
-      = sym (receiver-long (withSender st s) m) ∙ ap receiverHolds (receiver-stays st l s) ∙ receiver-long st l ∙ both-receiver st all in
-      sym (fits-sender (withSender st s) front)
-      ∙ sym (sender-long (withSender st s) m)
-      ∙ ap senderHolds part
+  with_fits : (s : Sender) → NarrowSender s → (idle_words s.idle).step < 65536 → fits (with_sender st s) ≡ true
+  with_fits s n step =
+      let l = both_whole st all in
+      let k = length_sender s in
+      let m : length (with_sender st s) ≡ 20 = length_spliced st 7 (sender_words s) (omega arith) ∙ l in
+      let part : sender_part (with_sender st s) ≡ sender_words s = rest_spliced st (sender_words s) 7 (omega arith) (omega arith) in
+      let front : receiver_fits (with_sender st s) ≡ true
+      = sym (receiver_long (with_sender st s) m) ∙ ap receiver_holds (receiver_stays st l s) ∙ receiver_long st l ∙ both_receiver st all in
+      sym (fits_sender (with_sender st s) front)
+      ∙ sym (sender_long (with_sender st s) m)
+      ∙ ap sender_holds part
       ∙ holds s n step
 
-  pub request-fits : (cfg : StreamConfig) (ring : List ℕ) (r : RetransmitRequest) → let s = (requestAnswer (senderIn st) cfg ring r).sender in NarrowSender s → fits (withSender st s) ≡ true
-  request-fits cfg ring r n =
-      let e = requested-idle (senderIn st) ring cfg r in
-      with-fits _ n (rw e (loaded-step (drop 7 st)))
+  pub request_fits : (cfg : StreamConfig) (ring : List ℕ) (r : RetransmitRequest) → let s = (request_answer (sender_in st) cfg ring r).sender in NarrowSender s → fits (with_sender st s) ≡ true
+  request_fits cfg ring r n =
+      let e = requested_idle (sender_in st) ring cfg r in
+      with_fits _ n (rw e (loaded_step (drop 7 st)))

@@ -6,7 +6,7 @@ use Rattle.receiver.specs.declared.receiver.Timer.{Timer}
 use Rattle.receiver.specs.declared.receiver.Timer.TheVariants.{Stopped, Running}
 use Rattle.receiver.specs.declared.receiver.Asked.{Asked}
 use Rattle.receiver.specs.declared.receiver.Asked.TheVariants.{Nothing, Request}
-use Rattle.c_state.specs.Pack.{fourIn, word, twoIn, pair, flagsIn, flagsNumber, held}
+use Rattle.c_state.specs.Pack.{four_in, word, two_in, pair, flags_in, flags_number, held}
 use Rattle.c_state.specs.declared.receiver_part.TimerWords.{TimerWords}
 use Rattle.c_state.specs.declared.receiver_part.AskedWords.{AskedWords}
 
@@ -14,65 +14,65 @@ abbrev pub at : List ℕ → ℕ → ℕ
 at ws k = get_or ws k 0
 
 -- ---- into the words
-abbrev pub timerWords : Timer → TimerWords
-timerWords Stopped = record { on = false; due = 0; sent = 0 }
-timerWords (Running t) = record { on = true; due = t.due; sent = t.sent }
+abbrev pub timer_words : Timer → TimerWords
+timer_words Stopped = record { on = false; due = 0; sent = 0 }
+timer_words (Running t) = record { on = true; due = t.due; sent = t.sent }
 
-abbrev pub askedWords : Asked → AskedWords
-askedWords Nothing = record { on = false; seq = 0; count = 0 }
-askedWords (Request r) = record { on = true; seq = r.seq; count = r.count }
+abbrev pub asked_words : Asked → AskedWords
+asked_words Nothing = record { on = false; seq = 0; count = 0 }
+asked_words (Request r) = record { on = true; seq = r.seq; count = r.count }
 
 -- the set has two words, and room for two more
-unfoldable pub receiverWords : Receiver → List ℕ
-receiverWords r =
+unfoldable pub receiver_words : Receiver → List ℕ
+receiver_words r =
     let w = r.window in
-    let t = timerWords r.timer in
-    let a = askedWords r.asked in
+    let t = timer_words r.timer in
+    let a = asked_words r.asked in
     w.bits.low ∷ w.bits.high ∷ 0 ∷ 0
     ∷ t.due
     ∷ word w.highest w.size a.seq a.count
-    ∷ pair t.sent (flagsNumber record { timer = t.on; request_due = r.request_due; refused = r.refused; asked = a.on })
+    ∷ pair t.sent (flags_number record { timer = t.on; request_due = r.request_due; refused = r.refused; asked = a.on })
     ∷ []
 
 -- a receiver whose window alone is new
-abbrev pub withWindow : Receiver → ReceiveWindow → Receiver
-withWindow r w = record { window = w; timer = r.timer; request_due = r.request_due; refused = r.refused; asked = r.asked }
+abbrev pub with_window : Receiver → ReceiveWindow → Receiver
+with_window r w = record { window = w; timer = r.timer; request_due = r.request_due; refused = r.refused; asked = r.asked }
 
 -- the one figure whose type is wider than its place
 abbrev pub NarrowReceiver : Receiver → Type 0
 NarrowReceiver r = r.window.size < 65536
 
 -- ---- from the words
-abbrev pub timerIn : Bool → ℕ → ℕ → Timer
-timerIn on due sent = cond on (Running record { due = due; sent = sent }) Stopped
+abbrev pub timer_in : Bool → ℕ → ℕ → Timer
+timer_in on due sent = cond on (Running record { due = due; sent = sent }) Stopped
 
-abbrev pub askedIn : Bool → ℕ → ℕ → Asked
-askedIn on seq count = cond on (Request record { seq = seq; count = count }) Nothing
+abbrev pub asked_in : Bool → ℕ → ℕ → Asked
+asked_in on seq count = cond on (Request record { seq = seq; count = count }) Nothing
 
-unfoldable pub receiverOf : List ℕ → Receiver
-receiverOf ws =
-    let q = fourIn (at ws 5) in
-    let s = twoIn (at ws 6) in
-    let f = flagsIn s.high in
+unfoldable pub receiver_of : List ℕ → Receiver
+receiver_of ws =
+    let q = four_in (at ws 5) in
+    let s = two_in (at ws 6) in
+    let f = flags_in s.high in
     record {
       window = record { size = q.b; highest = q.a; bits = record { low = at ws 0; high = at ws 1 } };
-      timer = timerIn f.timer (at ws 4) s.low;
+      timer = timer_in f.timer (at ws 4) s.low;
       request_due = f.request_due;
       refused = f.refused;
-      asked = askedIn f.asked q.c q.d;
+      asked = asked_in f.asked q.c q.d;
     }
 
 -- ---- which words are a receiver's
 -- the set's upper words are 0, there are four flags, and figures stand beside a flag that is set: the request's,
-unfoldable pub holdsButTimer : List ℕ → Bool
-holdsButTimer ws =
-    let q = fourIn (at ws 5) in
-    let f = flagsIn (twoIn (at ws 6)).high in
+unfoldable pub holds_but_timer : List ℕ → Bool
+holds_but_timer ws =
+    let q = four_in (at ws 5) in
+    let f = flags_in (two_in (at ws 6)).high in
     eqb (at ws 2) 0
     && (eqb (at ws 3) 0
     && (leb (at ws 6) 4095
     && held f.asked q.c q.d 0))
 
 -- and the timer's
-unfoldable pub receiverHolds : List ℕ → Bool
-receiverHolds ws = let s = twoIn (at ws 6) in holdsButTimer ws && held (flagsIn s.high).timer (at ws 4) s.low 0
+unfoldable pub receiver_holds : List ℕ → Bool
+receiver_holds ws = let s = two_in (at ws 6) in holds_but_timer ws && held (flags_in s.high).timer (at ws 4) s.low 0

@@ -9,20 +9,20 @@ use Rattle.sender.specs.declared.sender.Sender.{Sender}
 use Rattle.idle.specs.declared.idle.IdleTimer.{IdleTimer}
 use Rattle.idle.specs.declared.idle.IdleTimer.TheVariants.{Off, Waiting}
 use Rattle.c_answers.specs.Answers.{bit}
-use Rattle.c_state.specs.Pack.{fourIn, word, twoIn, pair, held}
+use Rattle.c_state.specs.Pack.{four_in, word, two_in, pair, held}
 use Rattle.c_state.specs.Receiver.{at}
 use Rattle.c_state.specs.declared.sender_part.IdleWords.{IdleWords}
 
 -- ---- into the words
-abbrev pub idleWords : IdleTimer → IdleWords
-idleWords Off = record { on = false; due = 0; step = 0; interval = 0 }
-idleWords (Waiting i) = record { on = true; due = i.due; step = i.step; interval = i.interval }
+abbrev pub idle_words : IdleTimer → IdleWords
+idle_words Off = record { on = false; due = 0; step = 0; interval = 0 }
+idle_words (Waiting i) = record { on = true; due = i.due; step = i.step; interval = i.interval }
 
-unfoldable pub figureWords : Sender → List ℕ
-figureWords s =
+unfoldable pub figure_words : Sender → List ℕ
+figure_words s =
     let h = s.history in
     let q = s.queue in
-    let i = idleWords s.idle in
+    let i = idle_words s.idle in
     word h.head h.used h.count h.oldest
     ∷ word h.last h.size s.unsent s.unsent_words
     ∷ word q.head q.len i.step (pair q.size (bit i.on))
@@ -30,16 +30,16 @@ figureWords s =
     ∷ []
 
 -- the word of two requests
-abbrev pub bothIn : RetransmitRequest → RetransmitRequest → ℕ
-bothIn r s = word r.seq r.count s.seq s.count
+abbrev pub both_in : RetransmitRequest → RetransmitRequest → ℕ
+both_in r s = word r.seq r.count s.seq s.count
 
 -- n words of requests
-unfoldable pub requestWords : ℕ → List RetransmitRequest → List ℕ
-requestWords zero rs = []
-requestWords (suc n) rs = bothIn (get_or rs 0 blank) (get_or rs 1 blank) ∷ requestWords n (drop 2 rs)
+unfoldable pub request_words : ℕ → List RetransmitRequest → List ℕ
+request_words zero rs = []
+request_words (suc n) rs = both_in (get_or rs 0 blank) (get_or rs 1 blank) ∷ request_words n (drop 2 rs)
 
-unfoldable pub senderWords : Sender → List ℕ
-senderWords s = figureWords s ++ requestWords 8 s.queue.items
+unfoldable pub sender_words : Sender → List ℕ
+sender_words s = figure_words s ++ request_words 8 s.queue.items
 
 -- the figures whose types are wider than their places
 pub record NarrowSender (s : Sender) : Type 0 where
@@ -55,45 +55,45 @@ pub record NarrowSender (s : Sender) : Type 0 where
   pub places : s.queue.size < 256
 
 -- ---- from the words
-abbrev pub historyIn : List ℕ → SendHistory
-historyIn ws =
-    let r = fourIn (at ws 0) in
-    let n = fourIn (at ws 1) in
+abbrev pub history_in : List ℕ → SendHistory
+history_in ws =
+    let r = four_in (at ws 0) in
+    let n = four_in (at ws 1) in
     record { size = n.b; head = r.a; used = r.b; count = r.c; oldest = r.d; last = n.a }
 
 -- the two requests of a word
-unfoldable pub firstIn : ℕ → RetransmitRequest
-firstIn w = let q = fourIn w in record { seq = q.a; count = q.b }
+unfoldable pub first_in : ℕ → RetransmitRequest
+first_in w = let q = four_in w in record { seq = q.a; count = q.b }
 
-unfoldable pub secondIn : ℕ → RetransmitRequest
-secondIn w = let q = fourIn w in record { seq = q.c; count = q.d }
+unfoldable pub second_in : ℕ → RetransmitRequest
+second_in w = let q = four_in w in record { seq = q.c; count = q.d }
 
-unfoldable pub requestsIn : List ℕ → List RetransmitRequest
-requestsIn [] = []
-requestsIn (w ∷ ws) = firstIn w ∷ secondIn w ∷ requestsIn ws
+unfoldable pub requests_in : List ℕ → List RetransmitRequest
+requests_in [] = []
+requests_in (w ∷ ws) = first_in w ∷ second_in w ∷ requests_in ws
 
-abbrev pub queueIn : List ℕ → RetransmitQueue
-queueIn ws = let q = fourIn (at ws 2) in record { items = requestsIn (drop 5 ws); head = q.a; len = q.b; size = (twoIn q.d).low }
+abbrev pub queue_in : List ℕ → RetransmitQueue
+queue_in ws = let q = four_in (at ws 2) in record { items = requests_in (drop 5 ws); head = q.a; len = q.b; size = (two_in q.d).low }
 
-abbrev pub idleIn : Bool → ℕ → ℕ → ℕ → IdleTimer
-idleIn on due step interval = cond on (Waiting record { due = due; step = step; interval = interval }) Off
+abbrev pub idle_in : Bool → ℕ → ℕ → ℕ → IdleTimer
+idle_in on due step interval = cond on (Waiting record { due = due; step = step; interval = interval }) Off
 
-unfoldable pub senderOf : List ℕ → Sender
-senderOf ws =
-    let n = fourIn (at ws 1) in
-    let q = fourIn (at ws 2) in
+unfoldable pub sender_of : List ℕ → Sender
+sender_of ws =
+    let n = four_in (at ws 1) in
+    let q = four_in (at ws 2) in
     record {
-      history = historyIn ws;
-      queue = queueIn ws;
+      history = history_in ws;
+      queue = queue_in ws;
       unsent = n.c;
       unsent_words = n.d;
-      idle = idleIn (eqb (twoIn q.d).high 1) (at ws 3) q.c (at ws 4);
+      idle = idle_in (eqb (two_in q.d).high 1) (at ws 3) q.c (at ws 4);
     }
 
 -- ---- which words are a sender's
 -- there is one flag, and figures stand beside it where it is set
-unfoldable pub senderHolds : List ℕ → Bool
-senderHolds ws =
-    let q = fourIn (at ws 2) in
-    let on = (twoIn q.d).high in
+unfoldable pub sender_holds : List ℕ → Bool
+sender_holds ws =
+    let q = four_in (at ws 2) in
+    let on = (two_in q.d).high in
     leb on 1 && held (eqb on 1) (at ws 3) (at ws 4) q.c

@@ -2,7 +2,7 @@
 //
 //     | d | c | b | a |     16 bits each
 ghost use Rattle.std.specs.Prelude.{◌≡◌};
-ghost use Rattle.c_state.specs.Pack.{fourIn, word as word_of, twoIn, pair as pair_of, flagsIn, flagsNumber, held as held_of};
+ghost use Rattle.c_state.specs.Pack.{four_in, word as word_of, two_in, pair as pair_of, flags_in, flags_number, held as held_of};
 
 #[derive(Drop)]
 pub struct Quarters {
@@ -14,7 +14,7 @@ pub struct Quarters {
 
 // The four figures of a word.
 pub fn four(w: u64) -> Quarters
-    ensures { result ≡ fourIn w }
+    ensures { result ≡ four_in w }
 {
     Quarters {
         a: (w % 0x1_0000) as u16,
@@ -42,7 +42,7 @@ pub struct Halves {
 
 // The two figures of 16 bits.
 pub fn two(n: u16) -> Halves
-    ensures { result ≡ twoIn n }
+    ensures { result ≡ two_in n }
 {
     Halves {
         low: (n % 0x100) as u8,
@@ -68,7 +68,7 @@ pub struct Flags {
 
 // The flags of a number, the first lowest.
 pub fn flags_in(n: u8) -> Flags
-    ensures { result ≡ flagsIn n }
+    ensures { result ≡ flags_in n }
 {
     Flags {
         timer: n % 2 == 1,
@@ -80,7 +80,7 @@ pub fn flags_in(n: u8) -> Flags
 
 // The number that flags make.
 pub fn number(f: Flags) -> u8
-    ensures { result ≡ flagsNumber f }
+    ensures { result ≡ flags_number f }
 {
     (f.timer as u8) + (f.request_due as u8) * 2 + (f.refused as u8) * 4 + (f.asked as u8) * 8
 }

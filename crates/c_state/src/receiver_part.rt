@@ -1,7 +1,7 @@
 // The words of a receiver.
 ghost use Rattle.std.specs.Prelude.{◌≡◌, true, ◌&&◌, ◌<◌, ◌≤◌, length, get_or};
-ghost use Rattle.c_state.specs.Receiver.{holdsButTimer, receiverHolds, receiverOf, receiverWords, withWindow, timerIn, askedIn, timerWords, askedWords};
-ghost use Rattle.c_state.specs.Receiving.{notDue};
+ghost use Rattle.c_state.specs.Receiver.{holds_but_timer, receiver_holds, receiver_of, receiver_words, with_window, timer_in, asked_in, timer_words, asked_words};
+ghost use Rattle.c_state.specs.Receiving.{not_due};
 
 use super::pack::{Flags, flags_in, four, held, number, pair, two, word};
 use command::retransmit::RetransmitRequest;
@@ -35,7 +35,7 @@ const ASKED: u64 = 0x1_0000_0000;
 // Whether the words are some receiver's, but for the figures of the timer.
 fn fits_but_timer(words: &[u64]) -> bool
     requires { length words.now ≡ 7 }
-    ensures { result ≡ holdsButTimer words.now }
+    ensures { result ≡ holds_but_timer words.now }
 {
     if words[UPPER] | words[TOP] != 0 {
         return false;
@@ -51,7 +51,7 @@ fn fits_but_timer(words: &[u64]) -> bool
 // Whether the words are some receiver's.
 pub fn fits(words: &[u64]) -> bool
     requires { length words.now ≡ 7 }
-    ensures { result ≡ receiverHolds words.now }
+    ensures { result ≡ receiver_holds words.now }
 {
     if fits_but_timer(words) {
         let small = two(words[SMALL] as u16);
@@ -64,7 +64,7 @@ pub fn fits(words: &[u64]) -> bool
 // Whether the words are some receiver's, and a poll at this time leaves its timer as it is.
 pub fn rests(time: u64, words: &[u64]) -> bool
     requires { length words.now ≡ 7 }
-    ensures { result ≡ receiverHolds words.now && notDue (receiverOf words.now).timer time }
+    ensures { result ≡ receiver_holds words.now && not_due (receiver_of words.now).timer time }
 {
     if fits_but_timer(words) {
         let small = two(words[SMALL] as u16);
@@ -79,7 +79,7 @@ pub fn rests(time: u64, words: &[u64]) -> bool
 
 // The request timer.
 fn timer_in(on: bool, due: u64, sent: u8) -> Timer
-    ensures { result ≡ timerIn on due sent }
+    ensures { result ≡ timer_in on due sent }
 {
     if on {
         return Timer::Running(RequestTimer { due, sent });
@@ -89,7 +89,7 @@ fn timer_in(on: bool, due: u64, sent: u8) -> Timer
 
 // The request that has no answer yet.
 fn asked_in(on: bool, seq: u16, count: u16) -> Asked
-    ensures { result ≡ askedIn on seq count }
+    ensures { result ≡ asked_in on seq count }
 {
     if on {
         return Asked::Request(RetransmitRequest { seq, count });
@@ -100,7 +100,7 @@ fn asked_in(on: bool, seq: u16, count: u16) -> Asked
 // The window of the words.
 pub fn window_in(words: &[u64]) -> ReceiveWindow
     requires { length words.now ≡ 7 }
-    ensures { result ≡ (receiverOf words.now).window }
+    ensures { result ≡ (receiver_of words.now).window }
 {
     let figures = four(words[FIGURES]);
     ReceiveWindow {
@@ -116,7 +116,7 @@ pub fn window_in(words: &[u64]) -> ReceiveWindow
 // The receiver of words that fit.
 pub fn load(words: &[u64]) -> Receiver
     requires { (length words.now ≡ 7) × (get_or words.now 6 0 ≤ 4095) }
-    ensures { result ≡ receiverOf words.now }
+    ensures { result ≡ receiver_of words.now }
 {
     let figures = four(words[FIGURES]);
     let small = two(words[SMALL] as u16);
@@ -139,7 +139,7 @@ struct TimerWords {
 }
 
 fn timer_words(timer: Timer) -> TimerWords
-    ensures { result ≡ timerWords timer }
+    ensures { result ≡ timer_words timer }
 {
     match timer {
         Timer::Stopped => TimerWords {
@@ -164,7 +164,7 @@ struct AskedWords {
 }
 
 fn asked_words(asked: Asked) -> AskedWords
-    ensures { result ≡ askedWords asked }
+    ensures { result ≡ asked_words asked }
 {
     match asked {
         Asked::Nothing => AskedWords {
@@ -183,7 +183,7 @@ fn asked_words(asked: Asked) -> AskedWords
 // The words of a receiver.
 pub fn words_of(receiver: Receiver) -> [u64; 7]
     requires { receiver.window.size < 65536 }
-    ensures { result ≡ receiverWords receiver }
+    ensures { result ≡ receiver_words receiver }
 {
     let window = receiver.window;
     let bits = window.bits;
@@ -210,8 +210,8 @@ pub fn words_of(receiver: Receiver) -> [u64; 7]
 
 // The words of a receiver with another window.
 pub fn with_window(window: ReceiveWindow, words: &[u64]) -> [u64; 7]
-    requires { (length words.now ≡ 7) × (receiverHolds words.now ≡ true) × (window.size < 65536) }
-    ensures { result ≡ receiverWords (withWindow (receiverOf words.now) window) }
+    requires { (length words.now ≡ 7) × (receiver_holds words.now ≡ true) × (window.size < 65536) }
+    ensures { result ≡ receiver_words (with_window (receiver_of words.now) window) }
 {
     let figures = four(words[FIGURES]);
     let bits = window.bits;

@@ -1,15 +1,15 @@
 // A receiver's calls on its words. A call that changes nothing stores nothing.
 ghost use Rattle.std.specs.Prelude.{◌≡◌, true, false, length};
-ghost use Rattle.config.specs.Settings.{checkOf};
+ghost use Rattle.config.specs.Settings.{check_of};
 ghost use Rattle.config.specs.Range.{within};
 ghost use Rattle.config.specs.Sequence.{ahead};
 ghost use Rattle.config.specs.declared.answer.Outcome.TheVariants.{Done};
 ghost use Rattle.window.specs.Window.{Valid};
-ghost use Rattle.window.specs.Arrival.{reach, inOrder};
-ghost use Rattle.receiver.specs.Receiver.{valid_of, rest_of, settled_of, heardOf, polledOf, polledAt};
-ghost use Rattle.receiver.specs.Answers.{dataAnswer, pollAnswer};
-ghost use Rattle.c_state.specs.Stream.{receiverFits, receiverIn, withReceiver};
-ghost use Rattle.c_state.specs.Receiving.{startsTimer, keptOf, heardInto, toldInto, waitsOf};
+ghost use Rattle.window.specs.Arrival.{reach, in_order};
+ghost use Rattle.receiver.specs.Receiver.{valid_of, rest_of, settled_of, heard_of, polled_of, polled_at};
+ghost use Rattle.receiver.specs.Answers.{data_answer, poll_answer};
+ghost use Rattle.c_state.specs.Stream.{receiver_fits, receiver_in, with_receiver};
+ghost use Rattle.c_state.specs.Receiving.{starts_timer, kept_of, heard_into, told_into, waits_of};
 
 use super::receiver_part::{RECEIVER_WORDS, rests, window_in};
 use super::state::{WORDS, receiver_in, store_receiver, store_rest, store_window};
@@ -58,7 +58,7 @@ fn at_rest(r: Receiver, window: ReceiveWindow) -> bool
 
 // Whether a number of this class starts the timer.
 fn starts_timer(r: Receiver, cfg: StreamConfig, class: Class) -> bool
-    ensures { result ≡ startsTimer r cfg class }
+    ensures { result ≡ starts_timer r cfg class }
 {
     if receiver::tested::is_gap(class) {
         if receiver::tested::enabled(r, cfg) {
@@ -78,8 +78,8 @@ fn settle(
     class: Class,
     words: &mut [u64],
 )
-    requires { (receiverFits words.old ≡ true) × (r ≡ receiverIn words.old) × Valid window }
-    ensures { words.new ≡ withReceiver words.old (settled_of r cfg time window class) }
+    requires { (receiver_fits words.old ≡ true) × (r ≡ receiver_in words.old) × Valid window }
+    ensures { words.new ≡ with_receiver words.old (settled_of r cfg time window class) }
 {
     if window::tested::complete(window) {
         store_rest(r.refused, window, words);
@@ -105,8 +105,8 @@ fn settle(
 
 // Stores what a number that starts no timer leaves.
 fn settle_behind(r: Receiver, window: ReceiveWindow, words: &mut [u64])
-    requires { (receiverFits words.old ≡ true) × (r ≡ receiverIn words.old) × Valid window }
-    ensures { words.new ≡ withReceiver words.old (keptOf r window) }
+    requires { (receiver_fits words.old ≡ true) × (r ≡ receiver_in words.old) × Valid window }
+    ensures { words.new ≡ with_receiver words.old (kept_of r window) }
 {
     if window::tested::complete(window) {
         if at_rest(r, window) {
@@ -124,8 +124,8 @@ fn settle_behind(r: Receiver, window: ReceiveWindow, words: &mut [u64])
 
 // A data command arrives: the next number, with nothing missing before it.
 fn hear_next(r: Receiver, cfg: StreamConfig, time: u64, seq: SeqNum, words: &mut [u64]) -> Hearing
-    requires { (receiverFits words.old ≡ true) × (r ≡ receiverIn words.old) × (valid_of r ≡ true) × (inOrder r.window seq ≡ true) }
-    ensures { (result, words.new) ≡ heardInto words.old (heardOf r cfg time seq) }
+    requires { (receiver_fits words.old ≡ true) × (r ≡ receiver_in words.old) × (valid_of r ≡ true) × (in_order r.window seq ≡ true) }
+    ensures { (result, words.new) ≡ heard_into words.old (heard_of r cfg time seq) }
 {
     let before = r.window;
     let taken = window::arrival::accept_next(before, seq);
@@ -143,8 +143,8 @@ fn hear_next(r: Receiver, cfg: StreamConfig, time: u64, seq: SeqNum, words: &mut
 
 // A data command arrives: a number ahead.
 fn hear_ahead(r: Receiver, cfg: StreamConfig, time: u64, seq: SeqNum, words: &mut [u64]) -> Hearing
-    requires { (receiverFits words.old ≡ true) × (r ≡ receiverIn words.old) × (valid_of r ≡ true) × (within 1 reach (ahead r.window.highest seq) ≡ true) }
-    ensures { (result, words.new) ≡ heardInto words.old (heardOf r cfg time seq) }
+    requires { (receiver_fits words.old ≡ true) × (r ≡ receiver_in words.old) × (valid_of r ≡ true) × (within 1 reach (ahead r.window.highest seq) ≡ true) }
+    ensures { (result, words.new) ≡ heard_into words.old (heard_of r cfg time seq) }
 {
     let before = r.window;
     let lost = window::arrival::lost_to(before, seq);
@@ -161,8 +161,8 @@ fn hear_ahead(r: Receiver, cfg: StreamConfig, time: u64, seq: SeqNum, words: &mu
 
 // A data command arrives: a number that is not ahead.
 fn hear_behind(r: Receiver, cfg: StreamConfig, time: u64, seq: SeqNum, words: &mut [u64]) -> Hearing
-    requires { (receiverFits words.old ≡ true) × (r ≡ receiverIn words.old) × (valid_of r ≡ true) × (within 1 reach (ahead r.window.highest seq) ≡ false) }
-    ensures { (result, words.new) ≡ heardInto words.old (heardOf r cfg time seq) }
+    requires { (receiver_fits words.old ≡ true) × (r ≡ receiver_in words.old) × (valid_of r ≡ true) × (within 1 reach (ahead r.window.highest seq) ≡ false) }
+    ensures { (result, words.new) ≡ heard_into words.old (heard_of r cfg time seq) }
 {
     let before = r.window;
     let taken = window::arrival::accept_behind(before, seq);
@@ -180,8 +180,8 @@ fn hear_behind(r: Receiver, cfg: StreamConfig, time: u64, seq: SeqNum, words: &m
 
 // A data command arrives, at a receiver that was tested.
 fn hear_valid(r: Receiver, cfg: StreamConfig, time: u64, seq: SeqNum, words: &mut [u64]) -> Hearing
-    requires { (receiverFits words.old ≡ true) × (r ≡ receiverIn words.old) × (valid_of r ≡ true) }
-    ensures { (result, words.new) ≡ heardInto words.old (heardOf r cfg time seq) }
+    requires { (receiver_fits words.old ≡ true) × (r ≡ receiver_in words.old) × (valid_of r ≡ true) }
+    ensures { (result, words.new) ≡ heard_into words.old (heard_of r cfg time seq) }
 {
     let before = r.window;
     if window::arrival::in_order(before, seq) {
@@ -195,8 +195,8 @@ fn hear_valid(r: Receiver, cfg: StreamConfig, time: u64, seq: SeqNum, words: &mu
 
 // A data command arrives.
 pub fn hear(cfg: StreamConfig, time: u64, seq: SeqNum, words: &mut [u64]) -> Hearing
-    requires { (receiverFits words.old ≡ true) × (checkOf cfg ≡ Done) }
-    ensures { (result, words.new) ≡ heardInto words.old (dataAnswer (receiverIn words.old) cfg time seq) }
+    requires { (receiver_fits words.old ≡ true) × (check_of cfg ≡ Done) }
+    ensures { (result, words.new) ≡ heard_into words.old (data_answer (receiver_in words.old) cfg time seq) }
 {
     let before = receiver_in(&words[..]);
     if receiver::tested::is_valid(before) {
@@ -213,8 +213,8 @@ fn poll_running(
     t: RequestTimer,
     words: &mut [u64],
 ) -> StreamEvent
-    requires { (receiverFits words.old ≡ true) × (r ≡ receiverIn words.old) × (valid_of r ≡ true) × (r.timer ≡ Timer.Running t) }
-    ensures { (result, words.new) ≡ toldInto words.old (polledOf r cfg time) }
+    requires { (receiver_fits words.old ≡ true) × (r ≡ receiver_in words.old) × (valid_of r ≡ true) × (r.timer ≡ Timer.Running t) }
+    ensures { (result, words.new) ≡ told_into words.old (polled_of r cfg time) }
 {
     if time < t.due {
         return StreamEvent::Nothing;
@@ -228,8 +228,8 @@ fn poll_running(
 
 // Runs the timer of a receiver that was tested.
 fn poll_valid(r: Receiver, cfg: StreamConfig, time: u64, words: &mut [u64]) -> StreamEvent
-    requires { (receiverFits words.old ≡ true) × (r ≡ receiverIn words.old) × (valid_of r ≡ true) }
-    ensures { (result, words.new) ≡ toldInto words.old (polledOf r cfg time) }
+    requires { (receiver_fits words.old ≡ true) × (r ≡ receiver_in words.old) × (valid_of r ≡ true) }
+    ensures { (result, words.new) ≡ told_into words.old (polled_of r cfg time) }
 {
     let timer = r.timer;
     match timer {
@@ -240,8 +240,8 @@ fn poll_valid(r: Receiver, cfg: StreamConfig, time: u64, words: &mut [u64]) -> S
 
 // Runs the timer.
 pub fn poll(cfg: StreamConfig, time: u64, words: &mut [u64]) -> StreamEvent
-    requires { (receiverFits words.old ≡ true) × (checkOf cfg ≡ Done) }
-    ensures { (result, words.new) ≡ toldInto words.old (pollAnswer (receiverIn words.old) cfg time) }
+    requires { (receiver_fits words.old ≡ true) × (check_of cfg ≡ Done) }
+    ensures { (result, words.new) ≡ told_into words.old (poll_answer (receiver_in words.old) cfg time) }
 {
     let before = receiver_in(&words[..]);
     if receiver::tested::is_valid(before) {
@@ -252,7 +252,7 @@ pub fn poll(cfg: StreamConfig, time: u64, words: &mut [u64]) -> StreamEvent
 
 // Whether the words are a receiver's that was tested, and a poll at this time leaves it as it is.
 pub fn waits(time: u64, words: &[u64]) -> bool
-    ensures { result ≡ waitsOf time words.now }
+    ensures { result ≡ waits_of time words.now }
 {
     if words.len() != WORDS {
         return false;

@@ -1,6 +1,6 @@
 // The words of a sender.
 ghost use Rattle.std.specs.Prelude.{◌≡◌, length};
-ghost use Rattle.c_state.specs.Sender.{senderHolds, senderOf, historyIn, queueIn, idleIn, idleWords, firstIn, secondIn, requestsIn, bothIn, requestWords, figureWords, NarrowSender};
+ghost use Rattle.c_state.specs.Sender.{sender_holds, sender_of, history_in, queue_in, idle_in, idle_words, first_in, second_in, requests_in, both_in, request_words, figure_words, NarrowSender};
 
 use super::pack::{four, held, pair, two, word};
 use command::retransmit::RetransmitRequest;
@@ -25,7 +25,7 @@ pub const REQUESTS: usize = 5;
 // Whether the words are some sender's.
 pub fn fits(words: &[u64]) -> bool
     requires { length words.now ≡ 13 }
-    ensures { result ≡ senderHolds words.now }
+    ensures { result ≡ sender_holds words.now }
 {
     let small = four(words[SMALL]);
     let top = two(small.d);
@@ -38,7 +38,7 @@ pub fn fits(words: &[u64]) -> bool
 // The history.
 fn history_in(words: &[u64]) -> SendHistory
     requires { length words.now ≡ 13 }
-    ensures { result ≡ historyIn words.now }
+    ensures { result ≡ history_in words.now }
 {
     let ring = four(words[RING]);
     let newest = four(words[NEWEST]);
@@ -54,7 +54,7 @@ fn history_in(words: &[u64]) -> SendHistory
 
 // The requests of a word.
 fn first_in(w: u64) -> RetransmitRequest
-    ensures { result ≡ firstIn w }
+    ensures { result ≡ first_in w }
 {
     let both = four(w);
     RetransmitRequest {
@@ -64,7 +64,7 @@ fn first_in(w: u64) -> RetransmitRequest
 }
 
 fn second_in(w: u64) -> RetransmitRequest
-    ensures { result ≡ secondIn w }
+    ensures { result ≡ second_in w }
 {
     let both = four(w);
     RetransmitRequest {
@@ -76,7 +76,7 @@ fn second_in(w: u64) -> RetransmitRequest
 // The requests, two to a word.
 fn requests_in(words: &[u64]) -> [RetransmitRequest; 16]
     requires { length words.now ≡ 8 }
-    ensures { result ≡ requestsIn words.now }
+    ensures { result ≡ requests_in words.now }
 {
     [
         first_in(words[0]),
@@ -101,7 +101,7 @@ fn requests_in(words: &[u64]) -> [RetransmitRequest; 16]
 // The queue.
 fn queue_in(words: &[u64]) -> RetransmitQueue
     requires { length words.now ≡ 13 }
-    ensures { result ≡ queueIn words.now }
+    ensures { result ≡ queue_in words.now }
 {
     let small = four(words[SMALL]);
     let top = two(small.d);
@@ -115,7 +115,7 @@ fn queue_in(words: &[u64]) -> RetransmitQueue
 
 // The idle timer.
 fn idle_in(on: bool, due: u64, step: u16, interval: u64) -> IdleTimer
-    ensures { result ≡ idleIn on due step interval }
+    ensures { result ≡ idle_in on due step interval }
 {
     if on {
         return IdleTimer::Waiting(Idle {
@@ -130,7 +130,7 @@ fn idle_in(on: bool, due: u64, step: u16, interval: u64) -> IdleTimer
 // The sender of words that fit.
 pub fn load(words: &[u64]) -> Sender
     requires { length words.now ≡ 13 }
-    ensures { result ≡ senderOf words.now }
+    ensures { result ≡ sender_of words.now }
 {
     let newest = four(words[NEWEST]);
     let small = four(words[SMALL]);
@@ -154,7 +154,7 @@ struct IdleWords {
 }
 
 fn idle_words(idle: IdleTimer) -> IdleWords
-    ensures { result ≡ idleWords idle }
+    ensures { result ≡ idle_words idle }
 {
     match idle {
         IdleTimer::Off => IdleWords {
@@ -175,7 +175,7 @@ fn idle_words(idle: IdleTimer) -> IdleWords
 // The words of a sender before its requests.
 pub fn figures(sender: Sender) -> [u64; 5]
     requires { NarrowSender sender }
-    ensures { result ≡ figureWords sender }
+    ensures { result ≡ figure_words sender }
 {
     let history = sender.history;
     let queue = sender.queue;
@@ -207,14 +207,14 @@ pub fn figures(sender: Sender) -> [u64; 5]
 
 // The word of two requests.
 fn both(first: RetransmitRequest, second: RetransmitRequest) -> u64
-    ensures { result ≡ bothIn first second }
+    ensures { result ≡ both_in first second }
 {
     word(first.seq, first.count, second.seq, second.count)
 }
 
 // The words of requests.
 pub fn requests(items: [RetransmitRequest; 16]) -> [u64; 8]
-    ensures { result ≡ requestWords 8 items }
+    ensures { result ≡ request_words 8 items }
 {
     [
         both(items[0], items[1]),

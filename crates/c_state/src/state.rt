@@ -2,9 +2,9 @@
 // that end alone, and changes no others.
 ghost use Rattle.std.specs.Prelude.{◌≡◌, true, false, ◌<◌, length};
 ghost use Rattle.receiver.specs.Receiver.{rest_of};
-ghost use Rattle.c_state.specs.Receiver.{NarrowReceiver, withWindow};
+ghost use Rattle.c_state.specs.Receiver.{NarrowReceiver, with_window};
 ghost use Rattle.c_state.specs.Sender.{NarrowSender};
-ghost use Rattle.c_state.specs.Stream.{streamWords, receiverFits, senderFits, fits as fits_of, receiverIn, senderIn, loaded, stored, withReceiver, withSender};
+ghost use Rattle.c_state.specs.Stream.{stream_words, receiver_fits, sender_fits, fits as fits_of, receiver_in, sender_in, loaded, stored, with_receiver, with_sender};
 
 use super::receiver_part::RECEIVER_WORDS;
 use super::{receiver_part, sender_part};
@@ -22,7 +22,7 @@ const REQUESTS: usize = RECEIVER_WORDS + sender_part::REQUESTS;
 
 // Whether there are as many words as a stream has, and the receiver's are some receiver's.
 pub fn receiver_fits(words: &[u64]) -> bool
-    ensures { result ≡ receiverFits words.now }
+    ensures { result ≡ receiver_fits words.now }
 {
     if words.len() != WORDS {
         return false;
@@ -32,7 +32,7 @@ pub fn receiver_fits(words: &[u64]) -> bool
 
 // Whether each of the sender's words is as wide as its figure.
 pub fn sender_fits(words: &[u64]) -> bool
-    ensures { result ≡ senderFits words.now }
+    ensures { result ≡ sender_fits words.now }
 {
     if words.len() != WORDS {
         return false;
@@ -52,16 +52,16 @@ pub fn fits(words: &[u64]) -> bool
 
 // The receiver.
 pub fn receiver_in(words: &[u64]) -> Receiver
-    requires { receiverFits words.now ≡ true }
-    ensures { result ≡ receiverIn words.now }
+    requires { receiver_fits words.now ≡ true }
+    ensures { result ≡ receiver_in words.now }
 {
     receiver_part::load(&words[0..RECEIVER_WORDS])
 }
 
 // The sender.
 pub fn sender_in(words: &[u64]) -> Sender
-    requires { senderFits words.now ≡ true }
-    ensures { result ≡ senderIn words.now }
+    requires { sender_fits words.now ≡ true }
+    ensures { result ≡ sender_in words.now }
 {
     sender_part::load(&words[RECEIVER_WORDS..])
 }
@@ -79,8 +79,8 @@ pub fn load(words: &[u64]) -> DataStream
 
 // Stores the receiver into its words.
 pub fn store_receiver(receiver: Receiver, words: &mut [u64])
-    requires { (length words.old ≡ streamWords) × NarrowReceiver receiver }
-    ensures { words.new ≡ withReceiver words.old receiver }
+    requires { (length words.old ≡ stream_words) × NarrowReceiver receiver }
+    ensures { words.new ≡ with_receiver words.old receiver }
 {
     let new = receiver_part::words_of(receiver);
     put(&new, words, 0);
@@ -88,8 +88,8 @@ pub fn store_receiver(receiver: Receiver, words: &mut [u64])
 
 // Stores what a call has left of the receiver: where that is what the words have, nothing.
 pub fn renew_receiver(receiver: Receiver, words: &mut [u64])
-    requires { (length words.old ≡ streamWords) × NarrowReceiver receiver }
-    ensures { words.new ≡ withReceiver words.old receiver }
+    requires { (length words.old ≡ stream_words) × NarrowReceiver receiver }
+    ensures { words.new ≡ with_receiver words.old receiver }
 {
     let new = receiver_part::words_of(receiver);
     renew(&new, words, 0);
@@ -97,8 +97,8 @@ pub fn renew_receiver(receiver: Receiver, words: &mut [u64])
 
 // Stores a receiver whose window alone is new.
 pub fn store_window(window: ReceiveWindow, words: &mut [u64])
-    requires { (receiverFits words.old ≡ true) × (window.size < 65536) }
-    ensures { words.new ≡ withReceiver words.old (withWindow (receiverIn words.old) window) }
+    requires { (receiver_fits words.old ≡ true) × (window.size < 65536) }
+    ensures { words.new ≡ with_receiver words.old (with_window (receiver_in words.old) window) }
 {
     let new = receiver_part::with_window(window, &words[0..RECEIVER_WORDS]);
     put(&new, words, 0);
@@ -106,16 +106,16 @@ pub fn store_window(window: ReceiveWindow, words: &mut [u64])
 
 // Stores a receiver that is as at the start, but for its window.
 pub fn store_rest(refused: bool, window: ReceiveWindow, words: &mut [u64])
-    requires { (length words.old ≡ streamWords) × (window.size < 65536) }
-    ensures { words.new ≡ withReceiver words.old (rest_of refused window) }
+    requires { (length words.old ≡ stream_words) × (window.size < 65536) }
+    ensures { words.new ≡ with_receiver words.old (rest_of refused window) }
 {
     store_receiver(receiver::tested::rest(refused, window), words);
 }
 
 // Stores the sender into its words.
 pub fn store_sender(sender: Sender, words: &mut [u64])
-    requires { (length words.old ≡ streamWords) × NarrowSender sender }
-    ensures { words.new ≡ withSender words.old sender }
+    requires { (length words.old ≡ stream_words) × NarrowSender sender }
+    ensures { words.new ≡ with_sender words.old sender }
 {
     let queue = sender.queue;
     let items = queue.items;
@@ -127,8 +127,8 @@ pub fn store_sender(sender: Sender, words: &mut [u64])
 
 // Stores a sender whose requests are those of the words.
 pub fn store_figures(sender: Sender, words: &mut [u64])
-    requires { (senderFits words.old ≡ true) × NarrowSender sender × (sender.queue.items ≡ (senderIn words.old).queue.items) }
-    ensures { words.new ≡ withSender words.old sender }
+    requires { (sender_fits words.old ≡ true) × NarrowSender sender × (sender.queue.items ≡ (sender_in words.old).queue.items) }
+    ensures { words.new ≡ with_sender words.old sender }
 {
     let new = sender_part::figures(sender);
     put(&new, words, RECEIVER_WORDS);
@@ -136,7 +136,7 @@ pub fn store_figures(sender: Sender, words: &mut [u64])
 
 // Stores the stream into the words, which need have none yet.
 pub fn store(s: DataStream, words: &mut [u64])
-    requires { (length words.old ≡ streamWords) × (NarrowReceiver s.receiver × NarrowSender s.sender) }
+    requires { (length words.old ≡ stream_words) × (NarrowReceiver s.receiver × NarrowSender s.sender) }
     ensures { words.new ≡ stored s }
 {
     let sender = s.sender;
@@ -147,8 +147,8 @@ pub fn store(s: DataStream, words: &mut [u64])
 
 // Stores a receiver that is new where `changed` is set.
 fn store_changed(changed: bool, receiver: Receiver, words: &mut [u64])
-    requires { (receiverFits words.old ≡ true) × NarrowReceiver receiver × (changed ≡ false → receiver ≡ receiverIn words.old) }
-    ensures { words.new ≡ withReceiver words.old receiver }
+    requires { (receiver_fits words.old ≡ true) × NarrowReceiver receiver × (changed ≡ false → receiver ≡ receiver_in words.old) }
+    ensures { words.new ≡ with_receiver words.old receiver }
 {
     if changed {
         store_receiver(receiver, words);
@@ -157,7 +157,7 @@ fn store_changed(changed: bool, receiver: Receiver, words: &mut [u64])
 
 // Stores a stream whose receiver is new where `changed` is set.
 pub fn store_written(changed: bool, s: DataStream, words: &mut [u64])
-    requires { (fits_of words.old ≡ true) × NarrowReceiver s.receiver × NarrowSender s.sender × (changed ≡ false → s.receiver ≡ receiverIn words.old) }
+    requires { (fits_of words.old ≡ true) × NarrowReceiver s.receiver × NarrowSender s.sender × (changed ≡ false → s.receiver ≡ receiver_in words.old) }
     ensures { words.new ≡ stored s }
 {
     let sender = s.sender;

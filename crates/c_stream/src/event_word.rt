@@ -4,20 +4,20 @@
 //
 // C takes an event in two registers, and the word differs from the first only where the count stands.
 ghost use Rattle.std.specs.Prelude.{◌≡◌};
-ghost use Rattle.c_stream.specs.EventWord.{eventIn};
+ghost use Rattle.c_stream.specs.EventWord.{event_in};
 
 use c_answers::answers::CEvent;
 use c_state::pack::{four, pair, two, word};
 
 pub fn packed(e: CEvent) -> u64
     requires { e.reason ≡ 0 }
-    ensures { eventIn result ≡ e }
+    ensures { event_in result ≡ e }
 {
     word(pair(e.refusal, e.kind), e.count, e.seq, e.first)
 }
 
 pub fn unpacked(w: u64) -> CEvent
-    ensures { result ≡ eventIn w }
+    ensures { result ≡ event_in w }
 {
     let figures = four(w);
     let small = two(figures.a);

@@ -2,8 +2,8 @@
 // settings by their own numbers, then 13 for words that are no stream's and for a payload that is not
 // two words. A call of one end looks at the words of that end alone.
 ghost use Rattle.std.specs.Prelude.{◌≡◌};
-ghost use Rattle.c_stream.specs.Exports.{newExport, resetExport, sendExport, dataExport, writeExport, requestExport, errorExport, nakExport, pollExport, takeExport, deadlineExport, wantsExport};
-ghost use Rattle.c_stream.specs.EventWord.{eventIn};
+ghost use Rattle.c_stream.specs.Exports.{new_export, reset_export, send_export, data_export, write_export, request_export, error_export, nak_export, poll_export, take_export, deadline_export, wants_export};
+ghost use Rattle.c_stream.specs.EventWord.{event_in};
 
 use super::event_word;
 use c_answers::answers;
@@ -25,7 +25,7 @@ pub extern "C" fn sirmjold_stream_new(
     places: usize,
     ring: &mut [u32],
 ) -> u8
-    ensures { (result, s.new, ring.new) ≡ newExport s.old cfg.now window places ring.old }
+    ensures { (result, s.new, ring.new) ≡ new_export s.old cfg.now window places ring.old }
 {
     let number = settings::number(cfg);
     if number == 0 {
@@ -51,7 +51,7 @@ pub extern "C" fn sirmjold_stream_new(
 // Back to the fresh stream of the same sizes.
 #[unsafe(no_mangle)]
 pub extern "C" fn sirmjold_stream_reset(s: &mut [u64], ring: &mut [u32]) -> u8
-    ensures { (result, s.new, ring.new) ≡ resetExport s.old ring.old }
+    ensures { (result, s.new, ring.new) ≡ reset_export s.old ring.old }
 {
     if state::fits(&s[..]) {
         let before = state::load(&s[..]);
@@ -72,7 +72,7 @@ pub extern "C" fn sirmjold_stream_send_ump(
     ring: &mut [u32],
     words: &[u32],
 ) -> u8
-    ensures { (result, s.new, ring.new) ≡ sendExport s.old cfg.now ring.old words.now }
+    ensures { (result, s.new, ring.new) ≡ send_export s.old cfg.now ring.old words.now }
 {
     let number = settings::number(cfg);
     if number == 0 {
@@ -98,7 +98,7 @@ pub extern "C" fn sirmjold_stream_on_retransmit_request(
     seq: u16,
     count: u16,
 ) -> COutcome
-    ensures { (result, s.new) ≡ requestExport s.old cfg.now ring.now seq count }
+    ensures { (result, s.new) ≡ request_export s.old cfg.now ring.now seq count }
 {
     let number = settings::number(cfg);
     if number == 0 {
@@ -124,7 +124,7 @@ pub extern "C" fn sirmjold_stream_on_ump_data(
     time: u64,
     seq: u16,
 ) -> CDelivery
-    ensures { (result, s.new) ≡ dataExport s.old cfg.now time seq }
+    ensures { (result, s.new) ≡ data_export s.old cfg.now time seq }
 {
     let number = settings::number(cfg);
     if number == 0 {
@@ -139,7 +139,7 @@ pub extern "C" fn sirmjold_stream_on_ump_data(
 // A Retransmit Error arrives.
 #[unsafe(no_mangle)]
 pub extern "C" fn sirmjold_stream_on_retransmit_error(s: &mut [u64], reason: u8, seq: u16) -> CEvent
-    ensures { (result, s.new) ≡ errorExport s.old reason seq }
+    ensures { (result, s.new) ≡ error_export s.old reason seq }
 {
     if state::receiver_fits(&s[..]) {
         let before = state::receiver_in(&s[..]);
@@ -155,7 +155,7 @@ pub extern "C" fn sirmjold_stream_on_retransmit_error(s: &mut [u64], reason: u8,
 // A NAK to a Retransmit Request arrives.
 #[unsafe(no_mangle)]
 pub extern "C" fn sirmjold_stream_on_retransmit_nak(s: &mut [u64]) -> CEvent
-    ensures { (result, s.new) ≡ nakExport s.old }
+    ensures { (result, s.new) ≡ nak_export s.old }
 {
     if state::receiver_fits(&s[..]) {
         let before = state::receiver_in(&s[..]);
@@ -170,7 +170,7 @@ pub extern "C" fn sirmjold_stream_on_retransmit_nak(s: &mut [u64]) -> CEvent
 
 // Runs the receiver's timer; the answer is packed.
 fn poll(s: &mut [u64], cfg: &[u32], time: u64) -> u64
-    ensures { (eventIn result, s.new) ≡ pollExport s.old cfg.now time }
+    ensures { (event_in result, s.new) ≡ poll_export s.old cfg.now time }
 {
     let number = settings::number(&cfg[..]);
     if number == 0 {
@@ -187,7 +187,7 @@ fn poll(s: &mut [u64], cfg: &[u32], time: u64) -> u64
 // which the compiler keeps apart, since it is called in two places that go on differently.
 #[unsafe(no_mangle)]
 pub extern "C" fn sirmjold_stream_poll(s: &mut [u64], cfg: &[u32], time: u64) -> CEvent
-    ensures { (result, s.new) ≡ pollExport s.old cfg.now time }
+    ensures { (result, s.new) ≡ poll_export s.old cfg.now time }
 {
     if settings::number(cfg) == 0 {
         if receiving::waits(time, &s[..]) {
@@ -207,7 +207,7 @@ pub extern "C" fn sirmjold_stream_write_request(
     p: &mut [u64],
     buf: &mut [u8],
 ) -> CRequest
-    ensures { (result, s.new, p.new, buf.new) ≡ takeExport s.old cfg.now p.old buf.old }
+    ensures { (result, s.new, p.new, buf.new) ≡ take_export s.old cfg.now p.old buf.old }
 {
     let number = settings::number(cfg);
     if number == 0 {
@@ -229,7 +229,7 @@ pub extern "C" fn sirmjold_stream_write_request(
 // The earliest time at which `poll` or `write_data` has timed work.
 #[unsafe(no_mangle)]
 pub extern "C" fn sirmjold_stream_next_deadline(s: &[u64], ring: &[u32]) -> CDeadline
-    ensures { result ≡ deadlineExport s.now ring.now }
+    ensures { result ≡ deadline_export s.now ring.now }
 {
     if state::fits(s) {
         let stream = state::load(s);
@@ -241,7 +241,7 @@ pub extern "C" fn sirmjold_stream_next_deadline(s: &[u64], ring: &[u32]) -> CDea
 // Whether `write_data` at this time has something to write.
 #[unsafe(no_mangle)]
 pub extern "C" fn sirmjold_stream_wants_write(s: &[u64], ring: &[u32], time: u64) -> CWants
-    ensures { result ≡ wantsExport s.now ring.now time }
+    ensures { result ≡ wants_export s.now ring.now time }
 {
     if state::fits(s) {
         let stream = state::load(s);
@@ -260,7 +260,7 @@ pub extern "C" fn sirmjold_stream_write_data(
     buf: &mut [u8],
     ring: &mut [u32],
 ) -> CWritten
-    ensures { (result, s.new, p.new, buf.new, ring.new) ≡ writeExport s.old cfg.now time p.old buf.old ring.old }
+    ensures { (result, s.new, p.new, buf.new, ring.new) ≡ write_export s.old cfg.now time p.old buf.old ring.old }
 {
     let number = settings::number(cfg);
     if number == 0 {

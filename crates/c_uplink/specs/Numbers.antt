@@ -1,7 +1,7 @@
 -- A step of the uplink as numbers: its answer is 0, or the refusal's number.
-use Rattle.config.specs.Refusals.{outcomeNumber}
+use Rattle.config.specs.Refusals.{outcome_number}
 use Rattle.uplink.specs.declared.grants.Step.{Step}
 use Rattle.c_uplink.specs.declared.CStep.{CStep}
 
-abbrev pub numbersOf : Step → CStep
-numbersOf s = record { grants = s.grants; turn = s.turn; refusal = outcomeNumber s.answer }
+abbrev pub numbers_of : Step → CStep
+numbers_of s = record { grants = s.grants; turn = s.turn; refusal = outcome_number s.answer }

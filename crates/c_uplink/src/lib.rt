@@ -2,7 +2,7 @@
 // lent for them and none can be of a wrong length; the turn is the caller's to keep.
 ghost use Rattle.std.specs.Prelude.{◌≡◌};
 ghost use Rattle.uplink.specs.Grants.{step_of};
-ghost use Rattle.c_uplink.specs.Numbers.{numbersOf};
+ghost use Rattle.c_uplink.specs.Numbers.{numbers_of};
 
 use uplink::grants::Step;
 
@@ -16,7 +16,7 @@ pub struct CStep {
 }
 
 fn numbers(step: Step) -> CStep
-    ensures { result ≡ numbersOf step }
+    ensures { result ≡ numbers_of step }
 {
     let grants = step.grants;
     let answer = step.answer;
@@ -30,7 +30,7 @@ fn numbers(step: Step) -> CStep
 // One step with `words` words to grant to as many divisions as there are wants.
 #[unsafe(no_mangle)]
 pub extern "C" fn sirmjold_uplink_grant(words: u16, turn: u16, wants: &[u16]) -> CStep
-    ensures { result ≡ numbersOf (step_of words turn wants.now) }
+    ensures { result ≡ numbers_of (step_of words turn wants.now) }
 {
     let step = uplink::grants::grant(words, turn, wants);
     numbers(step)

@@ -4,38 +4,38 @@ use mathlib.Core.Bool.{true}
 use mathlib.Core.List.{List}
 use Prim.Native.Nat.{ℕ}
 use Rattle.config.specs.Range.{outside}
-use Rattle.window.specs.Set.{maxWindow}
-use Rattle.window.specs.Window.{valid_of as windowValid}
-use Rattle.window.specs.Answers.{startAnswer, acceptAnswer}
+use Rattle.window.specs.Set.{max_window}
+use Rattle.window.specs.Window.{valid_of as window_valid}
+use Rattle.window.specs.Answers.{start_answer, accept_answer}
 use Rattle.window.specs.declared.window.ReceiveWindow.{ReceiveWindow}
 use Rattle.window.specs.declared.window.Started.{Started}
 use Rattle.window.specs.declared.window.Accepted.{Accepted}
-use Rattle.c_answers.specs.Answers.{acceptanceOf}
+use Rattle.c_answers.specs.Answers.{acceptance_of}
 use Rattle.c_answers.specs.declared.answers.CDelivery.{CDelivery}
-use Rattle.c_words.proofs.Runs.{run-all}
-use Rattle.c_words.proofs.Kept.{Kept, KeptOne, itself, as-was, done, by-test, call-keeps}
-use Rattle.c_window.specs.Window.{windowFits, windowAt, windowWords, startedInto, startExport, acceptExport}
-use Rattle.c_window.proofs.Windows.{window-known}
+use Rattle.c_words.proofs.Runs.{run_all}
+use Rattle.c_words.proofs.Kept.{Kept, KeptOne, itself, as_was, done, by_test, call_keeps}
+use Rattle.c_window.specs.Window.{window_fits, window_at, window_words, started_into, start_export, accept_export}
+use Rattle.c_window.proofs.Windows.{window_known}
 
 module _ (w : List ℕ) where
   abbrev AcceptedKept : Accepted → Type 0
-  AcceptedKept = Kept (λ (e : Accepted). (acceptanceOf e.answer).refusal) (λ (e : Accepted). windowWords e.window ≡ w)
+  AcceptedKept = Kept (λ (e : Accepted). (acceptance_of e.answer).refusal) (λ (e : Accepted). window_words e.window ≡ w)
 
-  window_same : windowFits w ≡ true → windowWords (windowAt w) ≡ w
-  window_same e = run-all w 4 (sym (window-known w e).whole)
+  window_same : window_fits w ≡ true → window_words (window_at w) ≡ w
+  window_same e = run_all w 4 (sym (window_known w e).whole)
 
-  module _ (x : ReceiveWindow) (same : windowWords x ≡ w) where
-    accepted-kept : (seq : ℕ) → AcceptedKept (acceptAnswer x seq)
-    unfolding acceptAnswer
-    accepted-kept seq = by-test (windowValid x) _ _ (λ _. done refl) (as-was same)
+  module _ (x : ReceiveWindow) (same : window_words x ≡ w) where
+    accepted_kept : (seq : ℕ) → AcceptedKept (accept_answer x seq)
+    unfolding accept_answer
+    accepted_kept seq = by_test (window_valid x) _ _ (λ _. done refl) (as_was same)
 
-  pub start-keeps : (size highest : ℕ) → KeptOne itself w (startExport w size highest)
-  unfolding startExport startAnswer
-  start-keeps size highest =
-      call-keeps _ _ (λ (e : Started). startedInto e w) _ (startAnswer size highest) (λ n. refl) (λ _ _. by-test (outside 1 maxWindow size) _ _ (λ _. as-was refl) (done refl))
+  pub start_keeps : (size highest : ℕ) → KeptOne itself w (start_export w size highest)
+  unfolding start_export start_answer
+  start_keeps size highest =
+      call_keeps _ _ (λ (e : Started). started_into e w) _ (start_answer size highest) (λ n. refl) (λ _ _. by_test (outside 1 max_window size) _ _ (λ _. as_was refl) (done refl))
 
-  pub accept-keeps : (seq : ℕ) → KeptOne (λ (a : CDelivery). a.refusal) w (acceptExport w seq)
-  unfolding acceptExport
-  accept-keeps seq =
-      call-keeps _ _ (λ (e : Accepted). (acceptanceOf e.answer, windowWords e.window)) _ (acceptAnswer (windowAt w) seq) (λ n. refl)
-      (λ _ fit. accepted-kept (windowAt w) (window_same fit) seq)
+  pub accept_keeps : (seq : ℕ) → KeptOne (λ (a : CDelivery). a.refusal) w (accept_export w seq)
+  unfolding accept_export
+  accept_keeps seq =
+      call_keeps _ _ (λ (e : Accepted). (acceptance_of e.answer, window_words e.window)) _ (accept_answer (window_at w) seq) (λ n. refl)
+      (λ _ fit. accepted_kept (window_at w) (window_same fit) seq)

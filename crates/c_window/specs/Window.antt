@@ -1,7 +1,7 @@
 -- 01, "Position, window, loss": a window's size, highest, bits low and high, as four words; 13 for words that are no window's.
 use Rattle.std.specs.Prelude.{◌≡◌, ℕ, ◌≤◌, Bool, true, false, ◌&&◌, List, [], ◌∷◌, length, get_or, eqb}
-use Rattle.window.specs.Set.{maxWindow}
-use Rattle.window.specs.Answers.{heard, acceptAnswer, startAnswer}
+use Rattle.window.specs.Set.{max_window}
+use Rattle.window.specs.Answers.{heard, accept_answer, start_answer}
 use Rattle.window.specs.declared.window.ReceiveWindow.{ReceiveWindow}
 use Rattle.window.specs.declared.window.Class.{Class}
 use Rattle.window.specs.declared.window.Class.TheVariants.{New, Late, Duplicate}
@@ -11,55 +11,55 @@ use Rattle.window.specs.declared.window.Accepted.{Accepted}
 use Rattle.window.specs.declared.window.Started.{Started}
 use Rattle.window.specs.declared.window.Started.TheVariants.{Window, Refused}
 use Rattle.config.specs.Refusals.{number_of}
-use Rattle.c_words.specs.Entry.{onWords}
+use Rattle.c_words.specs.Entry.{on_words}
 use Rattle.c_words.specs.Limits.{within}
-use Rattle.c_answers.specs.Answers.{acceptanceOf, deliveryRefused}
+use Rattle.c_answers.specs.Answers.{acceptance_of, delivery_refused}
 use Rattle.c_answers.specs.declared.answers.CDelivery.{CDelivery}
 
 abbrev at : List ℕ → ℕ → ℕ
 at ws k = get_or ws k 0
 
 -- the words that take less than 64 bits, and the largest value of each: a size, and a number
-abbrev pub windowLimits : List (ℕ × ℕ)
-windowLimits = (0, maxWindow) ∷ (1, 65535) ∷ []
+abbrev pub window_limits : List (ℕ × ℕ)
+window_limits = (0, max_window) ∷ (1, 65535) ∷ []
 
-unfoldable pub windowFits : List ℕ → Bool
-windowFits ws = eqb (length ws) 4 && within windowLimits ws
+unfoldable pub window_fits : List ℕ → Bool
+window_fits ws = eqb (length ws) 4 && within window_limits ws
 
 -- words that fit
 pub record Narrow (ws : List ℕ) : Type 0 where
   pub whole : length ws ≡ 4
-  pub size : at ws 0 ≤ maxWindow
+  pub size : at ws 0 ≤ max_window
   pub highest : at ws 1 ≤ 65535
 
-abbrev pub windowAt : List ℕ → ReceiveWindow
-windowAt ws = record { size = at ws 0; highest = at ws 1; bits = record { low = at ws 2; high = at ws 3 } }
+abbrev pub window_at : List ℕ → ReceiveWindow
+window_at ws = record { size = at ws 0; highest = at ws 1; bits = record { low = at ws 2; high = at ws 3 } }
 
-abbrev pub windowWords : ReceiveWindow → List ℕ
-windowWords w = w.size ∷ w.highest ∷ w.bits.low ∷ w.bits.high ∷ []
+abbrev pub window_words : ReceiveWindow → List ℕ
+window_words w = w.size ∷ w.highest ∷ w.bits.low ∷ w.bits.high ∷ []
 
 -- the answer to a number, and the words of the window after it
-abbrev pub acceptedAs : Accepted → Acceptance × List ℕ
-acceptedAs e = (e.answer, windowWords e.window)
+abbrev pub accepted_as : Accepted → Acceptance × List ℕ
+accepted_as e = (e.answer, window_words e.window)
 
-abbrev pub takenInto : Arrival → Acceptance × List ℕ
-takenInto t = acceptedAs (heard t)
+abbrev pub taken_into : Arrival → Acceptance × List ℕ
+taken_into t = accepted_as (heard t)
 
-abbrev pub isDuplicate : Class → Bool
-isDuplicate (New gap) = false
-isDuplicate Late = false
-isDuplicate Duplicate = true
+abbrev pub is_duplicate : Class → Bool
+is_duplicate (New gap) = false
+is_duplicate Late = false
+is_duplicate Duplicate = true
 
-abbrev acceptedInto : Accepted → CDelivery × List ℕ
-acceptedInto e = (acceptanceOf e.answer, windowWords e.window)
+abbrev accepted_into : Accepted → CDelivery × List ℕ
+accepted_into e = (acceptance_of e.answer, window_words e.window)
 
-unfoldable pub acceptExport : List ℕ → ℕ → CDelivery × List ℕ
-acceptExport ws seq = onWords (windowFits ws) (λ n. (deliveryRefused n, ws)) (acceptedInto (acceptAnswer (windowAt ws) seq))
+unfoldable pub accept_export : List ℕ → ℕ → CDelivery × List ℕ
+accept_export ws seq = on_words (window_fits ws) (λ n. (delivery_refused n, ws)) (accepted_into (accept_answer (window_at ws) seq))
 
 -- ---- a start: a window that is not started leaves the words as they were
-abbrev pub startedInto : Started → List ℕ → ℕ × List ℕ
-startedInto (Window w) ws = (0, windowWords w)
-startedInto (Refused why) ws = (number_of why, ws)
+abbrev pub started_into : Started → List ℕ → ℕ × List ℕ
+started_into (Window w) ws = (0, window_words w)
+started_into (Refused why) ws = (number_of why, ws)
 
-unfoldable pub startExport : List ℕ → ℕ → ℕ → ℕ × List ℕ
-startExport ws size highest = onWords (eqb (length ws) 4) (λ n. (n, ws)) (startedInto (startAnswer size highest) ws)
+unfoldable pub start_export : List ℕ → ℕ → ℕ → ℕ × List ℕ
+start_export ws size highest = on_words (eqb (length ws) 4) (λ n. (n, ws)) (started_into (start_answer size highest) ws)

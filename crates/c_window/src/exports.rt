@@ -4,9 +4,9 @@ ghost use Rattle.std.specs.Prelude.{◌≡◌, true, false, length};
 ghost use Rattle.config.specs.Range.{within};
 ghost use Rattle.config.specs.Sequence.{ahead};
 ghost use Rattle.window.specs.Window.{Valid};
-ghost use Rattle.window.specs.Arrival.{reach, acceptOf};
-ghost use Rattle.window.specs.Answers.{acceptAnswer};
-ghost use Rattle.c_window.specs.Window.{windowFits, Narrow, windowAt, windowWords, isDuplicate, takenInto, acceptedAs, startedInto, startExport, acceptExport};
+ghost use Rattle.window.specs.Arrival.{reach, accept_of};
+ghost use Rattle.window.specs.Answers.{accept_answer};
+ghost use Rattle.c_window.specs.Window.{window_fits, Narrow, window_at, window_words, is_duplicate, taken_into, accepted_as, started_into, start_export, accept_export};
 
 use c_answers::answers;
 use c_answers::answers::CDelivery;
@@ -22,7 +22,7 @@ const LARGEST: u64 = 128;
 
 // Whether there are four words, with a size that some window has and a highest number.
 fn fits(words: &[u64]) -> bool
-    ensures { result ≡ windowFits words.now }
+    ensures { result ≡ window_fits words.now }
 {
     if words.len() != 4 {
         return false;
@@ -35,7 +35,7 @@ fn fits(words: &[u64]) -> bool
 
 fn known(words: &[u64]) -> ReceiveWindow
     requires { Narrow words.now }
-    ensures { result ≡ windowAt words.now }
+    ensures { result ≡ window_at words.now }
 {
     ReceiveWindow {
         size: words[0] as u32,
@@ -49,8 +49,8 @@ fn known(words: &[u64]) -> ReceiveWindow
 
 // The window.
 fn load(words: &[u64]) -> ReceiveWindow
-    requires { windowFits words.now ≡ true }
-    ensures { result ≡ windowAt words.now }
+    requires { window_fits words.now ≡ true }
+    ensures { result ≡ window_at words.now }
 {
     known(words)
 }
@@ -58,7 +58,7 @@ fn load(words: &[u64]) -> ReceiveWindow
 // Stores the window into words that need have none yet.
 fn store(window: ReceiveWindow, words: &mut [u64])
     requires { length words.old ≡ 4 }
-    ensures { words.new ≡ windowWords window }
+    ensures { words.new ≡ window_words window }
 {
     let bits = window.bits;
     let new = [
@@ -73,7 +73,7 @@ fn store(window: ReceiveWindow, words: &mut [u64])
 // Stores what a call has left of the window: where that is what the words have, nothing.
 fn renewed(window: ReceiveWindow, words: &mut [u64])
     requires { length words.old ≡ 4 }
-    ensures { words.new ≡ windowWords window }
+    ensures { words.new ≡ window_words window }
 {
     let bits = window.bits;
     let new = [
@@ -88,7 +88,7 @@ fn renewed(window: ReceiveWindow, words: &mut [u64])
 // Stores a window that was started.
 fn start(w: &mut [u64], started: Started) -> u8
     requires { length w.old ≡ 4 }
-    ensures { (result, w.new) ≡ startedInto started w.old }
+    ensures { (result, w.new) ≡ started_into started w.old }
 {
     match started {
         Started::Window(window) => {
@@ -103,7 +103,7 @@ fn start(w: &mut [u64], started: Started) -> u8
 // has the highest 65535.
 #[unsafe(no_mangle)]
 pub extern "C" fn sirmjold_window_starting_at(w: &mut [u64], size: u32, highest: u16) -> u8
-    ensures { (result, w.new) ≡ startExport w.old size highest }
+    ensures { (result, w.new) ≡ start_export w.old size highest }
 {
     if w.len() == 4 {
         return start(w, ReceiveWindow::starting_at(size, highest));
@@ -114,7 +114,7 @@ pub extern "C" fn sirmjold_window_starting_at(w: &mut [u64], size: u32, highest:
 // Stores the window that has taken a number.
 fn take(taken: Arrival, w: &mut [u64]) -> Acceptance
     requires { length w.old ≡ 4 }
-    ensures { (result, w.new) ≡ takenInto taken }
+    ensures { (result, w.new) ≡ taken_into taken }
 {
     let window = taken.window;
     let class = taken.class;
@@ -126,7 +126,7 @@ fn take(taken: Arrival, w: &mut [u64]) -> Acceptance
 // A number ahead arrives.
 fn take_ahead(before: ReceiveWindow, seq: SeqNum, w: &mut [u64]) -> Acceptance
     requires { (length w.old ≡ 4) × Valid before × (within 1 reach (ahead before.highest seq) ≡ true) }
-    ensures { (result, w.new) ≡ takenInto (acceptOf before seq) }
+    ensures { (result, w.new) ≡ taken_into (accept_of before seq) }
 {
     let lost = window::arrival::lost_to(before, seq);
     let window = window::arrival::moved_to(before, seq);
@@ -142,7 +142,7 @@ fn take_ahead(before: ReceiveWindow, seq: SeqNum, w: &mut [u64]) -> Acceptance
 }
 
 fn is_duplicate(class: Class) -> bool
-    ensures { result ≡ isDuplicate class }
+    ensures { result ≡ is_duplicate class }
 {
     match class {
         Class::Duplicate => true,
@@ -153,8 +153,8 @@ fn is_duplicate(class: Class) -> bool
 
 // A number that is not ahead arrives: a duplicate changes nothing, and nothing is stored.
 fn take_behind(before: ReceiveWindow, seq: SeqNum, w: &mut [u64]) -> Acceptance
-    requires { (length w.old ≡ 4) × (windowAt w.old ≡ before) × Valid before × (within 1 reach (ahead before.highest seq) ≡ false) }
-    ensures { (result, w.new) ≡ takenInto (acceptOf before seq) }
+    requires { (length w.old ≡ 4) × (window_at w.old ≡ before) × Valid before × (within 1 reach (ahead before.highest seq) ≡ false) }
+    ensures { (result, w.new) ≡ taken_into (accept_of before seq) }
 {
     if is_duplicate(window::arrival::classify(before, seq)) {
         return Acceptance::Heard {
@@ -167,8 +167,8 @@ fn take_behind(before: ReceiveWindow, seq: SeqNum, w: &mut [u64]) -> Acceptance
 
 // A number arrives at a window: it is processed now, unless it is a duplicate.
 fn accept(before: ReceiveWindow, seq: SeqNum, w: &mut [u64]) -> Acceptance
-    requires { (length w.old ≡ 4) × (windowAt w.old ≡ before) }
-    ensures { (result, w.new) ≡ acceptedAs (acceptAnswer before seq) }
+    requires { (length w.old ≡ 4) × (window_at w.old ≡ before) }
+    ensures { (result, w.new) ≡ accepted_as (accept_answer before seq) }
 {
     if window::tested::is_valid(before) {
         if window::arrival::in_order(before, seq) {
@@ -185,7 +185,7 @@ fn accept(before: ReceiveWindow, seq: SeqNum, w: &mut [u64]) -> Acceptance
 // A number arrives.
 #[unsafe(no_mangle)]
 pub extern "C" fn sirmjold_window_accept(w: &mut [u64], seq: u16) -> CDelivery
-    ensures { (result, w.new) ≡ acceptExport w.old seq }
+    ensures { (result, w.new) ≡ accept_export w.old seq }
 {
     if fits(&w[..]) {
         let before = load(&w[..]);

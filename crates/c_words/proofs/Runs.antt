@@ -25,16 +25,16 @@ run_drop ws k (suc n) h =
     let e : k + suc n ≡ k + 1 + n = omega arith in
     rw (e, run_drop ws (k + 1) n i, drop-cons ws k 0 g, add-one k)
 
-pub spliced-same : (ws : List ℕ) (k n : ℕ) → k + n ≤ length ws → spliced ws k (run ws k n) ≡ ws
+pub spliced_same : (ws : List ℕ) (k n : ℕ) → k + n ≤ length ws → spliced ws k (run ws k n) ≡ ws
 unfolding spliced
-spliced-same ws k n h =
+spliced_same ws k n h =
     rw (length_run ws k n)
     (append_assoc (take k ws) (run ws k n) (drop (k + n) ws)
     ∙ ap (λ (x : List ℕ). take k ws ++ x) (run_drop ws k n h)
     ∙ take-append-drop k ws)
 
-pub run-all : (ws : List ℕ) (n : ℕ) → n ≡ length ws → run ws 0 n ≡ ws
-run-all ws n e =
+pub run_all : (ws : List ℕ) (n : ℕ) → n ≡ length ws → run ws 0 n ≡ ws
+run_all ws n e =
     let h : length ws ≤ 0 + n = omega arith in
     let g : 0 + n ≤ length ws = omega arith in
     sym (append-nil (run ws 0 n)) ∙ ap (λ (x : List ℕ). run ws 0 n ++ x) (sym (drop_of_length-le ws h)) ∙ run_drop ws 0 n g

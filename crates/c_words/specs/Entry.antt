@@ -6,9 +6,9 @@ use Rattle.config.specs.Refusals.{number_of}
 use Rattle.config.specs.declared.answer.Outcome.{Outcome}
 use Rattle.config.specs.declared.answer.Outcome.TheVariants.{Done}
 
-unfoldable pub wordsEntry : {A : Type 0} → Outcome → Bool → (ℕ → A) → A → A
-wordsEntry checked fit refused call = entry checked fit (λ why. refused (number_of why)) call
+unfoldable pub words_entry : {A : Type 0} → Outcome → Bool → (ℕ → A) → A → A
+words_entry checked fit refused call = entry checked fit (λ why. refused (number_of why)) call
 
 -- a call that is lent no settings
-abbrev pub onWords : {A : Type 0} → Bool → (ℕ → A) → A → A
-onWords fit refused call = wordsEntry Done fit refused call
+abbrev pub on_words : {A : Type 0} → Bool → (ℕ → A) → A → A
+on_words fit refused call = words_entry Done fit refused call

@@ -1,7 +1,7 @@
 -- 01, "Numbers of each operation", Start: the settings as eight words, T1 G K R X D M SIZE.
 use Rattle.std.specs.Prelude.{◌≡◌, ℕ, ◌≤◌, List, [], ◌∷◌, length, get_or, eqb}
-use Rattle.config.specs.Entry.{onState, entry}
-use Rattle.config.specs.Settings.{checkOf}
+use Rattle.config.specs.Entry.{on_state, entry}
+use Rattle.config.specs.Settings.{check_of}
 use Rattle.config.specs.declared.answer.Outcome.{Outcome}
 use Rattle.config.specs.declared.answer.Outcome.TheVariants.{Done, Refused}
 use Rattle.config.specs.declared.settings.StreamConfig.{StreamConfig}
@@ -10,8 +10,8 @@ use Rattle.c_words.specs.Limits.{within}
 abbrev at : List ℕ → ℕ → ℕ
 at ws k = get_or ws k 0
 
-abbrev pub settingsOf : List ℕ → StreamConfig
-settingsOf ws =
+abbrev pub settings_of : List ℕ → StreamConfig
+settings_of ws =
     record {
       idle_interval_ms = at ws 0;
       idle_growth = at ws 1;
@@ -24,12 +24,12 @@ settingsOf ws =
     }
 
 -- K, R and M have 8 bits, X is 0 or 1
-abbrev pub settingsLimits : List (ℕ × ℕ)
-settingsLimits = (2, 255) ∷ (3, 255) ∷ (4, 1) ∷ (6, 255) ∷ []
+abbrev pub settings_limits : List (ℕ × ℕ)
+settings_limits = (2, 255) ∷ (3, 255) ∷ (4, 1) ∷ (6, 255) ∷ []
 
 -- 13 where the words are not eight, then the settings' own 9, 7, 8, then 13 where a word is too wide
-unfoldable pub settingsCheck : List ℕ → Outcome
-settingsCheck ws = onState (eqb (length ws) 8) Refused (entry (checkOf (settingsOf ws)) (within settingsLimits ws) Refused Done)
+unfoldable pub settings_check : List ℕ → Outcome
+settings_check ws = on_state (eqb (length ws) 8) Refused (entry (check_of (settings_of ws)) (within settings_limits ws) Refused Done)
 
 -- words that are settings
 pub record Small (ws : List ℕ) : Type 0 where

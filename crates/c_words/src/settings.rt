@@ -2,12 +2,12 @@
 //
 //   T1 G K R X D M SIZE
 ghost use Rattle.std.specs.Prelude.{◌≡◌, length};
-ghost use Rattle.config.specs.Entry.{onState};
-ghost use Rattle.config.specs.Refusals.{outcomeNumber};
-ghost use Rattle.config.specs.Settings.{checkOf};
+ghost use Rattle.config.specs.Entry.{on_state};
+ghost use Rattle.config.specs.Refusals.{outcome_number};
+ghost use Rattle.config.specs.Settings.{check_of};
 ghost use Rattle.config.specs.declared.answer.Outcome.TheVariants.{Done, Refused};
 ghost use Rattle.c_words.specs.Limits.{within};
-ghost use Rattle.c_words.specs.Settings.{Small, settingsLimits, settingsCheck, settingsOf};
+ghost use Rattle.c_words.specs.Settings.{Small, settings_limits, settings_check, settings_of};
 
 use super::guard;
 use config::answer::Outcome;
@@ -16,7 +16,7 @@ use config::settings::StreamConfig;
 // The settings' own test, which looks at SIZE, T1 and G alone.
 fn check(words: &[u32]) -> Outcome
     requires { length words.now ≡ 8 }
-    ensures { result ≡ checkOf (settingsOf words.now) }
+    ensures { result ≡ check_of (settings_of words.now) }
 {
     let tested = StreamConfig {
         idle_interval_ms: words[0],
@@ -34,7 +34,7 @@ fn check(words: &[u32]) -> Outcome
 // Whether K, R and M fit 8 bits, and X is 0 or 1.
 fn narrow(words: &[u32]) -> bool
     requires { length words.now ≡ 8 }
-    ensures { result ≡ within settingsLimits words.now }
+    ensures { result ≡ within settings_limits words.now }
 {
     if 255 < words[2] | words[3] | words[6] {
         return false;
@@ -44,7 +44,7 @@ fn narrow(words: &[u32]) -> bool
 
 // 13 for words that are too wide.
 fn fit(fits: bool) -> u8
-    ensures { result ≡ outcomeNumber (onState fits Refused Done) }
+    ensures { result ≡ outcome_number (on_state fits Refused Done) }
 {
     if fits {
         return 0;
@@ -55,7 +55,7 @@ fn fit(fits: bool) -> u8
 // 0, or why the words are refused: 13 where they are not eight, then 9, 7, 8, then 13 where a word is
 // too wide.
 pub fn number(words: &[u32]) -> u8
-    ensures { result ≡ outcomeNumber (settingsCheck words.now) }
+    ensures { result ≡ outcome_number (settings_check words.now) }
 {
     if words.len() != 8 {
         return guard::INVALID_STATE;
@@ -69,7 +69,7 @@ pub fn number(words: &[u32]) -> u8
 // The settings.
 pub fn load(words: &[u32]) -> StreamConfig
     requires { Small words.now }
-    ensures { result ≡ settingsOf words.now }
+    ensures { result ≡ settings_of words.now }
 {
     StreamConfig {
         idle_interval_ms: words[0],

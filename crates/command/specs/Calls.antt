@@ -2,41 +2,41 @@
 use Rattle.std.specs.Prelude.{◌≡◌, Bool, true, false, cond, List, [], ◌∷◌, ◌++◌, ℕ, ◌≤◌, ◌<◌, length, drop}
 use Rattle.packet.specs.Layout.{Packet, packet, Words32}
 use Rattle.packet.specs.Read.{items_of, placed}
-use Rattle.packet.specs.Write.{opened_of, written_of, bytesIn}
+use Rattle.packet.specs.Write.{opened_of, written_of, bytes_in}
 use Rattle.packet.specs.declared.writer.PayloadWriter.{PayloadWriter}
 use Rattle.packet.specs.declared.writer.Opened.TheVariants.{Payload}
 use Rattle.config.specs.declared.answer.Outcome.{Outcome}
 use Rattle.config.specs.declared.answer.Outcome.TheVariants.{Done, Refused}
 use Rattle.packet.specs.declared.writer.Wrote.{Wrote}
-use Rattle.command.specs.Write.{dataPacket, requestPacket, errorPacket, errorWritten, dataWritten}
+use Rattle.command.specs.Write.{data_packet, request_packet, error_packet, error_written, data_written}
 use Rattle.command.specs.declared.retransmit.RetransmitRequest.{RetransmitRequest}
 use Rattle.command.specs.declared.retransmit.RetransmitError.{RetransmitError}
 
 -- a write call with its arguments
 pub data Call : Type 0 where
   raw : ℕ → ℕ → ℕ → List ℕ → Call
-  umpData : ℕ → List ℕ → Call
+  ump_data : ℕ → List ℕ → Call
   request : RetransmitRequest → Call
   error : RetransmitError → Call
 
 -- the answer, the payload and the buffer after a call
 abbrev pub call_of : Call → PayloadWriter → List ℕ → Wrote × List ℕ
 call_of (raw code csd1 csd2 ws) p b = written_of p b (packet code csd1 csd2 ws)
-call_of (umpData seq ws) p b = dataWritten p b seq ws
-call_of (request q) p b = written_of p b (requestPacket q)
-call_of (error e) p b = errorWritten e p b
+call_of (ump_data seq ws) p b = data_written p b seq ws
+call_of (request q) p b = written_of p b (request_packet q)
+call_of (error e) p b = error_written e p b
 
 -- the command that it writes where it is accepted
-abbrev pub commandOf : Call → Packet
-commandOf (raw code csd1 csd2 ws) = packet code csd1 csd2 ws
-commandOf (umpData seq ws) = dataPacket seq ws
-commandOf (request q) = requestPacket q
-commandOf (error e) = errorPacket e
+abbrev pub command_of : Call → Packet
+command_of (raw code csd1 csd2 ws) = packet code csd1 csd2 ws
+command_of (ump_data seq ws) = data_packet seq ws
+command_of (request q) = request_packet q
+command_of (error e) = error_packet e
 
 -- the arguments lie in their types: 32-bit words, 16-bit counts and numbers
 unfoldable pub Typed : Call → Type 0
 Typed (raw code csd1 csd2 ws) = Words32 ws
-Typed (umpData seq ws) = Words32 ws
+Typed (ump_data seq ws) = Words32 ws
 Typed (request q) = q.count < 65536
 Typed (error e) = e.seq < 65536
 
@@ -57,13 +57,13 @@ accepts (Refused r) cs c = cs
 unfoldable pub run : List Call → PayloadWriter → List ℕ → List Packet → Run
 run [] p b cs = record { payload = p; buffer = b; accepted = cs }
 run (c ∷ calls) p b cs =
-    run calls (call_of c p b).0.payload (call_of c p b).1 (accepts (call_of c p b).0.answer cs (commandOf c))
+    run calls (call_of c p b).0.payload (call_of c p b).1 (accepts (call_of c p b).0.answer cs (command_of c))
 
 -- For every list of calls into a payload that was opened empty, in any mix and with any refusals between: reading the payload's
 -- bytes gives exactly the accepted commands, in order, each at its place and none cut; so as many as were accepted.
 pub record RoundTrip (r : Run) : Type 0 where
-  pub read_back : items_of (bytesIn r.payload r.buffer) ≡ placed 4 r.accepted
-  pub counted : length (items_of (bytesIn r.payload r.buffer)) ≡ length r.accepted
+  pub read_back : items_of (bytes_in r.payload r.buffer) ≡ placed 4 r.accepted
+  pub counted : length (items_of (bytes_in r.payload r.buffer)) ≡ length r.accepted
 
 abbrev pub RoundTrips : Type 0
 RoundTrips =
@@ -75,5 +75,5 @@ RoundTrips =
 pub record Untouched : Type 0 where
   pub after : (c : Call) (p : PayloadWriter) (b : List ℕ)
       → drop (call_of c p b).0.payload.len (call_of c p b).1 ≡ drop (call_of c p b).0.payload.len b
-  pub before : (c : Call) (p : PayloadWriter) (b : List ℕ) → bytesIn p (call_of c p b).1 ≡ bytesIn p b
+  pub before : (c : Call) (p : PayloadWriter) (b : List ℕ) → bytes_in p (call_of c p b).1 ≡ bytes_in p b
   pub same_length : (c : Call) (p : PayloadWriter) (b : List ℕ) → length (call_of c p b).1 ≡ length b

@@ -9,14 +9,14 @@ among [] t = false
 among (x ∷ xs) t = eqb x t || among xs t
 
 -- types 0, 1, 2, 6, 7 have 1 word; 3, 4, 8, 9, A have 2; B, C have 3; 5, D, E, F have 4
-unfoldable pub typeWords : ℕ → ℕ
-typeWords t =
+unfoldable pub type_words : ℕ → ℕ
+type_words t =
     cond (among (0 ∷ 1 ∷ 2 ∷ 6 ∷ 7 ∷ []) t) 1
     (cond (among (3 ∷ 4 ∷ 8 ∷ 9 ∷ 0xA ∷ []) t) 2
     (cond (among (0xB ∷ 0xC ∷ []) t) 3 4))
 
-abbrev pub messageWords : ℕ → ℕ
-messageWords w = typeWords (w / 0x10000000)
+abbrev pub message_words : ℕ → ℕ
+message_words w = type_words (w / 0x10000000)
 
 -- a list of words divided: its whole messages, in order, and whether it ends inside a message
 pub record Messages : Type 0 where
@@ -34,15 +34,15 @@ unfoldable pub divided : ℕ → List ℕ → Messages
 divided zero ws = none false
 divided (suc f) [] = none false
 divided (suc f) (w ∷ ws) =
-    cond (leb (messageWords w) (length (w ∷ ws)))
-    (also (take (messageWords w) (w ∷ ws)) (divided f (drop (messageWords w) (w ∷ ws))))
+    cond (leb (message_words w) (length (w ∷ ws)))
+    (also (take (message_words w) (w ∷ ws)) (divided f (drop (message_words w) (w ∷ ws))))
     (none true)
 
-unfoldable pub messagesOf : List ℕ → Messages
-messagesOf ws = divided (length ws) ws
+unfoldable pub messages_of : List ℕ → Messages
+messages_of ws = divided (length ws) ws
 
 unfoldable pub whole_of : List ℕ → Bool
-whole_of ws = not (messagesOf ws).cut
+whole_of ws = not (messages_of ws).cut
 
 -- messages, or commands, one after the other, as words
 unfoldable pub words_in : List (List ℕ) → List ℕ
@@ -50,23 +50,23 @@ words_in [] = []
 words_in (ws ∷ wss) = ws ++ words_in wss
 
 -- the words of the whole messages at the front
-unfoldable pub wholeWords : List ℕ → List ℕ
-wholeWords ws = words_in (messagesOf ws).whole
+unfoldable pub whole_words : List ℕ → List ℕ
+whole_words ws = words_in (messages_of ws).whole
 
 -- what the words from index `at` on begin with
-abbrev pub messageItem : ℕ → List ℕ → MessageItem
-messageItem at [] = End
-messageItem at (w ∷ ws) =
-    cond (leb (messageWords w) (length (w ∷ ws))) (Message at (messageWords w) record { at = at + messageWords w }) Truncated
+abbrev pub message_item : ℕ → List ℕ → MessageItem
+message_item at [] = End
+message_item at (w ∷ ws) =
+    cond (leb (message_words w) (length (w ∷ ws))) (Message at (message_words w) record { at = at + message_words w }) Truncated
 
-unfoldable pub messageAt : List ℕ → ℕ → MessageItem
-messageAt ws at = messageItem at (drop at ws)
+unfoldable pub message_at : List ℕ → ℕ → MessageItem
+message_at ws at = message_item at (drop at ws)
 
 -- the words of the message that it finds; 0 where it finds no whole one
-abbrev pub itemWords : MessageItem → ℕ
-itemWords (Message at n next) = n
-itemWords Truncated = 0
-itemWords End = 0
+abbrev pub item_words : MessageItem → ℕ
+item_words (Message at n next) = n
+item_words Truncated = 0
+item_words End = 0
 
 -- what a caller of the walk collects, one step after the other
 abbrev pub follow : MessageItem → List ℕ → (ℕ → Messages) → Messages
@@ -76,8 +76,8 @@ follow End ws go = none false
 
 unfoldable pub walked : ℕ → List ℕ → ℕ → Messages
 walked zero ws at = none false
-walked (suc f) ws at = follow (messageAt ws at) ws (λ next. walked f ws next)
+walked (suc f) ws at = follow (message_at ws at) ws (λ next. walked f ws next)
 
 -- the walk gives exactly the whole messages, in order, and the cut mark
 abbrev pub MessagesWalk : Type 0
-MessagesWalk = (ws : List ℕ) → walked (length ws) ws 0 ≡ messagesOf ws
+MessagesWalk = (ws : List ℕ) → walked (length ws) ws 0 ≡ messages_of ws

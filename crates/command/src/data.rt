@@ -1,7 +1,7 @@
 // UMP Data.
 ghost use Rattle.std.specs.Prelude.{◌≡◌};
-ghost use Rattle.packet.specs.Write.{refusedOf};
-ghost use Rattle.command.specs.Write.{dataWritten};
+ghost use Rattle.packet.specs.Write.{refused_of};
+ghost use Rattle.command.specs.Write.{data_written};
 
 use super::message::whole_messages;
 use config::answer::Outcome;
@@ -19,7 +19,7 @@ pub struct UmpData {
 impl UmpData {
     // 13; 5 for over 64 words, or words that end inside a message; 3, 2.
     pub fn write(p: PayloadWriter, buf: &mut [u8], seq: SeqNum, words: &[u32]) -> Wrote
-        ensures { (result, buf.new) ≡ dataWritten p buf.old seq words.now }
+        ensures { (result, buf.new) ≡ data_written p buf.old seq words.now }
     {
         if packet::tested::is_valid(p, buf.len()) {
             if MAX_COMMAND_WORDS < words.len() {
@@ -37,7 +37,7 @@ impl UmpData {
 }
 
 fn refused(p: PayloadWriter, why: Refusal) -> Wrote
-    ensures { result ≡ refusedOf p why }
+    ensures { result ≡ refused_of p why }
 {
     Wrote {
         payload: p,

@@ -4,7 +4,7 @@
 //           ^ at
 ghost use Rattle.std.specs.Prelude.{◌≡◌, ◌≤◌, length, get_or};
 ghost use Rattle.packet.specs.Bytes.{words_of};
-ghost use Rattle.command.specs.Messages.{messageWords, whole_of, wholeWords, messageAt, itemWords};
+ghost use Rattle.command.specs.Messages.{message_words, whole_of, whole_words, message_at, item_words};
 
 use packet::cursor::{Lookup, word};
 
@@ -13,7 +13,7 @@ const WORDS: u64 = 0x4443_3222_1142_2111;
 
 // The words of the message that begins with the word `first`: 1 to 4.
 pub fn message_words(first: u32) -> usize
-    ensures { (result ≡ messageWords first) × (1 ≤ result) × (result ≤ 4) }
+    ensures { (result ≡ message_words first) × (1 ≤ result) × (result ≤ 4) }
 {
     let kind = first / 0x1000_0000;
     ((WORDS >> (4 * kind)) % 0x10) as usize
@@ -21,7 +21,7 @@ pub fn message_words(first: u32) -> usize
 
 // The words of the whole message at index `at`; 0 where there is none.
 pub fn message_at(words: &[u32], at: usize) -> usize
-    ensures { result ≡ itemWords (messageAt words.now at) }
+    ensures { result ≡ item_words (message_at words.now at) }
 {
     if at < words.len() {
         let n = message_words(words[at]);
@@ -35,7 +35,7 @@ pub fn message_at(words: &[u32], at: usize) -> usize
 
 // How many words the whole messages at the front have.
 pub fn whole_words(words: &[u32]) -> usize
-    ensures { result ≡ length (wholeWords words.now) }
+    ensures { result ≡ length (whole_words words.now) }
 {
     let mut at = 0;
     // The length of the message before. Where the next one has it too, the next index does not wait
@@ -89,7 +89,7 @@ impl UmpMessages {
 
     // What stands next in the bytes of a data command's words.
     pub fn next(self, body: &[u8]) -> MessageItem
-        ensures { result ≡ messageAt (words_of body.now) self.at }
+        ensures { result ≡ message_at (words_of body.now) self.at }
     {
         let at = self.at;
         match word(body, at) {
@@ -121,7 +121,7 @@ pub fn word_at(body: &[u8], at: usize) -> u32
 
 // The words of the whole message at the word `at` of a data command's bytes; 0 where there is none.
 pub fn message_in(body: &[u8], at: usize) -> usize
-    ensures { result ≡ itemWords (messageAt (words_of body.now) at) }
+    ensures { result ≡ item_words (message_at (words_of body.now) at) }
 {
     let walk = UmpMessages { at };
     match walk.next(body) {
@@ -137,7 +137,7 @@ pub fn message_in(body: &[u8], at: usize) -> usize
 
 // As `whole_words`, over a data command's bytes.
 pub fn whole_words_in(body: &[u8]) -> usize
-    ensures { result ≡ length (wholeWords (words_of body.now)) }
+    ensures { result ≡ length (whole_words (words_of body.now)) }
 {
     let mut at = 0;
     loop {

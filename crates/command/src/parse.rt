@@ -1,7 +1,7 @@
 // What a received command is.
 ghost use Rattle.std.specs.Prelude.{◌≡◌};
 ghost use Rattle.packet.specs.Bytes.{words_of};
-ghost use Rattle.command.specs.Parse.{parsedOf, requestIn, errorIn};
+ghost use Rattle.command.specs.Parse.{parsed_of, request_in, error_in};
 
 use super::data::UmpData;
 use super::retransmit::{RetransmitError, RetransmitRequest};
@@ -22,7 +22,7 @@ pub enum Command {
 // The command with this header and these bytes of words; 10 for a request or an error without a
 // word. Words past the first are passed over.
 pub fn parse(header: Header, body: &[u8]) -> Command
-    ensures { result ≡ parsedOf header (words_of body.now) }
+    ensures { result ≡ parsed_of header (words_of body.now) }
 {
     let code = header.code;
     if code == 0xFF {
@@ -38,7 +38,7 @@ pub fn parse(header: Header, body: &[u8]) -> Command
 }
 
 fn request(header: Header, body: &[u8]) -> Command
-    ensures { result ≡ requestIn header (words_of body.now) }
+    ensures { result ≡ request_in header (words_of body.now) }
 {
     match word(body, 0) {
         Lookup::Absent => Command::Refused(Refusal::Malformed),
@@ -50,7 +50,7 @@ fn request(header: Header, body: &[u8]) -> Command
 }
 
 fn error(header: Header, body: &[u8]) -> Command
-    ensures { result ≡ errorIn header (words_of body.now) }
+    ensures { result ≡ error_in header (words_of body.now) }
 {
     match word(body, 0) {
         Lookup::Absent => Command::Refused(Refusal::Malformed),

@@ -1,6 +1,6 @@
 // Retransmit Request and Retransmit Error.
 ghost use Rattle.std.specs.Prelude.{◌≡◌};
-ghost use Rattle.command.specs.Write.{isDefined, requestPacket, errorWritten};
+ghost use Rattle.command.specs.Write.{is_defined, request_packet, error_written};
 ghost use Rattle.packet.specs.Write.{written_of};
 
 use super::tested;
@@ -31,7 +31,7 @@ pub const NOT_IN_BUFFER: u8 = 1;
 impl RetransmitRequest {
     // 13, 3, 2 as for any command.
     pub fn write(self, p: PayloadWriter, buf: &mut [u8]) -> Wrote
-        ensures { (result, buf.new) ≡ written_of p buf.old (requestPacket self) }
+        ensures { (result, buf.new) ≡ written_of p buf.old (request_packet self) }
     {
         if packet::tested::is_valid(p, buf.len()) {
             return tested::write_request(self, p, buf);
@@ -46,14 +46,14 @@ impl RetransmitRequest {
 impl RetransmitError {
     // Whether the reason is one that M2-124-UM defines.
     pub fn is_defined(self) -> bool
-        ensures { result ≡ isDefined self }
+        ensures { result ≡ is_defined self }
     {
         self.reason <= NOT_IN_BUFFER
     }
 
     // 13; 11 for a reason that is not defined; 3, 2.
     pub fn write(self, p: PayloadWriter, buf: &mut [u8]) -> Wrote
-        ensures { (result, buf.new) ≡ errorWritten self p buf.old }
+        ensures { (result, buf.new) ≡ error_written self p buf.old }
     {
         if packet::tested::is_valid(p, buf.len()) {
             return tested::write_error(self, p, buf);

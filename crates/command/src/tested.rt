@@ -1,7 +1,7 @@
 // Writing into a payload that has passed the state test.
 ghost use Rattle.std.specs.Prelude.{◌≡◌, true, length};
 ghost use Rattle.packet.specs.Write.{valid_of, written_of};
-ghost use Rattle.command.specs.Write.{requestPacket, errorWritten};
+ghost use Rattle.command.specs.Write.{request_packet, error_written};
 
 use super::retransmit::{RetransmitError, RetransmitRequest};
 use config::answer::Outcome;
@@ -10,7 +10,7 @@ use packet::writer::{PayloadWriter, Wrote};
 
 pub fn write_request(req: RetransmitRequest, p: PayloadWriter, buf: &mut [u8]) -> Wrote
     requires { valid_of p (length buf.old) ≡ true }
-    ensures { (result, buf.new) ≡ written_of p buf.old (requestPacket req) }
+    ensures { (result, buf.new) ≡ written_of p buf.old (request_packet req) }
 {
     let seq = req.seq;
     let count = req.count;
@@ -27,7 +27,7 @@ pub fn write_request(req: RetransmitRequest, p: PayloadWriter, buf: &mut [u8]) -
 
 pub fn write_error(err: RetransmitError, p: PayloadWriter, buf: &mut [u8]) -> Wrote
     requires { valid_of p (length buf.old) ≡ true }
-    ensures { (result, buf.new) ≡ errorWritten err p buf.old }
+    ensures { (result, buf.new) ≡ error_written err p buf.old }
 {
     if err.is_defined() {
         let seq = err.seq;

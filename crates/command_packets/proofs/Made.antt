@@ -37,15 +37,15 @@ module _ (α : NamedLft) where
     abbrev pub packets : CommandPackets
     packets = record { rest = x }
 
-    abbrev pub packets-val : Val
-    packets-val = vstruct (vcons w vnil)
+    abbrev pub packets_val : Val
+    packets_val = vstruct (vcons w vnil)
 
-    pub packets-is : Is Bytes x (w ∷ []) → Is (T.the_row α) packets (packets-val ∷ [])
-    packets-is p = ((w ∷ [], tt), (refl, (p, tt)))
+    pub packets_is : Is Bytes x (w ∷ []) → Is (T.the_row α) packets (packets_val ∷ [])
+    packets_is p = ((w ∷ [], tt), (refl, (p, tt)))
 
-    pub packets-owns : {M : Type 1} {𝓤 : Ura M} (𝓛 : Logic 𝓤)
-        → ent 𝓤 (sem 𝓛 (Bytes.own_val x (w ∷ []))) (sem 𝓛 ((T.the_row α).own_val packets (packets-val ∷ [])))
-    packets-owns 𝓛 =
+    pub packets_owns : {M : Type 1} {𝓤 : Ura M} (𝓛 : Logic 𝓤)
+        → ent 𝓤 (sem 𝓛 (Bytes.own_val x (w ∷ []))) (sem 𝓛 ((T.the_row α).own_val packets (packets_val ∷ [])))
+    packets_owns 𝓛 =
         qed 𝓛 (‵ (Bytes.own_val x (w ∷ [])) ∷ []) ∵ nothing ! $ move ! (1 ∷ 0 ∷ []) $ fjoin ! $
         by ! (makes 𝓛 (fields (T.the_type α)) (owns (fields (T.the_type α)) (x, tt)) (w ∷ [], tt))
 
@@ -54,15 +54,15 @@ module _ (α : NamedLft) where
     abbrev pub opened : Opened
     opened = record { packets = r; answer = p }
 
-    abbrev pub opened-val : Val
-    opened-val = vstruct (vcons v (vcons u vnil))
+    abbrev pub opened_val : Val
+    opened_val = vstruct (vcons v (vcons u vnil))
 
-    pub opened-is : Is (T.the_row α) r (v ∷ []) → Is Pk.the_row p (u ∷ []) → Is (O.the_row α) opened (opened-val ∷ [])
-    opened-is g h = ((v ∷ [], (u ∷ [], tt)), (refl, (g, (h, tt))))
+    pub opened_is : Is (T.the_row α) r (v ∷ []) → Is Pk.the_row p (u ∷ []) → Is (O.the_row α) opened (opened_val ∷ [])
+    opened_is g h = ((v ∷ [], (u ∷ [], tt)), (refl, (g, (h, tt))))
 
-    pub opened-owns : {M : Type 1} {𝓤 : Ura M} (𝓛 : Logic 𝓤)
-        → ent 𝓤 (sep 𝓤 (sem 𝓛 ((T.the_row α).own_val r (v ∷ []))) (sem 𝓛 ((Pk.the_row).own_val p (u ∷ [])))) (sem 𝓛 ((O.the_row α).own_val opened (opened-val ∷ [])))
-    opened-owns 𝓛 =
+    pub opened_owns : {M : Type 1} {𝓤 : Ura M} (𝓛 : Logic 𝓤)
+        → ent 𝓤 (sep 𝓤 (sem 𝓛 ((T.the_row α).own_val r (v ∷ []))) (sem 𝓛 ((Pk.the_row).own_val p (u ∷ [])))) (sem 𝓛 ((O.the_row α).own_val opened (opened_val ∷ [])))
+    opened_owns 𝓛 =
         qed 𝓛 (‵ ((T.the_row α).own_val r (v ∷ [])) ∷ ‵ ((Pk.the_row).own_val p (u ∷ [])) ∷ []) ∵ nothing ! $ move ! (2 ∷ 0 ∷ []) $ fjoin ! $ move ! (1 ∷ 0 ∷ []) $ fjoin ! $
         by ! (makes 𝓛 (fields (O.the_type α)) (owns (fields (O.the_type α)) ((O.the_type α).to opened)) (v ∷ [], (u ∷ [], tt)))
 
@@ -71,16 +71,16 @@ module _ (α : NamedLft) where
     abbrev pub step : Step
     step = record { packets = r; payload = x; item = i }
 
-    abbrev pub step-val : Val
-    step-val = vstruct (vcons v (vcons w (vcons u vnil)))
+    abbrev pub step_val : Val
+    step_val = vstruct (vcons v (vcons w (vcons u vnil)))
 
-    pub step_is : Is (T.the_row α) r (v ∷ []) → Is Bytes x (w ∷ []) → Is It.the_row i (u ∷ []) → Is (S.the_row α) step (step-val ∷ [])
+    pub step_is : Is (T.the_row α) r (v ∷ []) → Is Bytes x (w ∷ []) → Is It.the_row i (u ∷ []) → Is (S.the_row α) step (step_val ∷ [])
     step_is g h k = ((v ∷ [], (w ∷ [], (u ∷ [], tt))), (refl, (g, (h, (k, tt)))))
 
-    pub step-owns : {M : Type 1} {𝓤 : Ura M} (𝓛 : Logic 𝓤)
+    pub step_owns : {M : Type 1} {𝓤 : Ura M} (𝓛 : Logic 𝓤)
         → ent 𝓤 (sep 𝓤 (sem 𝓛 ((T.the_row α).own_val r (v ∷ []))) (sep 𝓤 (sem 𝓛 (Bytes.own_val x (w ∷ []))) (sem 𝓛 ((It.the_row).own_val i (u ∷ [])))))
-        (sem 𝓛 ((S.the_row α).own_val step (step-val ∷ [])))
-    step-owns 𝓛 =
+        (sem 𝓛 ((S.the_row α).own_val step (step_val ∷ [])))
+    step_owns 𝓛 =
         qed 𝓛 (‵ ((T.the_row α).own_val r (v ∷ [])) ∷ ‵ (Bytes.own_val x (w ∷ [])) ∷ ‵ ((It.the_row).own_val i (u ∷ [])) ∷ []) ∵
         nothing ! $ move ! (3 ∷ 0 ∷ []) $ fjoin ! $ move ! (2 ∷ 0 ∷ []) $ fjoin ! $ move ! (1 ∷ 0 ∷ []) $ fjoin ! $
         by ! (makes 𝓛 (fields (S.the_type α)) (owns (fields (S.the_type α)) ((S.the_type α).to step)) (v ∷ [], (w ∷ [], (u ∷ [], tt))))

@@ -13,30 +13,30 @@ use Rattle.packet.specs.declared.cursor.Packets.{Packets}
 use Rattle.packet.specs.declared.cursor.Packets.TheVariants.{At, Refused}
 use Rattle.packet.specs.declared.cursor.PacketItem.{PacketItem}
 use Rattle.packet.specs.declared.cursor.PacketItem.TheVariants.{Command, Truncated}
-use Rattle.command_packets.specs.Held.{unreadAt, payloadAt, after_at}
+use Rattle.command_packets.specs.Held.{unread_at, payload_at, after_at}
 
 module _ (b : List ℕ) (at : ℕ) where
-  pub from-inside : at ≤ length b → take (length b - at) (drop at b) ≡ drop at b
-  from-inside h = take_all (length b - at) (drop at b) (simp length-drop (omega arith))
+  pub from_inside : at ≤ length b → take (length b - at) (drop at b) ≡ drop at b
+  from_inside h = take_all (length b - at) (drop at b) (simp length-drop (omega arith))
 
   pub from_past : length b < at → [] ≡ drop at b
   from_past h = sym (drop_of_length-le b {i = at} (omega arith))
 
 module _ (b rest : List ℕ) where
   -- ---- after opening
-  pub unread-at : (p : Packets) (c : Cursor) → p ≡ At c → rest ≡ drop c.at b → rest ≡ unreadAt p b
-  unread-at p c e f = f ∙ ap (λ (x : Packets). unreadAt x b) (sym e)
+  pub unread_at_lem : (p : Packets) (c : Cursor) → p ≡ At c → rest ≡ drop c.at b → rest ≡ unread_at p b
+  unread_at_lem p c e f = f ∙ ap (λ (x : Packets). unread_at x b) (sym e)
 
-  pub unread-refused : (p : Packets) (r : Refusal) → p ≡ Refused r → rest ≡ drop (length b) b → rest ≡ unreadAt p b
-  unread-refused p r e f = f ∙ drop-length b ∙ ap (λ (x : Packets). unreadAt x b) (sym e)
+  pub unread_refused : (p : Packets) (r : Refusal) → p ≡ Refused r → rest ≡ drop (length b) b → rest ≡ unread_at p b
+  unread_refused p r e f = f ∙ drop-length b ∙ ap (λ (x : Packets). unread_at x b) (sym e)
 
   -- ---- of an item and after it
   module _ (i : PacketItem) (h : Header) where
-    pub payload-whole : (at : ℕ) (c : Cursor) → i ≡ Command h at c → rest ≡ body_of b at h → rest ≡ payloadAt i b
-    payload-whole at c e f = f ∙ ap (λ (x : PacketItem). payloadAt x b) (sym e)
+    pub payload_whole : (at : ℕ) (c : Cursor) → i ≡ Command h at c → rest ≡ body_of b at h → rest ≡ payload_at i b
+    payload_whole at c e f = f ∙ ap (λ (x : PacketItem). payload_at x b) (sym e)
 
-    pub after-whole : (at : ℕ) (c : Cursor) → i ≡ Command h at c → rest ≡ drop c.at b → rest ≡ after_at i b
-    after-whole at c e f = f ∙ ap (λ (x : PacketItem). after_at x b) (sym e)
+    pub after_whole : (at : ℕ) (c : Cursor) → i ≡ Command h at c → rest ≡ drop c.at b → rest ≡ after_at i b
+    after_whole at c e f = f ∙ ap (λ (x : PacketItem). after_at x b) (sym e)
 
-    pub after-cut : i ≡ Truncated h → rest ≡ drop (length b) b → rest ≡ after_at i b
-    after-cut e f = f ∙ drop-length b ∙ ap (λ (x : PacketItem). after_at x b) (sym e)
+    pub after_cut : i ≡ Truncated h → rest ≡ drop (length b) b → rest ≡ after_at i b
+    after_cut e f = f ∙ drop-length b ∙ ap (λ (x : PacketItem). after_at x b) (sym e)

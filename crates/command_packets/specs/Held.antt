@@ -3,26 +3,26 @@
 use Rattle.std.specs.Prelude.{ℕ, zero, suc, ◌+◌, ◌-◌, List, [], ◌∷◌, length, drop}
 use Rattle.packet.specs.Bytes.{words_of}
 use Rattle.packet.specs.Layout.{packet}
-use Rattle.packet.specs.Read.{openOf, next_of, body_of, Item, whole, cut}
+use Rattle.packet.specs.Read.{open_of, next_of, body_of, Item, whole, cut}
 use Rattle.packet.specs.declared.cursor.Packets.{Packets}
 use Rattle.packet.specs.declared.cursor.Packets.TheVariants.{At, Refused}
 use Rattle.packet.specs.declared.cursor.PacketItem.{PacketItem}
 use Rattle.packet.specs.declared.cursor.PacketItem.TheVariants.{Command, Truncated, End}
 
 -- ---- opening: what is unread of a payload, by the cursor core's answer
-abbrev pub unreadAt : Packets → List ℕ → List ℕ
-unreadAt (At c) b = drop c.at b
-unreadAt (Refused r) b = []
+abbrev pub unread_at : Packets → List ℕ → List ℕ
+unread_at (At c) b = drop c.at b
+unread_at (Refused r) b = []
 
 -- the unread bytes and the answer
 unfoldable pub opened_of : List ℕ → List ℕ × Packets
-opened_of b = (unreadAt (openOf b) b, openOf b)
+opened_of b = (unread_at (open_of b) b, open_of b)
 
 -- ---- one step: the bytes of a whole command's words
-abbrev pub payloadAt : PacketItem → List ℕ → List ℕ
-payloadAt (Command h at next) b = body_of b at h
-payloadAt (Truncated h) b = []
-payloadAt End b = []
+abbrev pub payload_at : PacketItem → List ℕ → List ℕ
+payload_at (Command h at next) b = body_of b at h
+payload_at (Truncated h) b = []
+payload_at End b = []
 
 -- what is unread after an item: a cut command ends the reading
 abbrev pub after_at : PacketItem → List ℕ → List ℕ
@@ -32,7 +32,7 @@ after_at End b = b
 
 -- what is unread after the step, the bytes of the command's words, and the item; its places count from the front of the unread bytes
 unfoldable pub step_of : List ℕ → List ℕ × (List ℕ × PacketItem)
-step_of b = (after_at (next_of b 0) b, (payloadAt (next_of b 0) b, next_of b 0))
+step_of b = (after_at (next_of b 0) b, (payload_at (next_of b 0) b, next_of b 0))
 
 -- an item at the front of the unread bytes, where these begin at place `at` of the payload
 abbrev pub item_at : ℕ → PacketItem → PacketItem

@@ -2,7 +2,7 @@
 // struct only call these.
 ghost use Rattle.std.specs.Prelude.{◌≡◌, drop};
 ghost use Rattle.packet.specs.Read.{next_of};
-ghost use Rattle.command_packets.specs.Held.{unreadAt, payloadAt, after_at};
+ghost use Rattle.command_packets.specs.Held.{unread_at, payload_at, after_at};
 
 use packet::cursor::{Cursor, PacketItem, Packets, body};
 
@@ -18,7 +18,7 @@ pub fn from(bytes: &[u8], at: usize) -> &[u8]
 
 // What is unread of a payload that was just opened.
 pub fn opened(payload: &[u8], answer: Packets) -> &[u8]
-    ensures { result.now ≡ unreadAt answer payload.now }
+    ensures { result.now ≡ unread_at answer payload.now }
 {
     let end = payload.len();
     match answer {
@@ -36,7 +36,7 @@ pub fn front(rest: &[u8]) -> PacketItem
 
 // The bytes of a whole command's words, where the bytes begin with the item; none of another item.
 pub fn payload(bytes: &[u8], item: PacketItem) -> &[u8]
-    ensures { result.now ≡ payloadAt item bytes.now }
+    ensures { result.now ≡ payload_at item bytes.now }
 {
     match item {
         PacketItem::Command {

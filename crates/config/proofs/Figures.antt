@@ -4,6 +4,6 @@ use Rattle.config.specs.Settings.{defaults}
 use Rattle.config.specs.declared.settings.StreamConfig.{StreamConfig}
 
 -- "Defaults: T1 100, G 2, K 5, R 2, D 10, M 3, size 64 words, retransmits on"
-pub default-figures : (defaults.idle_interval_ms ≡ 100) × (defaults.idle_growth ≡ 2) × (defaults.idle_further ≡ 5) × (defaults.fec_repeats ≡ 2)
+pub default_figures : (defaults.idle_interval_ms ≡ 100) × (defaults.idle_growth ≡ 2) × (defaults.idle_further ≡ 5) × (defaults.fec_repeats ≡ 2)
     × (defaults.request_delay_ms ≡ 10) × (defaults.max_requests ≡ 3) × (defaults.max_command_words ≡ 64) × (defaults.retransmit ≡ true)
-default-figures = (refl, refl, refl, refl, refl, refl, refl, refl)
+default_figures = (refl, refl, refl, refl, refl, refl, refl, refl)

@@ -6,9 +6,9 @@ use Rattle.config.specs.declared.refusal.Refusal.{Refusal}
 use Rattle.config.specs.declared.refusal.Refusal.TheVariants.{InvalidState}
 
 -- a call that is given a state: 13 for one that no call has left
-abbrev pub onState : {A : Type 0} → Bool → (Refusal → A) → A → A
-onState valid refused call = cond valid call (refused InvalidState)
+abbrev pub on_state : {A : Type 0} → Bool → (Refusal → A) → A → A
+on_state valid refused call = cond valid call (refused InvalidState)
 
 -- a call that is given settings too: their own number first
 abbrev pub entry : {A : Type 0} → Outcome → Bool → (Refusal → A) → A → A
-entry checked valid refused call = tested checked refused (onState valid refused call)
+entry checked valid refused call = tested checked refused (on_state valid refused call)

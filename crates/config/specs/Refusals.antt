@@ -24,6 +24,6 @@ number_of InvalidRecord = 17
 number_of DivisionsNotAllowed = 18
 
 -- 0 for a call that was made
-abbrev pub outcomeNumber : Outcome → ℕ
-outcomeNumber Done = 0
-outcomeNumber (Refused why) = number_of why
+abbrev pub outcome_number : Outcome → ℕ
+outcome_number Done = 0
+outcome_number (Refused why) = number_of why

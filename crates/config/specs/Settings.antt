@@ -12,8 +12,8 @@ abbrev pub defaults : StreamConfig
 defaults =
     record { idle_interval_ms = 100; idle_growth = 2; idle_further = 5; fec_repeats = 2; retransmit = true; request_delay_ms = 10; max_requests = 3; max_command_words = 64 }
 
-unfoldable pub checkOf : StreamConfig → Outcome
-checkOf s =
+unfoldable pub check_of : StreamConfig → Outcome
+check_of s =
     cond (outside 1 64 s.max_command_words) (Refused CommandWords)
     (cond (outside 1 300 s.idle_interval_ms) (Refused IdleInterval)
     (cond (s.idle_growth == 0) (Refused IdleGrowth)

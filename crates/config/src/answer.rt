@@ -1,6 +1,6 @@
 // What a call answers that gives nothing but its state back, a yes or no, or a time.
 ghost use Rattle.std.specs.Prelude.{◌≡◌};
-ghost use Rattle.config.specs.Refusals.{outcomeNumber};
+ghost use Rattle.config.specs.Refusals.{outcome_number};
 
 use super::refusal::Refusal;
 
@@ -13,7 +13,7 @@ pub enum Outcome {
 impl Outcome {
     // 0, or the number of the refusal.
     pub fn number(self) -> u8
-        ensures { result ≡ outcomeNumber self }
+        ensures { result ≡ outcome_number self }
     {
         match self {
             Outcome::Done => 0,

@@ -1,10 +1,10 @@
 // Figures and their ranges.
 ghost use Rattle.std.specs.Prelude.{◌≡◌, min};
-ghost use Rattle.config.specs.Range.{outside as outsideOf};
+ghost use Rattle.config.specs.Range.{outside as outside_of};
 
 // Whether `n` lies outside `low` to `high`, both ends taken.
 pub fn outside(low: usize, high: usize, n: usize) -> bool
-    ensures { result ≡ outsideOf low high n }
+    ensures { result ≡ outside_of low high n }
 {
     if n < low {
         return true;

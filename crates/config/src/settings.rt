@@ -1,6 +1,6 @@
 // The settings of a stream. No state keeps them: each call that uses them is given them.
 ghost use Rattle.std.specs.Prelude.{◌≡◌};
-ghost use Rattle.config.specs.Settings.{checkOf, defaults};
+ghost use Rattle.config.specs.Settings.{check_of, defaults};
 
 use super::answer::Outcome;
 use super::range::outside;
@@ -52,7 +52,7 @@ impl StreamConfig {
 
     // The command size, then the idle interval, then the growth.
     pub fn check(self) -> Outcome
-        ensures { result ≡ checkOf self }
+        ensures { result ≡ check_of self }
     {
         if outside(1, MAX_COMMAND_WORDS, self.max_command_words) {
             return Outcome::Refused(Refusal::CommandWords);

@@ -12,27 +12,27 @@ use borrow.Author.Tests.{not-true}
 use Rattle.config.specs.Sequence.{turn}
 use Rattle.config.specs.inner.Tests.{split, tests}
 use Rattle.packet.specs.Bytes.{words_of}
-use Rattle.command.specs.Messages.{messagesOf, whole_of, words_in, wholeWords}
+use Rattle.command.specs.Messages.{messages_of, whole_of, words_in, whole_words}
 use Rattle.window.specs.Arrival.{reach}
 use Rattle.window.specs.declared.window.Class.{Class}
 use Rattle.window.specs.declared.window.Class.TheVariants.{New, Late, Duplicate}
-use Rattle.receiver.specs.Messages.{handedWords, handedBytes, handedCut}
+use Rattle.receiver.specs.Messages.{handed_words, handed_bytes, handed_cut}
 use Rattle.receiver.specs.declared.receiver.Hearing.TheVariants.{Delivery as Delivered, Refused as HearingRefused}
-use Rattle.receiver_log.specs.Calls.{Entry, data-entry, poll-entry, error-entry, nak-entry, take-entry}
-use Rattle.receiver_log.specs.Log.{Report, reportOf, origin, place, high, times, lost, Missing}
+use Rattle.receiver_log.specs.Calls.{Entry, data_entry, poll_entry, error_entry, nak_entry, take_entry}
+use Rattle.receiver_log.specs.Log.{Report, report_of, origin, place, high, times, lost, Missing}
 use Rattle.receiver_log.specs.Promise.{Promise}
 use Rattle.config.specs.inner.Choices.{never}
-use Rattle.receiver_log.proofs.Numbers.{read-ahead, read_behind}
-use Rattle.delivery.specs.Chamber.{isHeard, delivered, joined, listed, AllHanded}
+use Rattle.receiver_log.proofs.Numbers.{read_ahead, read_behind}
+use Rattle.delivery.specs.Chamber.{is_heard, delivered, joined, listed, AllHanded}
 use Rattle.delivery.specs.Sentence.{NoLoss}
-use Rattle.delivery.proofs.Messages.{whole_words}
+use Rattle.delivery.proofs.Messages.{whole_words_lem}
 
 -- a number within reach is read as its position
-pub read-position : (H p : ℕ) → origin + p ≤ H + reach → H ≤ origin + p + (reach + 1) → place H (p % turn) ≡ origin + p
-read-position H p a b =
+pub read_position : (H p : ℕ) → origin + p ≤ H + reach → H ≤ origin + p + (reach + 1) → place H (p % turn) ≡ origin + p
+read_position H p a b =
     let n : (origin + p) % turn ≡ p % turn = omega arith in
     elim (split (ltb H (origin + p))) [
-      | inl k ↦ rw n at (read-ahead H (origin + p) (omega (arith, tests)) a)
+      | inl k ↦ rw n at (read_ahead H (origin + p) (omega (arith, tests)) a)
       | inr k ↦ rw n at (read_behind H (origin + p) (omega (arith, tests)) b)
     ]
 
@@ -40,20 +40,20 @@ read-position H p a b =
 
 -- whole messages are handed on as they came
 module _ (ws : List ℕ) (e : whole_of ws ≡ true) where
-  whole-bytes : (b : List ℕ) → words_of b ≡ ws → length b ≡ 4 * length ws → take (4 * length (wholeWords (words_of b))) b ≡ b
-  whole-bytes b w n =
-      let m : 4 * length (wholeWords (words_of b)) ≡ length b = ap (λ (xs : List ℕ). 4 * length xs) (ap wholeWords w ∙ whole_words ws e) ∙ sym n in
+  whole_bytes : (b : List ℕ) → words_of b ≡ ws → length b ≡ 4 * length ws → take (4 * length (whole_words (words_of b))) b ≡ b
+  whole_bytes b w n =
+      let m : 4 * length (whole_words (words_of b)) ≡ length b = ap (λ (xs : List ℕ). 4 * length xs) (ap whole_words w ∙ whole_words_lem ws e) ∙ sym n in
       rw m (take-length b)
 
-  whole-uncut : (b : List ℕ) → words_of b ≡ ws → (messagesOf (words_of b)).cut ≡ false
+  whole_uncut : (b : List ℕ) → words_of b ≡ ws → (messages_of (words_of b)).cut ≡ false
   unfolding whole_of
-  whole-uncut b w = rw w (not-true (messagesOf ws).cut e)
+  whole_uncut b w = rw w (not_true (messages_of ws).cut e)
 
-  pub whole-handed : (class : Class) → AllHanded class ws
-  unfolding handedWords handedBytes handedCut
-  whole-handed (New gap) = record { words = whole_words ws e; bytes = whole-bytes; uncut = whole-uncut }
-  whole-handed Late = record { words = whole_words ws e; bytes = whole-bytes; uncut = whole-uncut }
-  whole-handed Duplicate = record { words = refl; bytes = λ b w n. refl; uncut = λ b w. refl }
+  pub whole_handed : (class : Class) → AllHanded class ws
+  unfolding handed_words handed_bytes handed_cut
+  whole_handed (New gap) = record { words = whole_words_lem ws e; bytes = whole_bytes; uncut = whole_uncut }
+  whole_handed Late = record { words = whole_words_lem ws e; bytes = whole_bytes; uncut = whole_uncut }
+  whole_handed Duplicate = record { words = refl; bytes = λ b w n. refl; uncut = λ b w. refl }
 
 -- ---- calls that hear nothing
 
@@ -62,23 +62,23 @@ pub record Same (t u : List Report) : Type 0 where
   pub count : (x : ℕ) → times u x ≡ times t x
   pub words : (x : ℕ) → delivered u x ≡ delivered t x
 
-pub unheard-same : (e : Entry) (t : List Report) → isHeard e ≡ false → Same t (reportOf e ∷ t)
-unheard-same (data-entry s time seq ws (Delivered d)) t h = absurd (never refl h)
-unheard-same (data-entry s time seq ws (HearingRefused why)) t h = record { top = refl; count = λ x. refl; words = λ x. refl }
-unheard-same (poll-entry s time e) t h = record { top = refl; count = λ x. refl; words = λ x. refl }
-unheard-same (error-entry q e) t h = record { top = refl; count = λ x. refl; words = λ x. refl }
-unheard-same (nak-entry e) t h = record { top = refl; count = λ x. refl; words = λ x. refl }
-unheard-same (take-entry s p b a q c) t h = record { top = refl; count = λ x. refl; words = λ x. refl }
+pub unheard_same : (e : Entry) (t : List Report) → is_heard e ≡ false → Same t (report_of e ∷ t)
+unheard_same (data_entry s time seq ws (Delivered d)) t h = absurd (never refl h)
+unheard_same (data_entry s time seq ws (HearingRefused why)) t h = record { top = refl; count = λ x. refl; words = λ x. refl }
+unheard_same (poll_entry s time e) t h = record { top = refl; count = λ x. refl; words = λ x. refl }
+unheard_same (error_entry q e) t h = record { top = refl; count = λ x. refl; words = λ x. refl }
+unheard_same (nak_entry e) t h = record { top = refl; count = λ x. refl; words = λ x. refl }
+unheard_same (take_entry s p b a q c) t h = record { top = refl; count = λ x. refl; words = λ x. refl }
 
 -- ---- no loss, nothing missing
 
-pub no-loss-lost : (t : List Report) → NoLoss t → (x : ℕ) → lost t x ≡ false
-no-loss-lost [] n x = refl
-no-loss-lost (r ∷ t) n x = rw n.0 (no-loss-lost t n.1 x)
+pub no_loss_lost : (t : List Report) → NoLoss t → (x : ℕ) → lost t x ≡ false
+no_loss_lost [] n x = refl
+no_loss_lost (r ∷ t) n x = rw n.0 (no_loss_lost t n.1 x)
 
-pub once-each : (W : ℕ) (t : List Report) → Promise W t → ((x : ℕ) → lost t x ≡ false) → ((x : ℕ) → Missing W t x → ⊥)
+pub once_each : (W : ℕ) (t : List Report) → Promise W t → ((x : ℕ) → lost t x ≡ false) → ((x : ℕ) → Missing W t x → ⊥)
     → (x : ℕ) → origin ≤ x → x ≤ high t → times t x ≡ 1
-once-each W t p nl nm x a b = elim (split (eqb (times t x) 0)) [
+once_each W t p nl nm x a b = elim (split (eqb (times t x) 0)) [
   | inl k ↦ let z : ⊥ = none (p.accounted x a b (omega (arith, tests))) in absurd z
   | inr k ↦ omega (arith, tests, p.once x a b)
 ]
@@ -98,20 +98,20 @@ module _ (f : ℕ → List ℕ) where
       ap₂ (λ (y z : List ℕ). y ++ z) (rw e at (h 0 (omega arith)))
       (joined_is C (suc x) (λ j l. let n : x + suc j ≡ suc x + j = omega arith in rw n at (h (suc j) (omega arith))))
 
-  pub listed-is : (C : List (List ℕ)) (x : ℕ) → ((j : ℕ) → j < length C → f (x + j) ≡ get_or C j []) → listed f x (length C) ≡ C
-  listed-is [] x h = refl
-  listed-is (a ∷ C) x h =
+  pub listed_is : (C : List (List ℕ)) (x : ℕ) → ((j : ℕ) → j < length C → f (x + j) ≡ get_or C j []) → listed f x (length C) ≡ C
+  listed_is [] x h = refl
+  listed_is (a ∷ C) x h =
       let e : x + 0 ≡ x = omega arith in
       ap₂ (λ (y : List ℕ) (z : List (List ℕ)). y ∷ z) (rw e at (h 0 (omega arith)))
-      (listed-is C (suc x) (λ j l. let n : x + suc j ≡ suc x + j = omega arith in rw n at (h (suc j) (omega arith))))
+      (listed_is C (suc x) (λ j l. let n : x + suc j ≡ suc x + j = omega arith in rw n at (h (suc j) (omega arith))))
 
-  pub joined-add : (m n x : ℕ) → joined f x (m + n) ≡ joined f x m ++ joined f (x + m) n
-  joined-add zero n x = let a : zero + n ≡ n = omega arith in let b : x + zero ≡ x = omega arith in rw (a, b)
-  joined-add (suc m) n x =
+  pub joined_add : (m n x : ℕ) → joined f x (m + n) ≡ joined f x m ++ joined f (x + m) n
+  joined_add zero n x = let a : zero + n ≡ n = omega arith in let b : x + zero ≡ x = omega arith in rw (a, b)
+  joined_add (suc m) n x =
       let a : suc m + n ≡ suc (m + n) = omega arith in
       let b : x + suc m ≡ suc x + m = omega arith in
-      rw (a, b, joined-add m n (suc x)) (sym (append_assoc (f x) (joined f (suc x) m) (joined f (suc x + m) n)))
+      rw (a, b, joined_add m n (suc x)) (sym (append_assoc (f x) (joined f (suc x) m) (joined f (suc x + m) n)))
 
-  pub joined-none : (n x : ℕ) → ((y : ℕ) → y < x + n → f y ≡ []) → joined f x n ≡ []
-  joined-none zero x h = refl
-  joined-none (suc n) x h = rw (h x (omega arith)) (joined-none n (suc x) (λ y l. h y (omega arith)))
+  pub joined_none : (n x : ℕ) → ((y : ℕ) → y < x + n → f y ≡ []) → joined f x n ≡ []
+  joined_none zero x h = refl
+  joined_none (suc n) x h = rw (h x (omega arith)) (joined_none n (suc x) (λ y l. h y (omega arith)))

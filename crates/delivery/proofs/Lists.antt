@@ -28,19 +28,19 @@ module _ {A : Type 0} (P : A → Type 0) where
   all_drop (suc n) [] h = tt
   all_drop (suc n) (x ∷ xs) h = all_drop n xs h.1
 
-  pub all-at : (xs : List A) (i : ℕ) (d : A) → i < length xs → All P xs → P (get_or xs i d)
-  all-at [] i d l h = absurd (let z : ⊥ = omega arith in z)
-  all-at (x ∷ xs) zero d l h = h.0
-  all-at (x ∷ xs) (suc i) d l h = all-at xs i d (omega arith) h.1
+  pub all_at : (xs : List A) (i : ℕ) (d : A) → i < length xs → All P xs → P (get_or xs i d)
+  all_at [] i d l h = absurd (let z : ⊥ = omega arith in z)
+  all_at (x ∷ xs) zero d l h = h.0
+  all_at (x ∷ xs) (suc i) d l h = all_at xs i d (omega arith) h.1
 
 module _ {A : Type 0} where
   pub length_none : (xs : List A) → length xs ≤ 0 → xs ≡ []
   length_none [] l = refl
   length_none (x ∷ xs) l = absurd (let z : ⊥ = omega arith in z)
 
-  pub take-append : (n : ℕ) (xs ys : List A) → take n (xs ++ ys) ≡ take n xs ++ take (n - length xs) ys
-  take-append zero xs ys = let z : 0 - length xs ≡ 0 = omega arith in rw z
-  take-append (suc n) [] ys = let z : suc n - 0 ≡ suc n = omega arith in rw z
-  take-append (suc n) (x ∷ xs) ys =
+  pub take_append : (n : ℕ) (xs ys : List A) → take n (xs ++ ys) ≡ take n xs ++ take (n - length xs) ys
+  take_append zero xs ys = let z : 0 - length xs ≡ 0 = omega arith in rw z
+  take_append (suc n) [] ys = let z : suc n - 0 ≡ suc n = omega arith in rw z
+  take_append (suc n) (x ∷ xs) ys =
       let m : suc n - suc (length xs) ≡ n - length xs = omega arith in
-      rw m (ap (λ (zs : List A). x ∷ zs) (take-append n xs ys))
+      rw m (ap (λ (zs : List A). x ∷ zs) (take_append n xs ys))

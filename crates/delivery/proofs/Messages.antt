@@ -9,15 +9,15 @@ use lib.Dec.{leb}
 use lib.ListN.{length, take, drop, length-append, length-drop, take-append-drop}
 use lib.Seq.{drop-append-le, drop-length, length-take-le}
 use Rattle.config.specs.inner.Tests.{split, tests}
-use Rattle.command.specs.Messages.{messageWords, whole_of, words_in, wholeWords}
-use Rattle.command.specs.inner.Messages.{messages-nil, messages-cons}
+use Rattle.command.specs.Messages.{message_words, whole_of, words_in, whole_words}
+use Rattle.command.specs.inner.Messages.{messages_nil, messages_cons}
 use Rattle.fronts.specs.Commands.{front}
-use Rattle.fronts.proofs.Fronts.{First, first_of, front-nil, front-more, front-stop}
+use Rattle.fronts.proofs.Fronts.{First, first_of, front_nil, front_more, front_stop}
 
 -- what holds of no words, and of words if it holds behind their first message
-pub by-messages : (P : List ℕ → Type 0) → P [] → ((w : ℕ) (ws : List ℕ) → First (w ∷ ws) (messageWords w) → P (drop (messageWords w) (w ∷ ws)) → P (w ∷ ws))
+pub by_messages : (P : List ℕ → Type 0) → P [] → ((w : ℕ) (ws : List ℕ) → First (w ∷ ws) (message_words w) → P (drop (message_words w) (w ∷ ws)) → P (w ∷ ws))
     → (ws : List ℕ) → whole_of ws ≡ true → P ws
-by-messages P none more ws e = go (length ws) ws (omega arith) e
+by_messages P none more ws e = go (length ws) ws (omega arith) e
   where
     go : (f : ℕ) (ws : List ℕ) → length ws ≤ f → whole_of ws ≡ true → P ws
     go zero [] l e = none
@@ -25,53 +25,53 @@ by-messages P none more ws e = go (length ws) ws (omega arith) e
     go zero (w ∷ ws) l e = absurd (let z : ⊥ = omega arith in z)
     go (suc f) (w ∷ ws) l e =
         let i = first_of w ws e in
-        more w ws i (go f (drop (messageWords w) (w ∷ ws)) (omega (arith, i.some, length-drop (messageWords w) (w ∷ ws))) i.rest)
+        more w ws i (go f (drop (message_words w) (w ∷ ws)) (omega (arith, i.some, length-drop (message_words w) (w ∷ ws))) i.rest)
 
 -- ---- whole
 
-pub whole-nil : whole_of [] ≡ true
+pub whole_nil : whole_of [] ≡ true
 unfolding whole_of
-whole-nil = rw messages-nil
+whole_nil = rw messages_nil
 
-whole-cons : (w : ℕ) (ws : List ℕ) → messageWords w ≤ length (w ∷ ws) → whole_of (drop (messageWords w) (w ∷ ws)) ≡ true → whole_of (w ∷ ws) ≡ true
+whole_cons : (w : ℕ) (ws : List ℕ) → message_words w ≤ length (w ∷ ws) → whole_of (drop (message_words w) (w ∷ ws)) ≡ true → whole_of (w ∷ ws) ≡ true
 unfolding whole_of
-whole-cons w ws l e = rw (messages-cons w ws l) e
+whole_cons w ws l e = rw (messages_cons w ws l) e
 
 pub whole_append : (xs ys : List ℕ) → whole_of xs ≡ true → whole_of ys ≡ true → whole_of (xs ++ ys) ≡ true
-whole_append xs ys e f = by-messages (λ zs. whole_of (zs ++ ys) ≡ true) f step xs e
+whole_append xs ys e f = by_messages (λ zs. whole_of (zs ++ ys) ≡ true) f step xs e
   where
-    step : (w : ℕ) (ws : List ℕ) → First (w ∷ ws) (messageWords w) → whole_of (drop (messageWords w) (w ∷ ws) ++ ys) ≡ true → whole_of (w ∷ ws ++ ys) ≡ true
+    step : (w : ℕ) (ws : List ℕ) → First (w ∷ ws) (message_words w) → whole_of (drop (message_words w) (w ∷ ws) ++ ys) ≡ true → whole_of (w ∷ ws ++ ys) ≡ true
     step w ws i h =
-        whole-cons w (ws ++ ys) (omega (arith, i.fits, length-append ws ys)) (rw (drop-append-le (messageWords w) (w ∷ ws) ys i.fits) h)
+        whole_cons w (ws ++ ys) (omega (arith, i.fits, length-append ws ys)) (rw (drop-append-le (message_words w) (w ∷ ws) ys i.fits) h)
 
 -- a single message
-first-whole : (w : ℕ) (ws : List ℕ) → First (w ∷ ws) (messageWords w) → whole_of (take (messageWords w) (w ∷ ws)) ≡ true
-first-whole w ws i = go (messageWords w) refl i.some
+first_whole : (w : ℕ) (ws : List ℕ) → First (w ∷ ws) (message_words w) → whole_of (take (message_words w) (w ∷ ws)) ≡ true
+first_whole w ws i = go (message_words w) refl i.some
   where
-    go : (m : ℕ) → m ≡ messageWords w → 1 ≤ m → whole_of (take m (w ∷ ws)) ≡ true
+    go : (m : ℕ) → m ≡ message_words w → 1 ≤ m → whole_of (take m (w ∷ ws)) ≡ true
     go zero e l = absurd (let z : ⊥ = omega arith in z)
     go (suc m) e l =
-        let n : length (w ∷ take m ws) ≡ messageWords w = length-take-le (suc m) (w ∷ ws) (omega (arith, i.fits)) ∙ e in
-        whole-cons w (take m ws) (omega arith) (rw (← n, drop-length (w ∷ take m ws)) whole-nil)
+        let n : length (w ∷ take m ws) ≡ message_words w = length-take-le (suc m) (w ∷ ws) (omega (arith, i.fits)) ∙ e in
+        whole_cons w (take m ws) (omega arith) (rw (← n, drop-length (w ∷ take m ws)) whole_nil)
 
-pub front-whole : (n : ℕ) (ws : List ℕ) → whole_of ws ≡ true → whole_of (front n ws) ≡ true
-front-whole n ws e = by-messages (λ xs. (n : ℕ) → whole_of (front n xs) ≡ true) (λ n. rw front-nil whole-nil) step ws e n
+pub front_whole : (n : ℕ) (ws : List ℕ) → whole_of ws ≡ true → whole_of (front n ws) ≡ true
+front_whole n ws e = by_messages (λ xs. (n : ℕ) → whole_of (front n xs) ≡ true) (λ n. rw front_nil whole_nil) step ws e n
   where
-    step : (w : ℕ) (ws : List ℕ) → First (w ∷ ws) (messageWords w) → ((n : ℕ) → whole_of (front n (drop (messageWords w) (w ∷ ws))) ≡ true) → (n : ℕ) → whole_of (front n (w ∷ ws)) ≡ true
-    step w ws i h n = elim (split (leb (messageWords w) n)) [
+    step : (w : ℕ) (ws : List ℕ) → First (w ∷ ws) (message_words w) → ((n : ℕ) → whole_of (front n (drop (message_words w) (w ∷ ws))) ≡ true) → (n : ℕ) → whole_of (front n (w ∷ ws)) ≡ true
+    step w ws i h n = elim (split (leb (message_words w) n)) [
       | inl k ↦
-          rw (front-more (w ∷ ws) (messageWords w) n i (omega (arith, tests)))
-          (whole_append (take (messageWords w) (w ∷ ws)) (front (n - messageWords w) (drop (messageWords w) (w ∷ ws))) (first-whole w ws i) (h (n - messageWords w)))
-      | inr k ↦ rw (front-stop (w ∷ ws) (messageWords w) n i (omega (arith, tests))) whole-nil
+          rw (front_more (w ∷ ws) (message_words w) n i (omega (arith, tests)))
+          (whole_append (take (message_words w) (w ∷ ws)) (front (n - message_words w) (drop (message_words w) (w ∷ ws))) (first_whole w ws i) (h (n - message_words w)))
+      | inr k ↦ rw (front_stop (w ∷ ws) (message_words w) n i (omega (arith, tests))) whole_nil
     ]
 
 -- ---- handed on
 
 -- all words of whole messages are words of whole messages
-pub whole_words : (ws : List ℕ) → whole_of ws ≡ true → wholeWords ws ≡ ws
-unfolding wholeWords words_in
-whole_words ws e = by-messages (λ xs. wholeWords xs ≡ xs) (rw messages-nil) step ws e
+pub whole_words_lem : (ws : List ℕ) → whole_of ws ≡ true → whole_words ws ≡ ws
+unfolding whole_words words_in
+whole_words_lem ws e = by_messages (λ xs. whole_words xs ≡ xs) (rw messages_nil) step ws e
   where
-    step : (w : ℕ) (ws : List ℕ) → First (w ∷ ws) (messageWords w) → wholeWords (drop (messageWords w) (w ∷ ws)) ≡ drop (messageWords w) (w ∷ ws) → wholeWords (w ∷ ws) ≡ w ∷ ws
+    step : (w : ℕ) (ws : List ℕ) → First (w ∷ ws) (message_words w) → whole_words (drop (message_words w) (w ∷ ws)) ≡ drop (message_words w) (w ∷ ws) → whole_words (w ∷ ws) ≡ w ∷ ws
     step w ws i h =
-        rw i.parts (ap (λ (xs : List ℕ). take (messageWords w) (w ∷ ws) ++ xs) h ∙ take-append-drop (messageWords w) (w ∷ ws))
+        rw i.parts (ap (λ (xs : List ℕ). take (message_words w) (w ∷ ws) ++ xs) h ∙ take-append-drop (message_words w) (w ∷ ws))

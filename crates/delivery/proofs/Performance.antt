@@ -7,7 +7,7 @@ use native.Mathlib.Omega.{arith}
 use lib.ListN.{length}
 use Rattle.command.specs.Messages.{words_in}
 use Rattle.delivery.specs.Console.{Entry, accepted, positions}
-use Rattle.delivery.specs.Performance.{lengthsIn, emptyFrom, SamePerformance}
+use Rattle.delivery.specs.Performance.{lengths_in, empty_from, SamePerformance}
 
 parts : (xs ys us vs : List ℕ) → length xs ≡ length ys → xs ++ us ≡ ys ++ vs → (xs ≡ ys) × (us ≡ vs)
 parts [] [] us vs l e = (refl, e)
@@ -19,30 +19,30 @@ parts (x ∷ xs) (y ∷ ys) us vs l e =
     (rw (h, r.0), r.1)
 
 -- those from p on are not below p
-not-before : (C : List (List ℕ)) (p x : ℕ) (xs : List ℕ) → x < p → x ∷ xs ≡ emptyFrom p C → ⊥
-not-before [] p x xs l e = omega (arith, ap length e)
-not-before ([] ∷ C) p x xs l e = let m : x ≡ p = cc in omega arith
-not-before ((w ∷ ws) ∷ C) p x xs l e = not-before C (suc p) x xs (omega arith) e
+not_before : (C : List (List ℕ)) (p x : ℕ) (xs : List ℕ) → x < p → x ∷ xs ≡ empty_from p C → ⊥
+not_before [] p x xs l e = omega (arith, ap length e)
+not_before ([] ∷ C) p x xs l e = let m : x ≡ p = cc in omega arith
+not_before ((w ∷ ws) ∷ C) p x xs l e = not_before C (suc p) x xs (omega arith) e
 
-same-commands : (C D : List (List ℕ)) (p : ℕ) → words_in C ≡ words_in D → lengthsIn C ≡ lengthsIn D → emptyFrom p C ≡ emptyFrom p D → C ≡ D
+same_commands : (C D : List (List ℕ)) (p : ℕ) → words_in C ≡ words_in D → lengths_in C ≡ lengths_in D → empty_from p C ≡ empty_from p D → C ≡ D
 unfolding words_in
-same-commands [] [] p w d z = refl
-same-commands [] ([] ∷ D) p w d z = absurd (let y : ⊥ = omega (arith, ap length z) in y)
-same-commands [] ((b ∷ bs) ∷ D) p w d z = absurd (let y : ⊥ = omega (arith, ap length d) in y)
-same-commands ([] ∷ C) [] p w d z = absurd (let y : ⊥ = omega (arith, ap length z) in y)
-same-commands ((a ∷ vs) ∷ C) [] p w d z = absurd (let y : ⊥ = omega (arith, ap length d) in y)
-same-commands ([] ∷ C) ([] ∷ D) p w d z = ap (λ (E : List (List ℕ)). [] ∷ E) (same-commands C D (suc p) w d (cc))
-same-commands ([] ∷ C) ((b ∷ bs) ∷ D) p w d z = absurd (not-before D (suc p) p (emptyFrom (suc p) C) (omega arith) z)
-same-commands ((a ∷ vs) ∷ C) ([] ∷ D) p w d z = absurd (not-before C (suc p) p (emptyFrom (suc p) D) (omega arith) (sym z))
-same-commands ((a ∷ vs) ∷ C) ((b ∷ bs) ∷ D) p w d z =
+same_commands [] [] p w d z = refl
+same_commands [] ([] ∷ D) p w d z = absurd (let y : ⊥ = omega (arith, ap length z) in y)
+same_commands [] ((b ∷ bs) ∷ D) p w d z = absurd (let y : ⊥ = omega (arith, ap length d) in y)
+same_commands ([] ∷ C) [] p w d z = absurd (let y : ⊥ = omega (arith, ap length z) in y)
+same_commands ((a ∷ vs) ∷ C) [] p w d z = absurd (let y : ⊥ = omega (arith, ap length d) in y)
+same_commands ([] ∷ C) ([] ∷ D) p w d z = ap (λ (E : List (List ℕ)). [] ∷ E) (same_commands C D (suc p) w d (cc))
+same_commands ([] ∷ C) ((b ∷ bs) ∷ D) p w d z = absurd (not_before D (suc p) p (empty_from (suc p) C) (omega arith) z)
+same_commands ((a ∷ vs) ∷ C) ([] ∷ D) p w d z = absurd (not_before C (suc p) p (empty_from (suc p) D) (omega arith) (sym z))
+same_commands ((a ∷ vs) ∷ C) ((b ∷ bs) ∷ D) p w d z =
     let l : length (a ∷ vs) ≡ length (b ∷ bs) = cc in
     let r = parts (a ∷ vs) (b ∷ bs) (words_in C) (words_in D) l w in
-    let q : C ≡ D = same-commands C D (suc p) r.1 (cc) z in
+    let q : C ≡ D = same_commands C D (suc p) r.1 (cc) z in
     rw (r.0, q)
 
 -- equal performances, where all that was accepted is written: equal positions
-pub same-positions : (t s : List Entry) → words_in (positions t) ≡ accepted t → words_in (positions s) ≡ accepted s → SamePerformance t s ↔ (positions t ≡ positions s)
-same-positions t s m n = (
-  λ e. same-commands (positions t) (positions s) 0 (m ∙ e.same-messages ∙ sym n) e.same-division e.same-zero-length,
-  λ e. record { same-messages = sym m ∙ ap words_in e ∙ n; same-division = ap lengthsIn e; same-zero-length = ap (emptyFrom 0) e },
+pub same_positions : (t s : List Entry) → words_in (positions t) ≡ accepted t → words_in (positions s) ≡ accepted s → SamePerformance t s ↔ (positions t ≡ positions s)
+same_positions t s m n = (
+  λ e. same_commands (positions t) (positions s) 0 (m ∙ e.same_messages ∙ sym n) e.same_division e.same_zero_length,
+  λ e. record { same_messages = sym m ∙ ap words_in e ∙ n; same_division = ap lengths_in e; same_zero_length = ap (empty_from 0) e },
 )

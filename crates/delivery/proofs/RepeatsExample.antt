@@ -5,51 +5,51 @@ use mathlib.Core.Path.{◌≡◌, refl, ap, ◌∙◌}
 use mathlib.Core.List.{List, [], ◌∷◌, ◌++◌}
 use native.Mathlib.Omega.{arith}
 use lib.ListN.{get_or}
-use Rattle.config.specs.Settings.{checkOf}
+use Rattle.config.specs.Settings.{check_of}
 use Rattle.packet.specs.Bytes.{bytes_of, words_of, spliced}
 use Rattle.packet.specs.Layout.{Words32}
-use Rattle.packet.specs.Read.{signed, itemsFrom, items_of}
-use Rattle.packet.specs.Write.{opened_of, valid_of as payloadValid, written_of}
-use Rattle.command.specs.Messages.{typeWords, divided, messagesOf, whole_of}
-use Rattle.history.specs.Ring.{slot_of, ringStored, ringRead}
-use Rattle.history.specs.Headers.{header_at, wordsFrom, numbered}
-use Rattle.history.specs.State.{stateOk, walkOk}
-use Rattle.history.specs.Push.{popOne, popped, grown, pushed, longer, appended}
-use Rattle.history.specs.Queue.{request, requests, asks, pushAnswer}
-use Rattle.history.specs.Written.{entryPacket}
-use Rattle.sender.specs.Answers.{newAnswer, sendAnswer, requestAnswer}
-use Rattle.writing.specs.Answers.{writeAnswer}
-use Rattle.fronts.specs.Commands.{fitting, front, behind, commandsIn, commandsOf, longer as longMessage, above}
+use Rattle.packet.specs.Read.{signed, items_from, items_of}
+use Rattle.packet.specs.Write.{opened_of, valid_of as payload_valid, written_of}
+use Rattle.command.specs.Messages.{type_words, divided, messages_of, whole_of}
+use Rattle.history.specs.Ring.{slot_of, ring_stored, ring_read}
+use Rattle.history.specs.Headers.{header_at, words_from, numbered}
+use Rattle.history.specs.State.{state_ok, walk_ok}
+use Rattle.history.specs.Push.{pop_one, popped, grown, pushed, longer, appended}
+use Rattle.history.specs.Queue.{request, requests, asks, push_answer}
+use Rattle.history.specs.Written.{entry_packet}
+use Rattle.sender.specs.Answers.{new_answer, send_answer, request_answer}
+use Rattle.writing.specs.Answers.{write_answer}
+use Rattle.fronts.specs.Commands.{fitting, front, behind, commands_in, commands_of, longer as long_message, above}
 use Rattle.sender.specs.State.{valid_of}
-use Rattle.sender.specs.Queueing.{roomOf, need_of, joinedTo, pushedAll, queuedTo, queuedOf, wordsCheck, placed_of, sentOf}
-use Rattle.sender.specs.Requests.{requestedOf}
-use Rattle.writing.specs.Writing.{servedIn, servedOf, idledOf, writtenOff, newOf, written_by}
+use Rattle.sender.specs.Queueing.{room_of, need_of, joined_to, pushed_all, queued_to, queued_of, words_check, placed_of, sent_of}
+use Rattle.sender.specs.Requests.{requested_of}
+use Rattle.writing.specs.Writing.{served_in, served_of, idled_of, written_off, new_of, written_by}
 use Rattle.config.specs.declared.answer.Outcome.TheVariants.{Done}
 use Rattle.window.specs.declared.window.Class.{Class}
 use Rattle.window.specs.declared.window.Class.TheVariants.{New, Duplicate}
 use Rattle.window.specs.declared.window.Span.TheVariants.{Nothing}
-use Rattle.idle.specs.Schedule.{idleNext}
-use Rattle.rows.specs.Rows.{row_of, packetsFrom, sizesOf, anyWords}
-use Rattle.rows.specs.Choice.{repeatsOf}
-use Rattle.receiver.specs.Receiver.{dueAfter}
+use Rattle.idle.specs.Schedule.{idle_next}
+use Rattle.rows.specs.Rows.{row_of, packets_from, sizes_of, any_words}
+use Rattle.rows.specs.Choice.{repeats_of}
+use Rattle.receiver.specs.Receiver.{due_after}
 use Rattle.receiver.specs.declared.receiver.Hearing.TheVariants.{Delivery as Delivered}
 use Rattle.receiver.specs.declared.receiver.StreamEvent.TheVariants.{Nothing as NoEvent}
-use Rattle.receiver_log.specs.Calls.{data-command, poll, Entry as Heard, data-entry, poll-entry, AllTyped}
+use Rattle.receiver_log.specs.Calls.{data_command, poll, Entry as Heard, data_entry, poll_entry, AllTyped}
 use Rattle.receiver_log.specs.Calls as Chamber
-use Rattle.receiver_log.specs.Log.{heard, reports, isAhead, place, start, unprocessed}
-use Rattle.receiver_log.specs.Spans.{endsOf, classIn, lostAt, lostIn, missingEnds, askedFor}
+use Rattle.receiver_log.specs.Log.{heard, reports, is_ahead, place, start, unprocessed}
+use Rattle.receiver_log.specs.Spans.{ends_of, class_in, lost_at, lost_in, missing_ends, asked_for}
 use Rattle.receiver_log.specs.Answers.{answer_of, said_of}
-use Rattle.receiver_log.specs.Promise.{logOf}
-use Rattle.receiver_log.proofs.Runs.{run-said}
-use Rattle.delivery.specs.Commands.{dataIn, wholesIn, data_of}
+use Rattle.receiver_log.specs.Promise.{log_of}
+use Rattle.receiver_log.proofs.Runs.{run_said}
+use Rattle.delivery.specs.Commands.{data_in, wholes_in, data_of}
 use Rattle.delivery.specs.Positions.{opens}
-use Rattle.delivery.specs.Console.{Lent, Call, Entry, queued, wrote, stood, step_of, logFrom, freshConsole, AllAllowed, positions, Was, was-wrote, was}
-use Rattle.delivery.specs.Sentence.{Run, sentLog, heardLog, heardIn}
-use Rattle.delivery.specs.Repeats.{one, Brings, SentAs, Arrives, none, next, again, heardCommands, RepeatsOnly, AllHandedOn}
-use Rattle.delivery.specs.Paced.{Round, roundsFrom, Fits, AllFit, Keeps}
+use Rattle.delivery.specs.Console.{Lent, Call, Entry, queued, wrote, stood, step_of, log_from, fresh_console, AllAllowed, positions, Was, was_wrote, was}
+use Rattle.delivery.specs.Sentence.{Run, sent_log, heard_log, heard_in}
+use Rattle.delivery.specs.Repeats.{one, Brings, SentAs, Arrives, none, next, again, heard_commands, RepeatsOnly, AllHandedOn}
+use Rattle.delivery.specs.Paced.{Round, rounds_from, Fits, AllFit, Keeps}
 use Rattle.delivery.proofs.Example.{settings, zeros, empty, partly, full, all, delivery}
-use Rattle.delivery.proofs.Repeats.{repeats-alone}
-use Rattle.delivery.proofs.Paced.{paced-sender}
+use Rattle.delivery.proofs.Repeats.{repeats_alone}
+use Rattle.delivery.proofs.Paced.{paced_sender}
 
 -- ---- the console
 
@@ -65,7 +65,7 @@ abbrev rounds : List Round
 rounds = round 0 ∷ round 1 ∷ round 2 ∷ round 3 ∷ round 4 ∷ round 5 ∷ []
 
 abbrev calls : List Call
-calls = roundsFrom 0 rounds
+calls = rounds_from 0 rounds
 
 -- command i in a payload, and payload i
 abbrev command : ℕ → List ℕ
@@ -86,14 +86,14 @@ sent =
     ∷ wrote 0 (empty 28) (payload 0) (all 1) ∷ queued (settings 2) (note 0) Done ∷ stood 0 (empty 28)
     ∷ []
 
-sent_is : logFrom (freshConsole 65 1 (zeros 65)) [] calls ≡ sent
-unfolding logFrom step_of newAnswer requestAnswer requestedOf request requests asks pushAnswer opened_of typeWords divided messagesOf whole_of slot_of ringStored ringRead header_at wordsFrom numbered stateOk walkOk popOne popped grown pushed longer appended entryPacket fitting front behind commandsIn commandsOf longMessage above valid_of roomOf need_of joinedTo pushedAll queuedTo queuedOf wordsCheck placed_of sentOf row_of packetsFrom servedIn servedOf idleNext idledOf sizesOf repeatsOf anyWords writtenOff newOf written_by sendAnswer writeAnswer checkOf payloadValid written_of bytes_of spliced
+sent_is : log_from (fresh_console 65 1 (zeros 65)) [] calls ≡ sent
+unfolding log_from step_of new_answer request_answer requested_of request requests asks push_answer opened_of type_words divided messages_of whole_of slot_of ring_stored ring_read header_at words_from numbered state_ok walk_ok pop_one popped grown pushed longer appended entry_packet fitting front behind commands_in commands_of long_message above valid_of room_of need_of joined_to pushed_all queued_to queued_of words_check placed_of sent_of row_of packets_from served_in served_of idle_next idled_of sizes_of repeats_of any_words written_off new_of written_by send_answer write_answer check_of payload_valid written_of bytes_of spliced
 sent_is = refl
 
 -- ---- the chamber
 
 abbrev hears : ℕ → ℕ → Chamber.Call
-hears time i = data-command (settings 2) time i (note i)
+hears time i = data_command (settings 2) time i (note i)
 
 abbrev arrivals : List Chamber.Call
 arrivals =
@@ -103,56 +103,56 @@ arrivals =
     ∷ []
 
 abbrev answer : ℕ → ℕ → Class → Heard
-answer time i class = data-entry (settings 2) time i (note i) (Delivered (delivery i class Nothing))
+answer time i class = data_entry (settings 2) time i (note i) (Delivered (delivery i class Nothing))
 
 abbrev arrived : List Heard
 arrived =
     answer 50 5 (New 0) ∷ answer 50 4 (New 0) ∷ answer 50 3 (New 0)
     ∷ answer 23 2 Duplicate ∷ answer 23 1 Duplicate ∷ answer 23 0 Duplicate
-    ∷ answer 22 2 (New 0) ∷ poll-entry (settings 2) 21 NoEvent ∷ answer 20 1 (New 0) ∷ answer 20 0 (New 0)
+    ∷ answer 22 2 (New 0) ∷ poll_entry (settings 2) 21 NoEvent ∷ answer 20 1 (New 0) ∷ answer 20 0 (New 0)
     ∷ []
 
 typed : AllTyped arrivals
 typed = omega arith
 
-arrived-is : logOf 1 arrivals ≡ arrived
-unfolding said_of answer_of checkOf classIn isAhead place lostIn lostAt missingEnds endsOf unprocessed start dueAfter askedFor payloadValid written_of bytes_of spliced
-arrived-is = run-said 1 (omega arith) (omega arith) arrivals typed ∙ refl
+arrived_is : log_of 1 arrivals ≡ arrived
+unfolding said_of answer_of check_of class_in is_ahead place lost_in lost_at missing_ends ends_of unprocessed start due_after asked_for payload_valid written_of bytes_of spliced
+arrived_is = run_said 1 (omega arith) (omega arith) arrivals typed ∙ refl
 
 -- ---- the premises
 
 was2 : Was sent 2 (payload 2)
-was2 = was _ (was _ (was _ (was _ (was _ (was _ (was _ (was _ (was _ (was-wrote _ _ _ _ _)))))))))
+was2 = was _ (was _ (was _ (was _ (was _ (was _ (was _ (was _ (was _ (was_wrote _ _ _ _ _)))))))))
 
 was5 : Was sent 5 (payload 5)
-was5 = was-wrote _ _ _ _ _
+was5 = was_wrote _ _ _ _ _
 
 sent2 : SentAs sent 2 (payload 2)
-unfolding data_of dataIn wholesIn items_of itemsFrom signed words_of bytes_of
-sent2 = record { is-written = omega arith; was-so = was2; since = omega arith }
+unfolding data_of data_in wholes_in items_of items_from signed words_of bytes_of
+sent2 = record { is_written = omega arith; was_so = was2; since = omega arith }
 
 sent5 : SentAs sent 5 (payload 5)
-unfolding data_of dataIn wholesIn items_of itemsFrom signed words_of bytes_of
-sent5 = record { is-written = omega arith; was-so = was5; since = omega arith }
+unfolding data_of data_in wholes_in items_of items_from signed words_of bytes_of
+sent5 = record { is_written = omega arith; was_so = was5; since = omega arith }
 
 brings : Brings 2 sent
-unfolding data_of dataIn wholesIn items_of itemsFrom signed words_of bytes_of opens
+unfolding data_of data_in wholes_in items_of items_from signed words_of bytes_of opens
 brings = (one refl (note 5) refl, (one refl (note 4) refl, (one refl (note 3) refl, (one refl (note 2) refl, (one refl (note 1) refl, (one refl (note 0) refl, tt))))))
 
-arrives : Arrives 2 sent 6 (heardCommands arrived)
-unfolding data_of dataIn wholesIn items_of itemsFrom signed words_of bytes_of
+arrives : Arrives 2 sent 6 (heard_commands arrived)
+unfolding data_of data_in wholes_in items_of items_from signed words_of bytes_of
 arrives = next (again (next none 2 (omega arith) (payload 2) sent2) (payload 2) sent2) 2 (omega arith) (payload 5) sent5
 
 premises : RepeatsOnly 2 sent arrived
-unfolding data_of dataIn wholesIn items_of itemsFrom signed words_of bytes_of
+unfolding data_of data_in wholes_in items_of items_from signed words_of bytes_of
 premises = record { brings = brings; gone = 6; arrives = arrives; last = refl }
 
 allowed : AllAllowed calls
 unfolding Words32
 allowed = omega arith
 
-started : (newAnswer 65 1 (zeros 65)).0.answer ≡ Done
-unfolding newAnswer
+started : (new_answer 65 1 (zeros 65)).0.answer ≡ Done
+unfolding new_answer
 started = refl
 
 example : Run
@@ -172,33 +172,33 @@ example = record {
 
 -- ---- so the sentence is said of something
 
-example-holds : RepeatsOnly 2 (sentLog example) (heardLog example)
+example_holds : RepeatsOnly 2 (sent_log example) (heard_log example)
 unfolding example
-example-holds = rw (sent_is, arrived-is) premises
+example_holds = rw (sent_is, arrived_is) premises
 
-positions-are : positions sent ≡ note 0 ∷ note 1 ∷ note 2 ∷ note 3 ∷ note 4 ∷ note 5 ∷ []
-unfolding data_of dataIn wholesIn items_of itemsFrom signed words_of bytes_of opens
-positions-are = refl
+positions_are : positions sent ≡ note 0 ∷ note 1 ∷ note 2 ∷ note 3 ∷ note 4 ∷ note 5 ∷ []
+unfolding data_of data_in wholes_in items_of items_from signed words_of bytes_of opens
+positions_are = refl
 
-example-said : AllHandedOn (note 0 ∷ note 1 ∷ note 2 ∷ note 3 ∷ note 4 ∷ note 5 ∷ []) (heardIn example)
+example_said : AllHandedOn (note 0 ∷ note 1 ∷ note 2 ∷ note 3 ∷ note 4 ∷ note 5 ∷ []) (heard_in example)
 unfolding example
-example-said = rw (ap positions sent_is ∙ positions-are) at (repeats-alone example 2 example-holds)
+example_said = rw (ap positions sent_is ∙ positions_are) at (repeats_alone example 2 example_holds)
 
 -- ---- and the console is one of those that bring what the sentence asks: 28 bytes and 6 words hold three commands of one word
 
-round-fits : (i : ℕ) → Fits 2 1 (round i)
-unfolding checkOf
-round-fits i = record { passes = refl; repeats = refl; size = omega arith; few = omega arith; limit = omega arith; most = omega arith; lent = omega arith }
+round_fits : (i : ℕ) → Fits 2 1 (round i)
+unfolding check_of
+round_fits i = record { passes = refl; repeats = refl; size = omega arith; few = omega arith; limit = omega arith; most = omega arith; lent = omega arith }
 
 all_fit : AllFit 2 1 rounds
-all_fit = (round-fits 0, (round-fits 1, (round-fits 2, (round-fits 3, (round-fits 4, (round-fits 5, tt))))))
+all_fit = (round_fits 0, (round_fits 1, (round_fits 2, (round_fits 3, (round_fits 4, (round_fits 5, tt))))))
 
-example-keeps : Keeps 2 1 example
+example_keeps : Keeps 2 1 example
 unfolding example
-example-keeps = record { history = omega arith; paced = paced-sender.rounds 2 1 65 1 (zeros 65) rounds all_fit }
+example_keeps = record { history = omega arith; paced = paced_sender.rounds 2 1 65 1 (zeros 65) rounds all_fit }
 
 -- ---- why no more than R: were payload 2 lost too, 3 would be the first to arrive, and its oldest command has a gap
 
-one-more-lost : reports (logOf 1 (hears 30 1 ∷ [])) ≡ heard 1 (note 1) (New 1) Nothing ∷ []
-unfolding said_of answer_of checkOf classIn isAhead place lostIn lostAt endsOf unprocessed start
-one-more-lost = ap reports (run-said 1 (omega arith) (omega arith) (hears 30 1 ∷ []) (omega arith)) ∙ refl
+one_more_lost : reports (log_of 1 (hears 30 1 ∷ [])) ≡ heard 1 (note 1) (New 1) Nothing ∷ []
+unfolding said_of answer_of check_of class_in is_ahead place lost_in lost_at ends_of unprocessed start
+one_more_lost = ap reports (run_said 1 (omega arith) (omega arith) (hears 30 1 ∷ []) (omega arith)) ∙ refl

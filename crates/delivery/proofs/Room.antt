@@ -10,47 +10,47 @@ use lib.Dec.{ltb, eqb}
 use lib.ListN.{length, take, drop, length-append}
 use lib.Seq.{take-length, drop-length}
 use borrow.Author.Tests.{not-false}
-use Rattle.config.specs.Settings.{checkOf}
+use Rattle.config.specs.Settings.{check_of}
 use Rattle.config.specs.declared.settings.StreamConfig.{StreamConfig}
 use Rattle.config.specs.inner.Tests.{split, tests}
 use Rattle.command.specs.Messages.{whole_of}
 use Rattle.command.specs.declared.retransmit.RetransmitRequest.{RetransmitRequest}
 use Rattle.history.specs.Entries.{size, kept}
-use Rattle.history.proofs.Flat.{size-one}
+use Rattle.history.proofs.Flat.{size_one}
 use Rattle.idle.specs.declared.idle.IdleTimer.{IdleTimer}
 use Rattle.idle.specs.declared.idle.IdleTimer.TheVariants.{Off, Waiting}
-use Rattle.fronts.specs.Commands.{front, behind, commandsOf}
-use Rattle.sender.specs.Queueing.{wordsCheck}
-use Rattle.fronts.proofs.Fronts.{Divides, part_of, commands-nil, commands-cons}
-use Rattle.sender.proofs.Queued.{check-divides}
-use Rattle.sender_log.specs.Book.{Book, freed, pushedIn, pushedAllIn, joinedLast, joinedIn, roomIn, needIn, queuedIn, QueueIn, sentIn}
-use Rattle.sender_log.specs.Writes.{is_empty, idledBy, idledIn, writtenOn}
-use Rattle.sender_log.proofs.Words.{length-kept}
-use Rattle.config.specs.inner.Choices.{by_cond, or_left, by-check}
+use Rattle.fronts.specs.Commands.{front, behind, commands_of}
+use Rattle.sender.specs.Queueing.{words_check}
+use Rattle.fronts.proofs.Fronts.{Divides, part_of, commands_nil, commands_cons}
+use Rattle.sender.proofs.Queued.{check_divides}
+use Rattle.sender_log.specs.Book.{Book, freed, pushed_in, pushed_all_in, joined_last, joined_in, room_in, need_in, queued_in, QueueIn, sent_in}
+use Rattle.sender_log.specs.Writes.{is_empty, idled_by, idled_in, written_on}
+use Rattle.sender_log.proofs.Words.{length_kept}
+use Rattle.config.specs.inner.Choices.{by_cond, or_left, by_check}
 use Rattle.delivery.proofs.Lists.{All, all_append, all_right, length_none}
-use Rattle.delivery.proofs.Sound.{kept-behind}
+use Rattle.delivery.proofs.Sound.{kept_behind}
 
 -- ---- words that make one command
 
 module _ (n : ℕ) (ws : List ℕ) (whole : whole_of ws ≡ true) (few : length ws ≤ n) where
-  front-all : front n ws ≡ ws
-  front-all = let p = part_of n ws whole in p.part ∙ rw (← p.all few) (take-length ws)
+  front_all : front n ws ≡ ws
+  front_all = let p = part_of n ws whole in p.part ∙ rw (← p.all few) (take-length ws)
 
-  behind-none : behind n ws ≡ []
+  behind_none : behind n ws ≡ []
   unfolding behind
-  behind-none = rw front-all (drop-length ws)
+  behind_none = rw front_all (drop-length ws)
 
-front-none : (ws : List ℕ) → whole_of ws ≡ true → front 0 ws ≡ []
-front-none ws whole = length_none (front 0 ws) (part_of 0 ws whole).few
+front_none : (ws : List ℕ) → whole_of ws ≡ true → front 0 ws ≡ []
+front_none ws whole = length_none (front 0 ws) (part_of 0 ws whole).few
 
-behind-all : (ws : List ℕ) → whole_of ws ≡ true → behind 0 ws ≡ ws
+behind_all_lem : (ws : List ℕ) → whole_of ws ≡ true → behind 0 ws ≡ ws
 unfolding behind
-behind-all ws whole = rw (front-none ws whole)
+behind_all_lem ws whole = rw (front_none ws whole)
 
-one-command : (max : ℕ) (ws : List ℕ) → Divides max ws → 0 < length ws → length ws ≤ max → commandsOf max ws ≡ ws ∷ []
-one-command max [] d some few = absurd (let z : ⊥ = omega arith in z)
-one-command max (w ∷ ws) d some few =
-    rw (commands-cons max w ws d, front-all max (w ∷ ws) d.whole few, behind-none max (w ∷ ws) d.whole few, commands-nil)
+one_command : (max : ℕ) (ws : List ℕ) → Divides max ws → 0 < length ws → length ws ≤ max → commands_of max ws ≡ ws ∷ []
+one_command max [] d some few = absurd (let z : ⊥ = omega arith in z)
+one_command max (w ∷ ws) d some few =
+    rw (commands_cons max w ws d, front_all max (w ∷ ws) d.whole few, behind_none max (w ∷ ws) d.whole few, commands_nil)
 
 -- ---- what stays
 
@@ -64,14 +64,14 @@ module _ (s : ℕ) where
   size_few (e ∷ es) h = rw (suc-mul (length es) (1 + s)) (omega (arith, size_few es h.1, h.0))
 
   -- the last R, where they and what is needed have room
-  kept-enough : (R room need : ℕ) (es : List (List ℕ)) → All Few es → R * (1 + s) + need ≤ room → min R (length es) ≤ length (kept room need es)
+  kept_enough : (R room need : ℕ) (es : List (List ℕ)) → All Few es → R * (1 + s) + need ≤ room → min R (length es) ≤ length (kept room need es)
   unfolding kept
-  kept-enough R room need [] h l = omega arith
-  kept-enough R room need (e ∷ es) h l = elim (split (ltb (room - size (e ∷ es)) need)) [
+  kept_enough R room need [] h l = omega arith
+  kept_enough R room need (e ∷ es) h l = elim (split (ltb (room - size (e ∷ es)) need)) [
     | inl k ↦ rw k (elim (split (ltb R (length (e ∷ es)))) [
-      | inl m ↦ omega (arith, tests, kept-enough R room need es h.1 l)
+      | inl m ↦ omega (arith, tests, kept_enough R room need es h.1 l)
       | inr m ↦
-          let z : ⊥ = omega (arith, tests, size_few (e ∷ es) h, mul-le-mul_right (1 + s) (fewer m)) in
+          let z : ⊥ = omega (arith, tests, size_few (e ∷ es) h, mul_le_mul_right (1 + s) (fewer m)) in
           absurd z
     ])
     | inr k ↦ rw k (omega arith)
@@ -97,7 +97,7 @@ module _ (R s c : ℕ) (history : (R + 1) * (1 + s) ≤ c) where
 
   -- no request waits, and of the commands before the next the last R are held, or all
   pub record Enough (first : ℕ) (written : List (List ℕ)) (waiting : List RetransmitRequest) : Type 0 where
-    pub no-request : waiting ≡ []
+    pub no_request : waiting ≡ []
     pub few : All (Few s) written
     pub last : min R (first + length written) ≤ length written
 
@@ -108,70 +108,70 @@ module _ (R s c : ℕ) (history : (R + 1) * (1 + s) ≤ c) where
     pub holding : Holding b
     pub unwritten : Open n b.unwritten
 
-  freed-holding : (need : ℕ) (b : Book) → Holding b → R * (1 + s) + need + size b.unwritten ≤ c → Holding (freed c need b)
+  freed_holding : (need : ℕ) (b : Book) → Holding b → R * (1 + s) + need + size b.unwritten ≤ c → Holding (freed c need b)
   unfolding freed
-  freed-holding need b h l =
-      let k = kept-behind (c - size b.unwritten) need b.written in
+  freed_holding need b h l =
+      let k = kept_behind (c - size b.unwritten) need b.written in
       record {
-        no-request = h.no-request;
+        no_request = h.no_request;
         few = all_right (Few s) k.0 (kept (c - size b.unwritten) need b.written) (rw (← k.1) h.few);
-        last = omega (arith, h.last, kept-enough s R (c - size b.unwritten) need b.written h.few (omega arith), length-kept (c - size b.unwritten) need b.written);
+        last = omega (arith, h.last, kept_enough s R (c - size b.unwritten) need b.written h.few (omega arith), length_kept (c - size b.unwritten) need b.written);
       }
 
-  size-nothing : size [] ≡ 0
+  size_nothing : size [] ≡ 0
   unfolding size
-  size-nothing = refl
+  size_nothing = refl
 
   -- a command behind none
-  pushed-kept : (n : ℕ) (ws : List ℕ) (b : Book) → Holding b → b.unwritten ≡ [] → length ws ≤ n → n ≤ s → Kept n (pushedIn c ws b)
-  unfolding pushedIn freed
-  pushed-kept n ws b h e l m =
-      let z : size b.unwritten ≡ 0 = rw e size-nothing in
-      record { holding = freed-holding (1 + length ws) b h (omega (arith, room)); unwritten = rw e (one ws l) }
+  pushed_kept : (n : ℕ) (ws : List ℕ) (b : Book) → Holding b → b.unwritten ≡ [] → length ws ≤ n → n ≤ s → Kept n (pushed_in c ws b)
+  unfolding pushed_in freed
+  pushed_kept n ws b h e l m =
+      let z : size b.unwritten ≡ 0 = rw e size_nothing in
+      record { holding = freed_holding (1 + length ws) b h (omega (arith, room)); unwritten = rw e (one ws l) }
 
   -- ---- queue words
 
-  joined-holding : (xs : List ℕ) (b : Book) → Holding b → R * (1 + s) + length xs + size b.unwritten ≤ c → Holding (joinedIn c xs b)
-  unfolding joinedIn freed
-  joined-holding xs b h l = freed-holding (length xs) b h l
+  joined_holding : (xs : List ℕ) (b : Book) → Holding b → R * (1 + s) + length xs + size b.unwritten ≤ c → Holding (joined_in c xs b)
+  unfolding joined_in freed
+  joined_holding xs b h l = freed_holding (length xs) b h l
 
-  joined-open : (xs : List ℕ) (b : Book) → (joinedIn c xs b).unwritten ≡ joinedLast b.unwritten xs
-  unfolding joinedIn
-  joined-open xs b = refl
+  joined_open : (xs : List ℕ) (b : Book) → (joined_in c xs b).unwritten ≡ joined_last b.unwritten xs
+  unfolding joined_in
+  joined_open xs b = refl
 
-  queued-kept : (n max : ℕ) (ws : List ℕ) (b : Book) → Kept n b → Divides max ws → 0 < length ws → n + length ws ≤ s → s ≤ max → Kept (n + length ws) (queuedIn c max ws b)
-  unfolding queuedIn pushedAllIn joinedLast roomIn
-  queued-kept n max ws b k d some l m = by b.unwritten refl k.unwritten
+  queued_kept : (n max : ℕ) (ws : List ℕ) (b : Book) → Kept n b → Divides max ws → 0 < length ws → n + length ws ≤ s → s ≤ max → Kept (n + length ws) (queued_in c max ws b)
+  unfolding queued_in pushed_all_in joined_last room_in
+  queued_kept n max ws b k d some l m = by b.unwritten refl k.unwritten
     where
-      joining : (us : List (List ℕ)) (n : ℕ) → b.unwritten ≡ us → roomIn max us ≡ n → front (roomIn max b.unwritten) ws ≡ front n ws
-      joining us n e r = ap (λ (vs : List (List ℕ)). front (roomIn max vs) ws) e ∙ ap (λ (n : ℕ). front n ws) r
+      joining : (us : List (List ℕ)) (n : ℕ) → b.unwritten ≡ us → room_in max us ≡ n → front (room_in max b.unwritten) ws ≡ front n ws
+      joining us n e r = ap (λ (vs : List (List ℕ)). front (room_in max vs) ws) e ∙ ap (λ (n : ℕ). front n ws) r
 
-      further : (us : List (List ℕ)) (n : ℕ) → b.unwritten ≡ us → roomIn max us ≡ n → commandsOf max (behind (roomIn max b.unwritten) ws) ≡ commandsOf max (behind n ws)
-      further us n e r = ap (λ (vs : List (List ℕ)). commandsOf max (behind (roomIn max vs) ws)) e ∙ ap (λ (n : ℕ). commandsOf max (behind n ws)) r
+      further : (us : List (List ℕ)) (n : ℕ) → b.unwritten ≡ us → room_in max us ≡ n → commands_of max (behind (room_in max b.unwritten) ws) ≡ commands_of max (behind n ws)
+      further us n e r = ap (λ (vs : List (List ℕ)). commands_of max (behind (room_in max vs) ws)) e ∙ ap (λ (n : ℕ). commands_of max (behind n ws)) r
 
-      by : (us : List (List ℕ)) → b.unwritten ≡ us → Open n us → Kept (n + length ws) (queuedIn c max ws b)
+      by : (us : List (List ℕ)) → b.unwritten ≡ us → Open n us → Kept (n + length ws) (queued_in c max ws b)
       by us e none =
-          let z : size b.unwritten ≡ 0 = ap size e ∙ size-nothing in
-          rw (joining us 0 e refl ∙ front-none ws d.whole, further us 0 e refl ∙ ap (commandsOf max) (behind-all ws d.whole) ∙ one-command max ws d some (omega arith))
-          (pushed-kept (n + length ws) ws (joinedIn c [] b) (joined-holding [] b k.holding (omega (arith, room)))
-          (joined-open [] b ∙ ap (λ (vs : List (List ℕ)). joinedLast vs []) e) (omega arith) l)
+          let z : size b.unwritten ≡ 0 = ap size e ∙ size_nothing in
+          rw (joining us 0 e refl ∙ front_none ws d.whole, further us 0 e refl ∙ ap (commands_of max) (behind_all_lem ws d.whole) ∙ one_command max ws d some (omega arith))
+          (pushed_kept (n + length ws) ws (joined_in c [] b) (joined_holding [] b k.holding (omega (arith, room)))
+          (joined_open [] b ∙ ap (λ (vs : List (List ℕ)). joined_last vs []) e) (omega arith) l)
       by us e (one u j) =
           let r : length ws ≤ max - length u = omega arith in
-          let z : size b.unwritten ≡ 1 + length u = ap size e ∙ size-one u in
-          rw (joining us (max - length u) e refl ∙ front-all (max - length u) ws d.whole r, further us (max - length u) e refl ∙ ap (commandsOf max) (behind-none (max - length u) ws d.whole r) ∙ commands-nil max)
+          let z : size b.unwritten ≡ 1 + length u = ap size e ∙ size_one u in
+          rw (joining us (max - length u) e refl ∙ front_all (max - length u) ws d.whole r, further us (max - length u) e refl ∙ ap (commands_of max) (behind_none (max - length u) ws d.whole r) ∙ commands_nil max)
           record {
-            holding = joined-holding ws b k.holding (omega (arith, room));
-            unwritten = rw (joined-open ws b ∙ ap (λ (vs : List (List ℕ)). joinedLast vs ws) e) (one (u ++ ws) (omega (arith, length-append u ws)));
+            holding = joined_holding ws b k.holding (omega (arith, room));
+            unwritten = rw (joined_open ws b ∙ ap (λ (vs : List (List ℕ)). joined_last vs ws) e) (one (u ++ ws) (omega (arith, length-append u ws)));
           }
 
-  pub sent-kept : (n : ℕ) (b : Book) (cfg : StreamConfig) (ws : List ℕ) → Kept n b → n + length ws ≤ s → s ≤ cfg.max_command_words → Kept (n + length ws) (sentIn c b cfg ws).book
-  unfolding sentIn
-  sent-kept n b cfg ws k l m =
-      by-check Ok (checkOf cfg) _ _ (λ why. same) (λ passed.
+  pub sent_kept : (n : ℕ) (b : Book) (cfg : StreamConfig) (ws : List ℕ) → Kept n b → n + length ws ≤ s → s ≤ cfg.max_command_words → Kept (n + length ws) (sent_in c b cfg ws).book
+  unfolding sent_in
+  sent_kept n b cfg ws k l m =
+      by_check Ok (check_of cfg) _ _ (λ why. same) (λ passed.
       by_cond Ok (eqb (length ws) 0) _ _ (λ none. same) (λ some.
-      by-check Ok (wordsCheck cfg.max_command_words ws) _ _ (λ why. same) (λ divides.
-      by_cond Ok (ltb (c - size b.unwritten) (needIn cfg.max_command_words ws b)) _ _ (λ full. same) (λ fits.
-      queued-kept n cfg.max_command_words ws b k (check-divides _ ws divides) (omega (arith, tests)) l m))))
+      by_check Ok (words_check cfg.max_command_words ws) _ _ (λ why. same) (λ divides.
+      by_cond Ok (ltb (c - size b.unwritten) (need_in cfg.max_command_words ws b)) _ _ (λ full. same) (λ fits.
+      queued_kept n cfg.max_command_words ws b k (check_divides _ ws divides) (omega (arith, tests)) l m))))
     where
       Ok : QueueIn → Type 0
       Ok q = Kept (n + length ws) q.book
@@ -181,31 +181,31 @@ module _ (R s c : ℕ) (history : (R + 1) * (1 + s) ≤ c) where
 
   -- ---- a due idle command
 
-  pub idled-kept : (n : ℕ) (b : Book) (cfg : StreamConfig) (time : ℕ) → Kept n b → n ≤ s → Kept n (idledIn c cfg time b)
-  unfolding idledIn
-  idled-kept n b cfg time k l = by b.idle
+  pub idled_kept : (n : ℕ) (b : Book) (cfg : StreamConfig) (time : ℕ) → Kept n b → n ≤ s → Kept n (idled_in c cfg time b)
+  unfolding idled_in
+  idled_kept n b cfg time k l = by b.idle
     where
       empty : (us : List (List ℕ)) → is_empty us ≡ true → us ≡ []
       empty [] e = refl
       empty (u ∷ us) e = absurd (let z : ◌≡◌ {A = ℕ} 0 1 = cc in omega arith)
 
-      by : (t : IdleTimer) → Kept n (idledBy c cfg time b t)
+      by : (t : IdleTimer) → Kept n (idled_by c cfg time b t)
       by Off = k
       by (Waiting t) =
           by_cond (Kept n) (not (is_empty b.unwritten) || ltb time t.due) _ _ (λ e. k)
           (λ e.
-          let p = pushed-kept n [] b k.holding (empty b.unwritten (not-false _ (or_left (not (is_empty b.unwritten)) _ e))) (omega arith) l in
+          let p = pushed_kept n [] b k.holding (empty b.unwritten (not-false _ (or_left (not (is_empty b.unwritten)) _ e))) (omega arith) l in
           record { holding = p.holding; unwritten = p.unwritten })
 
   -- ---- the one unwritten command is written
 
-  pub written-kept : (cfg : StreamConfig) (time : ℕ) (b : Book) (ws : List ℕ) → length ws ≤ s → Holding b → b.unwritten ≡ ws ∷ [] → Kept 0 (writtenOn cfg time 1 b)
-  unfolding writtenOn
-  written-kept cfg time b ws l h e =
+  pub written_kept : (cfg : StreamConfig) (time : ℕ) (b : Book) (ws : List ℕ) → length ws ≤ s → Holding b → b.unwritten ≡ ws ∷ [] → Kept 0 (written_on cfg time 1 b)
+  unfolding written_on
+  written_kept cfg time b ws l h e =
       rw (ap (take 1) e, ap (drop 1) e)
       record {
         holding = record {
-          no-request = h.no-request;
+          no_request = h.no_request;
           few = all_append (Few s) b.written (ws ∷ []) h.few (l, tt);
           last = omega (arith, h.last, length-append b.written (ws ∷ []));
         };

@@ -8,22 +8,22 @@ pub record Command : Type 0 where
   pub number : ℕ
   pub words : List ℕ
 
-abbrev pub isData : Packet → Bool
-isData c = eqb c.code 0xFF
+abbrev pub is_data : Packet → Bool
+is_data c = eqb c.code 0xFF
 
-abbrev pub commandOf : Packet → Command
-commandOf c = record { number = c.csd1 * 256 + c.csd2; words = c.words }
+abbrev pub command_of : Packet → Command
+command_of c = record { number = c.csd1 * 256 + c.csd2; words = c.words }
 
-unfoldable pub dataIn : List Packet → List Command
-dataIn [] = []
-dataIn (c ∷ cs) = cond (isData c) (commandOf c ∷ dataIn cs) (dataIn cs)
+unfoldable pub data_in : List Packet → List Command
+data_in [] = []
+data_in (c ∷ cs) = cond (is_data c) (command_of c ∷ data_in cs) (data_in cs)
 
 -- the whole commands among the items of a payload
-unfoldable pub wholesIn : List Item → List Packet
-wholesIn [] = []
-wholesIn (whole at c ∷ is) = c ∷ wholesIn is
-wholesIn (cut h ∷ is) = wholesIn is
+unfoldable pub wholes_in : List Item → List Packet
+wholes_in [] = []
+wholes_in (whole at c ∷ is) = c ∷ wholes_in is
+wholes_in (cut h ∷ is) = wholes_in is
 
 -- the data commands that reading these bytes finds, in order
 unfoldable pub data_of : List ℕ → List Command
-data_of bytes = dataIn (wholesIn (items_of bytes))
+data_of bytes = data_in (wholes_in (items_of bytes))

@@ -4,16 +4,16 @@ use Rattle.std.specs.Prelude.{ℕ, suc, ◌≡◌, List, [], ◌∷◌, length}
 use Rattle.delivery.specs.Console.{Entry, accepted, positions}
 
 -- how many words each command with words has, in order
-abbrev pub lengthsIn : List (List ℕ) → List ℕ
-lengthsIn [] = []
-lengthsIn ([] ∷ C) = lengthsIn C
-lengthsIn ((w ∷ ws) ∷ C) = length (w ∷ ws) ∷ lengthsIn C
+abbrev pub lengths_in : List (List ℕ) → List ℕ
+lengths_in [] = []
+lengths_in ([] ∷ C) = lengths_in C
+lengths_in ((w ∷ ws) ∷ C) = length (w ∷ ws) ∷ lengths_in C
 
 -- the positions, from p on, of the commands without words
-abbrev pub emptyFrom : ℕ → List (List ℕ) → List ℕ
-emptyFrom p [] = []
-emptyFrom p ([] ∷ C) = p ∷ emptyFrom (suc p) C
-emptyFrom p ((w ∷ ws) ∷ C) = emptyFrom (suc p) C
+abbrev pub empty_from : ℕ → List (List ℕ) → List ℕ
+empty_from p [] = []
+empty_from p ([] ∷ C) = p ∷ empty_from (suc p) C
+empty_from p ((w ∷ ws) ∷ C) = empty_from (suc p) C
 
 -- the messages, as a list of words
 abbrev pub messages : List Entry → List ℕ
@@ -21,14 +21,14 @@ messages t = accepted t
 
 -- their division into commands
 abbrev pub division : List Entry → List ℕ
-division t = lengthsIn (positions t)
+division t = lengths_in (positions t)
 
 -- where the Zero Length Commands written stand
-abbrev pub zeroLength : List Entry → List ℕ
-zeroLength t = emptyFrom 0 (positions t)
+abbrev pub zero_length : List Entry → List ℕ
+zero_length t = empty_from 0 (positions t)
 
 -- of two consoles' logs
 pub record SamePerformance (t s : List Entry) : Type 0 where
-  pub same-messages : messages t ≡ messages s
-  pub same-division : division t ≡ division s
-  pub same-zero-length : zeroLength t ≡ zeroLength s
+  pub same_messages : messages t ≡ messages s
+  pub same_division : division t ≡ division s
+  pub same_zero_length : zero_length t ≡ zero_length s

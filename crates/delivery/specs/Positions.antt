@@ -13,12 +13,12 @@ contents [] = []
 contents (k ∷ w) = cond (opens (length (contents w)) k.number) (contents w ++ (k.words ∷ [])) (contents w)
 
 -- the newest position with a number, of a count of positions
-unfoldable pub newestWith : ℕ → ℕ → ℕ
-newestWith count number = count - 1 - ahead number ((count - 1) % turn)
+unfoldable pub newest_with : ℕ → ℕ → ℕ
+newest_with count number = count - 1 - ahead number ((count - 1) % turn)
 
 -- the position of a command that is written after others: the next, or any other repeats the newest position with its number
 unfoldable pub position : List Command → Command → ℕ
-position w k = cond (opens (length (contents w)) k.number) (length (contents w)) (newestWith (length (contents w)) k.number)
+position w k = cond (opens (length (contents w)) k.number) (length (contents w)) (newest_with (length (contents w)) k.number)
 
 -- the command of a position, with its words
 abbrev pub numbered : ℕ → List ℕ → Command

@@ -4,7 +4,7 @@
 //           |<- front of at most n ->|  behind: the next command's front, and so on
 ghost use Rattle.std.specs.Prelude.{◌≡◌, true, false, not, ◌≤◌, length};
 ghost use Rattle.command.specs.Messages.{whole_of};
-ghost use Rattle.fronts.specs.Commands.{front, commandsOf, above};
+ghost use Rattle.fronts.specs.Commands.{front, commands_of, above};
 
 use command::message::{message_words, whole_words};
 
@@ -44,7 +44,7 @@ pub fn fit(words: &[u32], max: usize) -> bool
 // How many commands of at most `max` words the words divide into.
 pub fn commands(words: &[u32], max: usize) -> usize
     requires { (whole_of words.now ≡ true) × (above max words.now ≡ false) }
-    ensures { (result ≡ length (commandsOf max words.now)) × (result ≤ length words.now) }
+    ensures { (result ≡ length (commands_of max words.now)) × (result ≤ length words.now) }
 {
     let mut at = 0;
     let mut count = 0;

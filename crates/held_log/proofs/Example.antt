@@ -13,48 +13,48 @@ use native.Mathlib.Omega.{arith}
 use lib.Dec.{eqb}
 use lib.ListN.{drop}
 use borrow.Author.Tests.{eqb-true}
-use Rattle.config.specs.Settings.{checkOf}
+use Rattle.config.specs.Settings.{check_of}
 use Rattle.config.specs.inner.Tests.{split, tests}
 use Rattle.packet.specs.Bytes.{bytes_of, words_of, spliced}
 use Rattle.packet.specs.Layout.{Words32}
-use Rattle.packet.specs.Read.{signed, itemsFrom, items_of}
-use Rattle.packet.specs.Write.{opened_of, valid_of as payloadValid, written_of}
-use Rattle.command.specs.Messages.{typeWords, divided, messagesOf, whole_of, words_in}
-use Rattle.history.specs.Ring.{slot_of, ringStored, ringRead}
-use Rattle.history.specs.Headers.{header_at, wordsFrom, numbered}
-use Rattle.history.specs.State.{stateOk, walkOk}
-use Rattle.history.specs.Push.{popOne, popped, grown, pushed, longer, appended}
-use Rattle.history.specs.Written.{entryPacket}
-use Rattle.sender.specs.Answers.{newAnswer, sendAnswer}
-use Rattle.writing.specs.Answers.{writeAnswer}
-use Rattle.fronts.specs.Commands.{fitting, front, behind, commandsIn, commandsOf, longer as longMessage, above}
+use Rattle.packet.specs.Read.{signed, items_from, items_of}
+use Rattle.packet.specs.Write.{opened_of, valid_of as payload_valid, written_of}
+use Rattle.command.specs.Messages.{type_words, divided, messages_of, whole_of, words_in}
+use Rattle.history.specs.Ring.{slot_of, ring_stored, ring_read}
+use Rattle.history.specs.Headers.{header_at, words_from, numbered}
+use Rattle.history.specs.State.{state_ok, walk_ok}
+use Rattle.history.specs.Push.{pop_one, popped, grown, pushed, longer, appended}
+use Rattle.history.specs.Written.{entry_packet}
+use Rattle.sender.specs.Answers.{new_answer, send_answer}
+use Rattle.writing.specs.Answers.{write_answer}
+use Rattle.fronts.specs.Commands.{fitting, front, behind, commands_in, commands_of, longer as long_message, above}
 use Rattle.sender.specs.State.{valid_of}
-use Rattle.sender.specs.Queueing.{roomOf, need_of, joinedTo, pushedAll, queuedTo, queuedOf, wordsCheck, placed_of, sentOf}
-use Rattle.writing.specs.Writing.{servedIn, servedOf, idledOf, writtenOff, newOf, written_by}
+use Rattle.sender.specs.Queueing.{room_of, need_of, joined_to, pushed_all, queued_to, queued_of, words_check, placed_of, sent_of}
+use Rattle.writing.specs.Writing.{served_in, served_of, idled_of, written_off, new_of, written_by}
 use Rattle.config.specs.declared.answer.Outcome.TheVariants.{Done}
 use Rattle.window.specs.declared.window.Class.TheVariants.{New, Late}
 use Rattle.window.specs.declared.window.Span.TheVariants.{Nothing, Of}
-use Rattle.idle.specs.Schedule.{idleNext}
-use Rattle.rows.specs.Rows.{row_of, packetsFrom, sizesOf, anyWords}
-use Rattle.rows.specs.Choice.{repeatsOf}
-use Rattle.receiver.specs.Receiver.{dueAfter}
+use Rattle.idle.specs.Schedule.{idle_next}
+use Rattle.rows.specs.Rows.{row_of, packets_from, sizes_of, any_words}
+use Rattle.rows.specs.Choice.{repeats_of}
+use Rattle.receiver.specs.Receiver.{due_after}
 use Rattle.receiver.specs.declared.receiver.Hearing.TheVariants.{Delivery as Delivered}
-use Rattle.receiver_log.specs.Calls.{data-command, Entry as Heard, data-entry, AllTyped}
+use Rattle.receiver_log.specs.Calls.{data_command, Entry as Heard, data_entry, AllTyped}
 use Rattle.receiver_log.specs.Calls as Chamber
-use Rattle.receiver_log.specs.Log.{reports, origin, isAhead, place, start, high, times, unprocessed, Missing}
-use Rattle.receiver_log.specs.Spans.{endsOf, classIn, lostAt, lostIn, missingEnds, askedFor}
+use Rattle.receiver_log.specs.Log.{reports, origin, is_ahead, place, start, high, times, unprocessed, Missing}
+use Rattle.receiver_log.specs.Spans.{ends_of, class_in, lost_at, lost_in, missing_ends, asked_for}
 use Rattle.receiver_log.specs.Answers.{answer_of, said_of}
-use Rattle.receiver_log.specs.Promise.{logOf}
-use Rattle.receiver_log.proofs.Runs.{run-said}
-use Rattle.delivery.specs.Commands.{Command, dataIn, wholesIn, data_of}
-use Rattle.delivery.specs.Positions.{opens, position, newestWith}
-use Rattle.delivery.specs.Console.{Lent, bytes, Call, open-payload, queue-words, write-into, Entry, queued, wrote, stood, step_of, logFrom, freshConsole, AllAllowed, accepted, written, positions, position_of, Was, was-wrote, was}
-use Rattle.delivery.specs.Sentence.{Line, fresh, hear, Premises, Run, sentLog, heardLog, Holds}
+use Rattle.receiver_log.specs.Promise.{log_of}
+use Rattle.receiver_log.proofs.Runs.{run_said}
+use Rattle.delivery.specs.Commands.{Command, data_in, wholes_in, data_of}
+use Rattle.delivery.specs.Positions.{opens, position, newest_with}
+use Rattle.delivery.specs.Console.{Lent, bytes, Call, open_payload, queue_words, write_into, Entry, queued, wrote, stood, step_of, log_from, fresh_console, AllAllowed, accepted, written, positions, position_of, Was, was_wrote, was}
+use Rattle.delivery.specs.Sentence.{Line, fresh, hear, Premises, Run, sent_log, heard_log, Holds}
 use Rattle.delivery.proofs.Example.{settings, zeros, empty, full, all, delivery}
-use Rattle.notes.specs.Notes.{note_of, isOurs, isOn, isOff, effect_of, onFor, offFor}
-use Rattle.held_notes.specs.Calls.{heldAfter, heldIn}
+use Rattle.notes.specs.Notes.{note_of, is_ours, is_on, is_off, effect_of, on_for, off_for}
+use Rattle.held_notes.specs.Calls.{held_after, held_in}
 use Rattle.held_log.specs.Log.{since}
-use Rattle.held_log.specs.Theorems.{leavesHeld, wholeIn, HeldAccepted}
+use Rattle.held_log.specs.Theorems.{leaves_held, whole_in, HeldAccepted}
 
 -- ---- the console
 
@@ -69,9 +69,9 @@ C = 0x20903E40 ∷ []
 
 abbrev calls : List Call
 calls =
-    open-payload 1400 (zeros 12) ∷ queue-words (settings 0) A ∷ write-into 0 (settings 0) 0
-    ∷ open-payload 1400 (zeros 12) ∷ queue-words (settings 0) B ∷ write-into 1 (settings 0) 5
-    ∷ open-payload 1400 (zeros 12) ∷ queue-words (settings 0) C ∷ write-into 2 (settings 0) 10
+    open_payload 1400 (zeros 12) ∷ queue_words (settings 0) A ∷ write_into 0 (settings 0) 0
+    ∷ open_payload 1400 (zeros 12) ∷ queue_words (settings 0) B ∷ write_into 1 (settings 0) 5
+    ∷ open_payload 1400 (zeros 12) ∷ queue_words (settings 0) C ∷ write_into 2 (settings 0) 10
     ∷ []
 
 abbrev payload0 : Lent
@@ -90,28 +90,28 @@ sent =
     ∷ wrote 0 (empty 12) payload0 (all 1) ∷ queued (settings 0) A Done ∷ stood 0 (empty 12)
     ∷ []
 
-sent_is : logFrom (freshConsole 65 4 (zeros 65)) [] calls ≡ sent
-unfolding logFrom step_of newAnswer opened_of typeWords divided messagesOf whole_of slot_of ringStored ringRead header_at wordsFrom numbered stateOk walkOk popOne popped grown pushed longer appended entryPacket fitting front behind commandsIn commandsOf longMessage above valid_of roomOf need_of joinedTo pushedAll queuedTo queuedOf wordsCheck placed_of sentOf row_of packetsFrom servedIn servedOf idleNext idledOf sizesOf repeatsOf anyWords writtenOff newOf written_by sendAnswer writeAnswer checkOf payloadValid written_of bytes_of spliced
+sent_is : log_from (fresh_console 65 4 (zeros 65)) [] calls ≡ sent
+unfolding log_from step_of new_answer opened_of type_words divided messages_of whole_of slot_of ring_stored ring_read header_at words_from numbered state_ok walk_ok pop_one popped grown pushed longer appended entry_packet fitting front behind commands_in commands_of long_message above valid_of room_of need_of joined_to pushed_all queued_to queued_of words_check placed_of sent_of row_of packets_from served_in served_of idle_next idled_of sizes_of repeats_of any_words written_off new_of written_by send_answer write_answer check_of payload_valid written_of bytes_of spliced
 sent_is = refl
 
 -- ---- the chamber
 
 abbrev arrivals : List Chamber.Call
-arrivals = data-command (settings 0) 6 1 B ∷ data-command (settings 0) 7 0 A ∷ data-command (settings 0) 11 2 C ∷ []
+arrivals = data_command (settings 0) 6 1 B ∷ data_command (settings 0) 7 0 A ∷ data_command (settings 0) 11 2 C ∷ []
 
 abbrev arrived : List Heard
 arrived =
-    data-entry (settings 0) 11 2 C (Delivered (delivery 2 (New 0) Nothing))
-    ∷ data-entry (settings 0) 7 0 A (Delivered (delivery 0 Late Nothing))
-    ∷ data-entry (settings 0) 6 1 B (Delivered (delivery 1 (New 1) (Of record { first = 0; count = 1 })))
+    data_entry (settings 0) 11 2 C (Delivered (delivery 2 (New 0) Nothing))
+    ∷ data_entry (settings 0) 7 0 A (Delivered (delivery 0 Late Nothing))
+    ∷ data_entry (settings 0) 6 1 B (Delivered (delivery 1 (New 1) (Of record { first = 0; count = 1 })))
     ∷ []
 
 typed : AllTyped arrivals
 typed = omega arith
 
-arrived-is : logOf 64 arrivals ≡ arrived
-unfolding said_of answer_of checkOf classIn isAhead place lostIn lostAt missingEnds endsOf unprocessed start dueAfter askedFor
-arrived-is = run-said 64 (omega arith) (omega arith) arrivals typed ∙ refl
+arrived_is : log_of 64 arrivals ≡ arrived
+unfolding said_of answer_of check_of class_in is_ahead place lost_in lost_at missing_ends ends_of unprocessed start due_after asked_for
+arrived_is = run_said 64 (omega arith) (omega arith) arrivals typed ∙ refl
 
 -- ---- the line
 
@@ -125,26 +125,26 @@ abbrev c : Command
 c = record { number = 2; words = C }
 
 reads : (data_of (bytes payload0) ≡ a ∷ []) × (data_of (bytes payload1) ≡ b ∷ []) × (data_of (bytes payload2) ≡ c ∷ [])
-unfolding data_of dataIn wholesIn items_of itemsFrom signed words_of bytes_of
+unfolding data_of data_in wholes_in items_of items_from signed words_of bytes_of
 reads = (refl, refl, refl)
 
 -- behind n newer entries
-was-behind : (n : ℕ) (t : List Entry) (k : ℕ) (v : Lent) → Was (drop n t) k v → Was t k v
-was-behind zero t k v h = h
-was-behind (suc n) [] k v h = h
-was-behind (suc n) (x ∷ t) k v h = was x (was-behind n t k v h)
+was_behind : (n : ℕ) (t : List Entry) (k : ℕ) (v : Lent) → Was (drop n t) k v → Was t k v
+was_behind zero t k v h = h
+was_behind (suc n) [] k v h = h
+was_behind (suc n) (x ∷ t) k v h = was x (was_behind n t k v h)
 
 was0 : Was sent 0 payload0
-was0 = was-behind 6 sent 0 payload0 (was-wrote _ _ _ _ _)
+was0 = was_behind 6 sent 0 payload0 (was_wrote _ _ _ _ _)
 
 was1 : Was sent 1 payload1
-was1 = was-behind 3 sent 1 payload1 (was-wrote _ _ _ _ _)
+was1 = was_behind 3 sent 1 payload1 (was_wrote _ _ _ _ _)
 
 was2 : Was sent 2 payload2
-was2 = was-wrote _ _ _ _ _
+was2 = was_wrote _ _ _ _ _
 
 places : (0 ≡ position_of (written sent) 0 0) × (1 ≡ position_of (written sent) 1 0) × (2 ≡ position_of (written sent) 2 0)
-unfolding data_of dataIn wholesIn items_of itemsFrom signed words_of bytes_of opens position newestWith
+unfolding data_of data_in wholes_in items_of items_from signed words_of bytes_of opens position newest_with
 places = (refl, refl, refl)
 
 line : Line sent arrived (2 ∷ 0 ∷ 1 ∷ [])
@@ -156,38 +156,38 @@ line =
 
 -- ---- the premises
 
-positions-are : positions sent ≡ A ∷ B ∷ C ∷ []
-unfolding data_of dataIn wholesIn items_of itemsFrom signed words_of bytes_of opens
-positions-are = refl
+positions_are : positions sent ≡ A ∷ B ∷ C ∷ []
+unfolding data_of data_in wholes_in items_of items_from signed words_of bytes_of opens
+positions_are = refl
 
-highest-is : high (reports arrived) ≡ origin + 2
-unfolding place isAhead
-highest-is = refl
+highest_is : high (reports arrived) ≡ origin + 2
+unfolding place is_ahead
+highest_is = refl
 
-handed-once : (times (reports arrived) origin ≡ 1) × (times (reports arrived) (origin + 1) ≡ 1)
-unfolding place isAhead
-handed-once = (refl, refl)
+handed_once : (times (reports arrived) origin ≡ 1) × (times (reports arrived) (origin + 1) ≡ 1)
+unfolding place is_ahead
+handed_once = (refl, refl)
 
-last-place : (x : ℕ) → origin ≤ x → x < origin + 2 → eqb x origin ≡ false → x ≡ origin + 1
-last-place x from to f = omega (arith, tests)
+last_place : (x : ℕ) → origin ≤ x → x < origin + 2 → eqb x origin ≡ false → x ≡ origin + 1
+last_place x from to f = omega (arith, tests)
 
-none-missing : (x : ℕ) → Missing 64 (reports arrived) x → ⊥
-none-missing x m = elim (split (eqb x origin)) [
-  | inl k ↦ not_at origin (eqb-true x origin k) handed-once.0
-  | inr k ↦ not_at (origin + 1) (last-place x m.from-0 (rw highest-is at m.below) k) handed-once.1
+none_missing_lem : (x : ℕ) → Missing 64 (reports arrived) x → ⊥
+none_missing_lem x m = elim (split (eqb x origin)) [
+  | inl k ↦ not_at origin (eqb-true x origin k) handed_once.0
+  | inr k ↦ not_at (origin + 1) (last_place x m.from_0 (rw highest_is at m.below) k) handed_once.1
 ]
   where
     not_at : (y : ℕ) → x ≡ y → times (reports arrived) y ≡ 1 → ⊥
-    not_at y same one = let z : times (reports arrived) y ≡ 0 = rw same at m.not-handed-on in let w : ◌≡◌ {A = ℕ} 0 1 = sym z ∙ one in omega arith
+    not_at y same one = let z : times (reports arrived) y ≡ 0 = rw same at m.not_handed_on in let w : ◌≡◌ {A = ℕ} 0 1 = sym z ∙ one in omega arith
 
 premises : Premises 64 sent arrived (2 ∷ 0 ∷ 1 ∷ [])
 unfolding words_in
 premises = record {
   line = line;
-  all-written = rw positions-are;
-  newest-heard = rw positions-are (λ some. Memᴰ.head refl);
-  no-loss = (refl, (refl, (refl, tt)));
-  nothing-missing = none-missing;
+  all_written = rw positions_are;
+  newest_heard = rw positions_are (λ some. Memᴰ.head refl);
+  no_loss = (refl, (refl, (refl, tt)));
+  nothing_missing_lem = none_missing_lem;
 }
 
 -- ---- the run
@@ -196,8 +196,8 @@ allowed : AllAllowed calls
 unfolding Words32
 allowed = omega arith
 
-started : (newAnswer 65 4 (zeros 65)).0.answer ≡ Done
-unfolding newAnswer
+started : (new_answer 65 4 (zeros 65)).0.answer ≡ Done
+unfolding new_answer
 started = refl
 
 pub example : Run
@@ -215,20 +215,20 @@ example = record {
   typed = typed;
 }
 
-pub example-holds : Holds example
+pub example_holds : Holds example
 unfolding example
-example-holds = (2 ∷ 0 ∷ 1 ∷ [], rw (sent_is, arrived-is) premises)
+example_holds = (2 ∷ 0 ∷ 1 ∷ [], rw (sent_is, arrived_is) premises)
 
 -- it holds 3E, and not 3C
-pub example-held : (heldIn 0 0x3E (since (heardLog example) []) ≡ true) × (heldIn 0 0x3C (since (heardLog example) []) ≡ false)
-unfolding example heldAfter onFor offFor effect_of isOurs isOn isOff note_of messagesOf divided typeWords
-example-held = rw arrived-is (refl, refl)
+pub example_held : (held_in 0 0x3E (since (heard_log example) []) ≡ true) × (held_in 0 0x3C (since (heard_log example) []) ≡ false)
+unfolding example held_after on_for off_for effect_of is_ours is_on is_off note_of messages_of divided type_words
+example_held = rw arrived_is (refl, refl)
 
 -- so the theorem is said of something
-pub example-said : HeldAccepted → leavesHeld 0 0x3E false (wholeIn (accepted (sentLog example))) ≡ true
-example-said theorem = theorem 0 0x3E example example-holds [] example-held.0
+pub example_said : HeldAccepted → leaves_held 0 0x3E false (whole_in (accepted (sent_log example))) ≡ true
+example_said theorem = theorem 0 0x3E example example_holds [] example_held.0
 
 -- and its converse is false: 3C is not held, and what was accepted leaves it held
-pub silent-too-soon : leavesHeld 0 0x3C false (wholeIn (accepted (sentLog example))) ≡ true
-unfolding example heldAfter onFor offFor effect_of isOurs isOn isOff note_of messagesOf divided typeWords
-silent-too-soon = rw sent_is refl
+pub silent_too_soon : leaves_held 0 0x3C false (whole_in (accepted (sent_log example))) ≡ true
+unfolding example held_after on_for off_for effect_of is_ours is_on is_off note_of messages_of divided type_words
+silent_too_soon = rw sent_is refl

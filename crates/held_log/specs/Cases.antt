@@ -5,25 +5,25 @@ use Rattle.window.specs.declared.window.Class.TheVariants.{New, Late, Duplicate}
 use Rattle.window.specs.declared.window.Span.TheVariants.{Nothing}
 use Rattle.receiver.specs.declared.receiver.Hearing.TheVariants.{Delivery as Delivered}
 use Rattle.held_notes.specs.Answers.{list_of}
-use Rattle.held_notes.specs.Calls.{Call, delivered, heldIn}
+use Rattle.held_notes.specs.Calls.{Call, delivered, held_in}
 
 -- the notes 60 of channel 0 and 67 of channel 1
-abbrev pub twoHeld : List ℕ
-twoHeld = 2 ^ 60 ∷ 0 ∷ 0 ∷ 2 ^ 3 ∷ replicate 28 0
+abbrev pub two_held : List ℕ
+two_held = 2 ^ 60 ∷ 0 ∷ 0 ∷ 2 ^ 3 ∷ replicate 28 0
 
 -- a command with number 0, with no gap and no loss
 abbrev pub answered : Class → List ℕ → Call
 answered class ws = delivered (Delivered record { seq = 0; class = class; gap = Nothing; lost = Nothing }) ws
 
 -- whether note 60 of group 0 is held after its on, and then its release in a command that is answered so
-abbrev pub heldAfterRelease : Class → Bool
-heldAfterRelease class = heldIn 0 60 (answered class (0x20803C00 ∷ []) ∷ answered (New 0) (0x20903C40 ∷ []) ∷ [])
+abbrev pub held_after_release : Class → Bool
+held_after_release class = held_in 0 60 (answered class (0x20803C00 ∷ []) ∷ answered (New 0) (0x20903C40 ∷ []) ∷ [])
 
 pub record HeldCases : Type 0 where
   -- they come first, by channel, then note, and the rest is 0
-  pub count : (list_of twoHeld).count ≡ 2
-  pub first : take 2 (list_of twoHeld).items ≡ (60 ∷ 195 ∷ [])
-  pub rest : drop 2 (list_of twoHeld).items ≡ replicate 2046 0
+  pub count : (list_of two_held).count ≡ 2
+  pub first : take 2 (list_of two_held).items ≡ (60 ∷ 195 ∷ [])
+  pub rest : drop 2 (list_of two_held).items ≡ replicate 2046 0
   -- a Late release counts, and a Duplicate is not played
-  pub late : heldAfterRelease Late ≡ false
-  pub duplicate : heldAfterRelease Duplicate ≡ true
+  pub late : held_after_release Late ≡ false
+  pub duplicate : held_after_release Duplicate ≡ true

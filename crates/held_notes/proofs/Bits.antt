@@ -16,23 +16,23 @@ use Rattle.held_notes.specs.State.{has, Turned}
 
 -- ---- digits
 
-bit-range : (a : ℕ) → a % 2 < 2
-bit-range a = omega arith
+bit_range : (a : ℕ) → a % 2 < 2
+bit_range a = omega arith
 
-or-digit : (n m j : ℕ) → bit_or n m / 2 ^ j % 2 ≡ max (n / 2 ^ j % 2) (m / 2 ^ j % 2)
-or-digit n m j =
+or_digit : (n m j : ℕ) → bit_or n m / 2 ^ j % 2 ≡ max (n / 2 ^ j % 2) (m / 2 ^ j % 2)
+or_digit n m j =
     let a : ℕ = n / 2 ^ j in
     let b : ℕ = m / 2 ^ j in
-    ap (λ (x : ℕ). x % 2) (or_shr n m j ∙ or_step a b) ∙ low (bit_or (a / 2) (b / 2)) (a % 2) (b % 2) (bit-range a) (bit-range b)
+    ap (λ (x : ℕ). x % 2) (or_shr n m j ∙ or_step a b) ∙ low (bit_or (a / 2) (b / 2)) (a % 2) (b % 2) (bit_range a) (bit_range b)
   where
     low : (z x y : ℕ) → x < 2 → y < 2 → (z * 2 + max x y) % 2 ≡ max x y
     low z x y p q = omega arith
 
-xor-digit : (n m j : ℕ) → bit_xor n m / 2 ^ j % 2 ≡ differ (n / 2 ^ j % 2) (m / 2 ^ j % 2)
-xor-digit n m j =
+xor_digit : (n m j : ℕ) → bit_xor n m / 2 ^ j % 2 ≡ differ (n / 2 ^ j % 2) (m / 2 ^ j % 2)
+xor_digit n m j =
     let a : ℕ = n / 2 ^ j in
     let b : ℕ = m / 2 ^ j in
-    ap (λ (x : ℕ). x % 2) (xor_shr n m j ∙ xor_step a b) ∙ low (bit_xor (a / 2) (b / 2)) (a % 2) (b % 2) (bit-range a) (bit-range b)
+    ap (λ (x : ℕ). x % 2) (xor_shr n m j ∙ xor_step a b) ∙ low (bit_xor (a / 2) (b / 2)) (a % 2) (b % 2) (bit_range a) (bit_range b)
   where
     low : (z x y : ℕ) → x < 2 → y < 2 → (z * 2 + differ x y) % 2 ≡ differ x y
     low z zero zero p q = omega arith
@@ -43,13 +43,13 @@ xor-digit n m j =
     low z zero (suc (suc y)) p q = absurd (let z : ⊥ = omega arith in z)
     low z (suc zero) (suc (suc y)) p q = absurd (let z : ⊥ = omega arith in z)
 
-pow-digit : (i : ℕ) → 2 ^ i / 2 ^ i % 2 ≡ 1
-pow-digit i =
+pow_digit : (i : ℕ) → 2 ^ i / 2 ^ i % 2 ≡ 1
+pow_digit i =
     ap (λ (x : ℕ). x / 2 ^ i % 2) (sym (add-zero (1 * 2 ^ i) ∙ one-mul (2 ^ i)))
     ∙ ap (λ (x : ℕ). x % 2) (mul-add-div_right (pow_pos i) 1 0 ∙ ap (λ (x : ℕ). 1 + x) (div-eq_of_lt (pow_pos i)))
 
-pow-other : (i j : ℕ) → (j ≡ i → ⊥) → 2 ^ i / 2 ^ j % 2 ≡ 0
-pow-other i j n = elim (split (eqb (i - j) 0)) [
+pow_other : (i j : ℕ) → (j ≡ i → ⊥) → 2 ^ i / 2 ^ j % 2 ≡ 0
+pow_other i j n = elim (split (eqb (i - j) 0)) [
   | inl k ↦ let l : i < j = less i j n (omega (arith, tests)) in ap (λ (x : ℕ). x % 2) (div-eq_of_lt (pow-lt l))
   | inr k ↦
       let d : ℕ = i - j - 1 in
@@ -71,43 +71,43 @@ pow-other i j n = elim (split (eqb (i - j) 0)) [
 abbrev one : ℕ → ℕ → Bool
 one n j = eqb (n / 2 ^ j % 2) 1
 
-with-one : (n i : ℕ) → one (bit_or n (2 ^ i)) i ≡ true
-with-one n i = ap (λ (x : ℕ). eqb x 1) (or-digit n (2 ^ i) i ∙ ap (λ (x : ℕ). max (n / 2 ^ i % 2) x) (pow-digit i) ∙ top (n / 2 ^ i % 2) (bit-range (n / 2 ^ i)))
+with_one : (n i : ℕ) → one (bit_or n (2 ^ i)) i ≡ true
+with_one n i = ap (λ (x : ℕ). eqb x 1) (or_digit n (2 ^ i) i ∙ ap (λ (x : ℕ). max (n / 2 ^ i % 2) x) (pow_digit i) ∙ top (n / 2 ^ i % 2) (bit_range (n / 2 ^ i)))
   where
     top : (x : ℕ) → x < 2 → max x 1 ≡ 1
     top x h = omega arith
 
-with-other : (n i j : ℕ) → (j ≡ i → ⊥) → one (bit_or n (2 ^ i)) j ≡ one n j
-with-other n i j h = ap (λ (x : ℕ). eqb x 1) (or-digit n (2 ^ i) j ∙ ap (λ (x : ℕ). max (n / 2 ^ j % 2) x) (pow-other i j h) ∙ same (n / 2 ^ j % 2))
+with_other : (n i j : ℕ) → (j ≡ i → ⊥) → one (bit_or n (2 ^ i)) j ≡ one n j
+with_other n i j h = ap (λ (x : ℕ). eqb x 1) (or_digit n (2 ^ i) j ∙ ap (λ (x : ℕ). max (n / 2 ^ j % 2) x) (pow_other i j h) ∙ same (n / 2 ^ j % 2))
   where
     same : (x : ℕ) → max x 0 ≡ x
     same x = omega arith
 
-differ-zero : (x : ℕ) → differ x 0 ≡ x
-differ-zero zero = refl
-differ-zero (suc x) = refl
+differ_zero : (x : ℕ) → differ x 0 ≡ x
+differ_zero zero = refl
+differ_zero (suc x) = refl
 
-without-one : (n i : ℕ) → one (bit_xor (bit_or n (2 ^ i)) (2 ^ i)) i ≡ false
-without-one n i =
+without_one : (n i : ℕ) → one (bit_xor (bit_or n (2 ^ i)) (2 ^ i)) i ≡ false
+without_one n i =
     ap (λ (x : ℕ). eqb x 1)
-    (xor-digit (bit_or n (2 ^ i)) (2 ^ i) i
-    ∙ ap₂ differ (or-digit n (2 ^ i) i ∙ ap (λ (x : ℕ). max (n / 2 ^ i % 2) x) (pow-digit i) ∙ top (n / 2 ^ i % 2) (bit-range (n / 2 ^ i))) (pow-digit i))
+    (xor_digit (bit_or n (2 ^ i)) (2 ^ i) i
+    ∙ ap₂ differ (or_digit n (2 ^ i) i ∙ ap (λ (x : ℕ). max (n / 2 ^ i % 2) x) (pow_digit i) ∙ top (n / 2 ^ i % 2) (bit_range (n / 2 ^ i))) (pow_digit i))
   where
     top : (x : ℕ) → x < 2 → max x 1 ≡ 1
     top x h = omega arith
 
 without_other : (n i j : ℕ) → (j ≡ i → ⊥) → one (bit_xor (bit_or n (2 ^ i)) (2 ^ i)) j ≡ one n j
 without_other n i j h =
-    ap (λ (x : ℕ). eqb x 1) (xor-digit (bit_or n (2 ^ i)) (2 ^ i) j ∙ ap (λ (x : ℕ). differ (bit_or n (2 ^ i) / 2 ^ j % 2) x) (pow-other i j h) ∙ differ-zero (bit_or n (2 ^ i) / 2 ^ j % 2))
-    ∙ with-other n i j h
+    ap (λ (x : ℕ). eqb x 1) (xor_digit (bit_or n (2 ^ i)) (2 ^ i) j ∙ ap (λ (x : ℕ). differ (bit_or n (2 ^ i) / 2 ^ j % 2) x) (pow_other i j h) ∙ differ_zero (bit_or n (2 ^ i) / 2 ^ j % 2))
+    ∙ with_other n i j h
 
 -- ---- 32 words
 
 module _ (held : List ℕ) (note v : ℕ) (l : note / 64 < length held) (b : Bool)
     (here : one v (note % 64) ≡ b) (other : (j : ℕ) → (j ≡ note % 64 → ⊥) → one v j ≡ one (get_or held (note / 64) 0) j) where
-  pub has-set : (k : ℕ) → has (set held (note / 64) v) k ≡ cond (eqb k note) b (has held k)
+  pub has_set : (k : ℕ) → has (set held (note / 64) v) k ≡ cond (eqb k note) b (has held k)
   unfolding has
-  has-set k = elim (split (eqb k note)) [
+  has_set k = elim (split (eqb k note)) [
     | inl e ↦
         let i : k ≡ note = omega (arith, tests) in
         rw (e, i, get_or-set_same held (note / 64) v 0 l) here
@@ -136,12 +136,12 @@ module _ (held : List ℕ) (note : ℕ) (l : note / 64 < length held) where
   abbrev word : ℕ
   word = get_or held (note / 64) 0
 
-  pub has-with : Turned true note held (set held (note / 64) (bit_or word (bit (note % 64))))
-  has-with =
+  pub has_with : Turned true note held (set held (note / 64) (bit_or word (bit (note % 64))))
+  has_with =
       subst (λ (b : ℕ). Turned true note held (set held (note / 64) (bit_or word b))) (bit_is (note % 64) (omega arith))
-      (has-set held note (bit_or word (2 ^ (note % 64))) l true (with-one word (note % 64)) (λ j h. with-other word (note % 64) j h))
+      (has_set held note (bit_or word (2 ^ (note % 64))) l true (with_one word (note % 64)) (λ j h. with_other word (note % 64) j h))
 
-  pub has-without : Turned false note held (set held (note / 64) (bit_xor (bit_or word (bit (note % 64))) (bit (note % 64))))
-  has-without =
+  pub has_without : Turned false note held (set held (note / 64) (bit_xor (bit_or word (bit (note % 64))) (bit (note % 64))))
+  has_without =
       subst (λ (b : ℕ). Turned false note held (set held (note / 64) (bit_xor (bit_or word b) b))) (bit_is (note % 64) (omega arith))
-      (has-set held note (bit_xor (bit_or word (2 ^ (note % 64))) (2 ^ (note % 64))) l false (without-one word (note % 64)) (λ j h. without_other word (note % 64) j h))
+      (has_set held note (bit_xor (bit_or word (2 ^ (note % 64))) (2 ^ (note % 64))) l false (without_one word (note % 64)) (λ j h. without_other word (note % 64) j h))

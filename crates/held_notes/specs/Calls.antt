@@ -1,6 +1,6 @@
 -- 02, 4/14: what is held after a list of calls: deliveries, events and restarts, as the stream answered them. Newest first.
 use Rattle.std.specs.Prelude.{ℕ, Bool, true, false, cond, ◌&&◌, List, [], ◌∷◌, ◌++◌}
-use Rattle.command.specs.Messages.{messagesOf}
+use Rattle.command.specs.Messages.{messages_of}
 use Rattle.window.specs.declared.window.Class.{Class}
 use Rattle.window.specs.declared.window.Class.TheVariants.{New, Late, Duplicate}
 use Rattle.window.specs.declared.window.Span.{Span}
@@ -8,8 +8,8 @@ use Rattle.window.specs.declared.window.Span.TheVariants.{Nothing, Of}
 use Rattle.receiver.specs.declared.receiver.Hearing.{Hearing}
 use Rattle.receiver.specs.declared.receiver.Hearing.TheVariants.{Delivery as Delivered, Refused as HearingRefused}
 use Rattle.receiver.specs.declared.receiver.StreamEvent.{StreamEvent}
-use Rattle.receiver_log.specs.Log.{lossIn}
-use Rattle.notes.specs.Notes.{onFor, offFor}
+use Rattle.receiver_log.specs.Log.{loss_in}
+use Rattle.notes.specs.Notes.{on_for, off_for}
 
 -- ---- moments
 
@@ -20,14 +20,14 @@ pub data Moment : Type 0 where
   message : Bool → List ℕ → Moment
 
 -- whether the note k of group g is held after a moment: a message that isn't New releases but never holds
-unfoldable pub heldAfter : ℕ → ℕ → Bool → Moment → Bool
-heldAfter g k held silence = false
-heldAfter g k held (message new m) = cond (offFor g k m) false (cond (new && onFor g k m) true held)
+unfoldable pub held_after : ℕ → ℕ → Bool → Moment → Bool
+held_after g k held silence = false
+held_after g k held (message new m) = cond (off_for g k m) false (cond (new && on_for g k m) true held)
 
 -- after moments in order of time
-abbrev pub heldThrough : ℕ → ℕ → Bool → List Moment → Bool
-heldThrough g k held [] = held
-heldThrough g k held (m ∷ ms) = heldThrough g k (heldAfter g k held m) ms
+abbrev pub held_through : ℕ → ℕ → Bool → List Moment → Bool
+held_through g k held [] = held
+held_through g k held (m ∷ ms) = held_through g k (held_after g k held m) ms
 
 -- ---- calls
 
@@ -53,18 +53,18 @@ handed Late ms = messages false ms
 handed Duplicate ms = []
 
 -- a loss reported with a delivery counts before its messages; a refused command is not handed on
-abbrev pub momentsOf : Call → List Moment
-momentsOf (delivered (Delivered d) ws) = silenced d.lost ++ handed d.class (messagesOf ws).whole
-momentsOf (delivered (HearingRefused why) ws) = []
-momentsOf (told e) = silenced (lossIn e)
-momentsOf restarted = silence ∷ []
+abbrev pub moments_of : Call → List Moment
+moments_of (delivered (Delivered d) ws) = silenced d.lost ++ handed d.class (messages_of ws).whole
+moments_of (delivered (HearingRefused why) ws) = []
+moments_of (told e) = silenced (loss_in e)
+moments_of restarted = silence ∷ []
 
 -- all moments, in order of time
-abbrev pub momentsIn : List Call → List Moment
-momentsIn [] = []
-momentsIn (c ∷ t) = momentsIn t ++ momentsOf c
+abbrev pub moments_in : List Call → List Moment
+moments_in [] = []
+moments_in (c ∷ t) = moments_in t ++ moments_of c
 
 -- whether the note k of group g is held; at the start none is
-abbrev pub heldIn : ℕ → ℕ → List Call → Bool
-heldIn g k [] = false
-heldIn g k (c ∷ t) = heldThrough g k (heldIn g k t) (momentsOf c)
+abbrev pub held_in : ℕ → ℕ → List Call → Bool
+held_in g k [] = false
+held_in g k (c ∷ t) = held_through g k (held_in g k t) (moments_of c)

@@ -2,9 +2,9 @@
 // its answer.
 ghost use Rattle.std.specs.Prelude.{◌≡◌, true, false, [], ◌∷◌, ◌++◌};
 ghost use Rattle.packet.specs.Bytes.{words_of};
-ghost use Rattle.command.specs.Messages.{messagesOf};
+ghost use Rattle.command.specs.Messages.{messages_of};
 ghost use Rattle.held_notes.specs.Calls.{silence, silenced, messages, handed, delivered, told, restarted};
-ghost use Rattle.held_notes.specs.Answers.{notesOf, isLoss, Follows, Plays, refusedOf, answer_of, start_of};
+ghost use Rattle.held_notes.specs.Answers.{notes_of, is_loss, Follows, Plays, refused_of, answer_of, start_of};
 
 use super::listing::Notes;
 use super::{listing, walk};
@@ -32,7 +32,7 @@ pub struct Given {
 }
 
 fn no_notes() -> Notes
-    ensures { result ≡ notesOf [] }
+    ensures { result ≡ notes_of [] }
 {
     Notes {
         count: 0,
@@ -42,7 +42,7 @@ fn no_notes() -> Notes
 
 // 12.
 fn refused(state: HeldNotes) -> Given
-    ensures { result ≡ refusedOf state }
+    ensures { result ≡ refused_of state }
 {
     let notes = no_notes();
     Given {
@@ -82,7 +82,7 @@ fn silence_all(state: HeldNotes) -> Given
 
 // A loss, if one is reported.
 fn after_loss(state: HeldNotes, lost: Span) -> Given
-    ensures { Follows state (isLoss lost) (silenced lost) result }
+    ensures { Follows state (is_loss lost) (silenced lost) result }
 {
     match lost {
         Span::Nothing => unchanged(state),
@@ -92,7 +92,7 @@ fn after_loss(state: HeldNotes, lost: Span) -> Given
 
 // Then the messages of a command.
 fn played(given: Given, new: bool, body: &[u8]) -> Given
-    ensures { Plays given (messages new (messagesOf (words_of body.now)).whole) result }
+    ensures { Plays given (messages new (messages_of (words_of body.now)).whole) result }
 {
     let state = given.state;
     let held = state.held;
@@ -108,7 +108,7 @@ fn played(given: Given, new: bool, body: &[u8]) -> Given
 
 // When it is answered New or Late.
 fn handed_on(given: Given, class: Class, body: &[u8]) -> Given
-    ensures { Plays given (handed class (messagesOf (words_of body.now)).whole) result }
+    ensures { Plays given (handed class (messages_of (words_of body.now)).whole) result }
 {
     match class {
         Class::New(_) => played(given, true, body),
@@ -119,7 +119,7 @@ fn handed_on(given: Given, class: Class, body: &[u8]) -> Given
 
 // A command that was not refused.
 fn heard(state: HeldNotes, d: Delivery, body: &[u8]) -> Given
-    ensures { Follows state (isLoss d.lost) (silenced d.lost ++ handed d.class (messagesOf (words_of body.now)).whole) result }
+    ensures { Follows state (is_loss d.lost) (silenced d.lost ++ handed d.class (messages_of (words_of body.now)).whole) result }
 {
     let lost = d.lost;
     let class = d.class;

@@ -1,9 +1,9 @@
 // The set of held notes, as 32 words: note k is bit k % 64 of word k / 64.
 ghost use Rattle.std.specs.Prelude.{◌≡◌, true, false, ◌<◌};
-ghost use Rattle.held_notes.specs.State.{allNotes, has, Turned};
+ghost use Rattle.held_notes.specs.State.{all_notes, has, Turned};
 
 pub fn holds(held: [u64; 32], note: usize) -> bool
-    requires { note < allNotes }
+    requires { note < all_notes }
     ensures { result ≡ has held note }
 {
     (held[note / 64] >> (note % 64)) % 2 == 1
@@ -11,7 +11,7 @@ pub fn holds(held: [u64; 32], note: usize) -> bool
 
 // The set with the note.
 pub fn with(held: [u64; 32], note: usize) -> [u64; 32]
-    requires { note < allNotes }
+    requires { note < all_notes }
     ensures { Turned true note held result }
 {
     let mut after = held;
@@ -21,7 +21,7 @@ pub fn with(held: [u64; 32], note: usize) -> [u64; 32]
 
 // The set without it.
 pub fn without(held: [u64; 32], note: usize) -> [u64; 32]
-    requires { note < allNotes }
+    requires { note < all_notes }
     ensures { Turned false note held result }
 {
     let bit = 1u64 << (note % 64);

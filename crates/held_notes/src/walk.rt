@@ -1,7 +1,7 @@
 // The messages of a data command, one after the other.
 ghost use Rattle.std.specs.Prelude.{◌≡◌};
 ghost use Rattle.packet.specs.Bytes.{words_of};
-ghost use Rattle.command.specs.Messages.{messagesOf};
+ghost use Rattle.command.specs.Messages.{messages_of};
 ghost use Rattle.held_notes.specs.Calls.{messages};
 ghost use Rattle.held_notes.specs.State.{Leads};
 
@@ -10,7 +10,7 @@ use command::message::{message_in, word_at};
 
 // What is held after the whole messages of a command.
 pub fn play_all(group: u32, new: bool, held: [u64; 32], body: &[u8]) -> [u64; 32]
-    ensures { Leads group (messages new (messagesOf (words_of body.now)).whole) held result }
+    ensures { Leads group (messages new (messages_of (words_of body.now)).whole) held result }
 {
     let mut after = held;
     let mut at = 0;

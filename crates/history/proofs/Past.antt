@@ -5,18 +5,18 @@ use borrow.Author.Tests.{lt-leb}
 use Rattle.config.specs.Sequence.{turn, after}
 use Rattle.config.specs.inner.Tests.{split, tests, lifts}
 use Rattle.history.specs.Ring.{slot_of}
-use Rattle.history.specs.Headers.{length_at, entrySize, next_at, header_at, wordsFrom, headerOk, numbered}
-use Rattle.history.specs.inner.Walk.{newestFrom, passes, Past, Ran, Walked}
-use Rattle.history.specs.State.{Good, Marks, oldestMark, nearestMark}
+use Rattle.history.specs.Headers.{length_at, entry_size, next_at, header_at, words_from, header_ok, numbered}
+use Rattle.history.specs.inner.Walk.{newest_from, passes, Past, Ran, Walked}
+use Rattle.history.specs.State.{Good, Marks, oldest_mark, nearest_mark}
 use Rattle.history.specs.declared.history.Mark.{Mark}
 use Rattle.history.specs.declared.history.SendHistory.{SendHistory}
 use Rattle.history.specs.declared.headers.Stop.{Stop}
 use Rattle.history.specs.declared.headers.Leg.{Leg}
-use Rattle.history.proofs.Slots.{slot-from, slot-to}
-use Rattle.history.proofs.Walk.{header-add, numbered-add, words-add}
+use Rattle.history.proofs.Slots.{slot_from, slot_to}
+use Rattle.history.proofs.Walk.{header_add, numbered_add, words_add}
 
-pub past-none : (b : List ℕ) (i n p : ℕ) → Past b i n p 0 i n p 0
-past-none b i n p =
+pub past_none : (b : List ℕ) (i n p : ℕ) → Past b i n p 0 i n p 0
+past_none b i n p =
     record {
       numbers = λ j. (let e : 0 + j ≡ j = omega arith in rw e);
       place = λ j. (let e : 0 + j ≡ j = omega arith in rw e);
@@ -31,35 +31,35 @@ one_more passed k l f = omega arith
 pub further : (at i n i' : ℕ) → at ≤ i → i' ≡ i + n → at ≤ i'
 further at i n i' l e = omega arith
 
-pub fewer-left : (passed k : ℕ) → passed < k → k - (passed + 1) < k - passed
-fewer-left passed k l = omega arith
+pub fewer_left : (passed k : ℕ) → passed < k → k - (passed + 1) < k - passed
+fewer_left passed k l = omega arith
 
-pub header-parts : (h n pl : ℕ) → h ≡ n * turn + pl → pl ≤ 64 → (h % turn ≡ pl) × (h / turn ≡ n)
-header-parts h n pl e l = (omega arith, omega arith)
+pub header_parts : (h n pl : ℕ) → h ≡ n * turn + pl → pl ≤ 64 → (h % turn ≡ pl) × (h / turn ≡ n)
+header_parts h n pl e l = (omega arith, omega arith)
 
 -- an entry of pl words with header h goes by, from place i on
-pub gone-by : (at i pl passed k h : ℕ) {g : ℕ} → passed < k → at ≤ i → g ≡ h → h % turn ≡ pl
+pub gone_by_lem : (at i pl passed k h : ℕ) {g : ℕ} → passed < k → at ≤ i → g ≡ h → h % turn ≡ pl
     → (0 < passed + 1) × (passed + 1 ≤ k) × (at + (1 + pl) ≤ i + (1 + pl)) × (g ≡ h / turn * turn + pl) × (i + (1 + pl) - (1 + pl) ≡ i)
-gone-by at i pl passed k h l m e f = (omega arith, omega arith, omega arith, omega arith, omega arith)
+gone_by_lem at i pl passed k h l m e f = (omega arith, omega arith, omega arith, omega arith, omega arith)
 
 -- the place reached is in front of the end of the ring
 pub past_to : (b : List ℕ) (i n p d at seq prev words : ℕ) → i ≤ at → at < length b
     → Past b i n p d (slot_of (length b) i (at - i)) seq prev words → Past b i n p d at seq prev words
-past_to b i n p d at seq prev words l m x = rw (slot-to (length b) i at l m) at x
+past_to b i n p d at seq prev words l m x = rw (slot_to (length b) i at l m) at x
 
-pub past-entry : (b : List ℕ) (i n p : ℕ) → length_at b i ≤ 64 → get_or b i 0 ≡ n * turn + length_at b i → Past b i n p 1 (next_at b i) (after n 1) i (entrySize b i)
-unfolding numbered header_at wordsFrom newestFrom
-past-entry b i n p short header =
+pub past_entry : (b : List ℕ) (i n p : ℕ) → length_at b i ≤ 64 → get_or b i 0 ≡ n * turn + length_at b i → Past b i n p 1 (next_at b i) (after n 1) i (entry_size b i)
+unfolding numbered header_at words_from newest_from
+past_entry b i n p short header =
     record {
-      numbers = λ j. (let e : 1 + j ≡ suc j = omega arith in rw (e, le-leb (length_at b i) 64 short, eq-eqb (get_or b i 0) (n * turn + length_at b i) header));
+      numbers = λ j. (let e : 1 + j ≡ suc j = omega arith in rw (e, le-leb (length_at b i) 64 short, eq_eqb (get_or b i 0) (n * turn + length_at b i) header));
       place = λ j. (let e : 1 + j ≡ suc j = omega arith in rw e);
       taken = λ j. (let e : 1 + j ≡ suc j = omega arith in rw e);
       newest = λ j. (let e : 1 + j ≡ suc j = omega arith in rw e);
     }
 
 module _ (b : List ℕ) (i n p d i' n' p' : ℕ) where
-  pub past-join : (w e i'' n'' p'' w' : ℕ) → Past b i n p d i' n' p' w → Past b i' n' p' e i'' n'' p'' w' → Past b i n p (d + e) i'' n'' p'' (w + w')
-  past-join w e i'' n'' p'' w' x y =
+  pub past_join : (w e i'' n'' p'' w' : ℕ) → Past b i n p d i' n' p' w → Past b i' n' p' e i'' n'' p'' w' → Past b i n p (d + e) i'' n'' p'' (w + w')
+  past_join w e i'' n'' p'' w' x y =
       record {
         numbers = λ j. (let a : d + e + j ≡ d + (e + j) = omega arith in rw a (x.numbers (e + j) ∙ y.numbers j));
         place = λ j. (let a : d + e + j ≡ d + (e + j) = omega arith in rw a (x.place (e + j) ∙ y.place j));
@@ -68,48 +68,48 @@ module _ (b : List ℕ) (i n p d i' n' p' : ℕ) where
       }
 
   -- of u words w are left, and then w'
-  pub past-on : (u w e i'' n'' p'' w' : ℕ) → Past b i n p d i' n' p' (u - w) → w ≤ u → Past b i' n' p' e i'' n'' p'' (w - w') → w' ≤ w → Past b i n p (d + e) i'' n'' p'' (u - w')
-  past-on u w e i'' n'' p'' w' x l y l' =
+  pub past_on : (u w e i'' n'' p'' w' : ℕ) → Past b i n p d i' n' p' (u - w) → w ≤ u → Past b i' n' p' e i'' n'' p'' (w - w') → w' ≤ w → Past b i n p (d + e) i'' n'' p'' (u - w')
+  past_on u w e i'' n'' p'' w' x l y l' =
       let s : u - w + (w - w') ≡ u - w' = omega arith in
-      rw s at (past-join (u - w) e i'' n'' p'' (w - w') x y)
+      rw s at (past_join (u - w) e i'' n'' p'' (w - w') x y)
 
 -- ---- what cannot be passed
 
-leb-less : (u w x : ℕ) → w ≤ u → leb (u - w + x) u ≡ leb x w
-leb-less u w x l =
+leb_less : (u w x : ℕ) → w ≤ u → leb (u - w + x) u ≡ leb x w
+leb_less u w x l =
     ⊎_elim
     (λ (e : leb x w ≡ true). let f : leb (u - w + x) u ≡ true = omega (arith, tests, lifts) in f ∙ sym e)
     (λ (e : leb x w ≡ false). let f : leb (u - w + x) u ≡ false = omega (arith, tests, lifts) in f ∙ sym e)
     (split (leb x w))
 
-pub numbered-fails : (k : ℕ) (b : List ℕ) (i n u : ℕ) → numbered k b i n ≡ false → passes k b i n u ≡ false
-numbered-fails k b i n u h = rw h
+pub numbered_fails : (k : ℕ) (b : List ℕ) (i n u : ℕ) → numbered k b i n ≡ false → passes k b i n u ≡ false
+numbered_fails k b i n u h = rw h
 
-pub words-fail : (k : ℕ) (b : List ℕ) (i n u : ℕ) → u < wordsFrom k b i → passes k b i n u ≡ false
-words-fail k b i n u h = rw (lt-leb (wordsFrom k b i) u h, and-false)
+pub words_fail : (k : ℕ) (b : List ℕ) (i n u : ℕ) → u < words_from k b i → passes k b i n u ≡ false
+words_fail k b i n u h = rw (lt-leb (words_from k b i) u h, and_false)
 
 -- what fails behind the entries passed fails from the start
-pub past-fails : (b : List ℕ) (i n p d i' n' p' u w j k : ℕ) → Past b i n p d i' n' p' (u - w) → w ≤ u → d + j ≡ k → passes j b i' n' w ≡ false → passes k b i n u ≡ false
-past-fails b i n p d i' n' p' u w j k x l e h =
-    rw (← e, x.numbers j, x.taken j, leb-less u w (wordsFrom j b i') l) h
+pub past_fails : (b : List ℕ) (i n p d i' n' p' u w j k : ℕ) → Past b i n p d i' n' p' (u - w) → w ≤ u → d + j ≡ k → passes j b i' n' w ≡ false → passes k b i n u ≡ false
+past_fails b i n p d i' n' p' u w j k x l e h =
+    rw (← e, x.numbers j, x.taken j, leb_less u w (words_from j b i') l) h
 
-pub no-yes : {A : Type 0} {t : Bool} → t ≡ true → t ≡ false → A
-no-yes e f = absurd (let z : ◌≡◌ {A = ℕ} 0 1 = cc in omega arith)
+pub no_yes : {A : Type 0} {t : Bool} → t ≡ true → t ≡ false → A
+no_yes e f = absurd (let z : ◌≡◌ {A = ℕ} 0 1 = cc in omega arith)
 
-pub past-here : (b : List ℕ) (i n p k u : ℕ) → Past b i n p (k - k) i n p (u - u)
-past-here b i n p k u =
+pub past_here : (b : List ℕ) (i n p k u : ℕ) → Past b i n p (k - k) i n p (u - u)
+past_here b i n p k u =
     let e : k - k ≡ 0 = omega arith in
     let f : u - u ≡ 0 = omega arith in
-    rw (e, f) (past-none b i n p)
+    rw (e, f) (past_none b i n p)
 
 -- a leg before its first entry
-pub past-start : (b : List ℕ) (at seq p n : ℕ) → n ≡ seq → Past b at seq p 0 at n p (at - at)
-past-start b at seq p n e = rw e (past-here b at seq p 0 at)
+pub past_start : (b : List ℕ) (at seq p n : ℕ) → n ≡ seq → Past b at seq p 0 at n p (at - at)
+past_start b at seq p n e = rw e (past_here b at seq p 0 at)
 
 -- where an entry is passed, it does not matter which header was the newest before
-past-any : (b : List ℕ) (i n p q d i' n' p' w : ℕ) → 0 < d → Past b i n p d i' n' p' w → Past b i n q d i' n' p' w
-unfolding newestFrom
-past-any b i n p q d i' n' p' w some x =
+past_any : (b : List ℕ) (i n p q d i' n' p' w : ℕ) → 0 < d → Past b i n p d i' n' p' w → Past b i n q d i' n' p' w
+unfolding newest_from
+past_any b i n p q d i' n' p' w some x =
     record {
       numbers = x.numbers;
       place = x.place;
@@ -119,11 +119,11 @@ past-any b i n p q d i' n' p' w some x =
 
 -- ---- a header h, and pl, which is h less its number n over a length of 0
 
-pub header-right : (h n pl : ℕ) → n < turn → (pl + n * turn) % 18446744073709551616 ≡ h → pl ≤ 64 → h ≡ n * turn + pl
-header-right h n pl small less s = omega arith
+pub header_right : (h n pl : ℕ) → n < turn → (pl + n * turn) % 18446744073709551616 ≡ h → pl ≤ 64 → h ≡ n * turn + pl
+header_right h n pl small less s = omega arith
 
-header-wrong : (b : List ℕ) (i n pl : ℕ) → n < turn → (pl + n * turn) % 18446744073709551616 ≡ get_or b i 0 → 64 < pl → pl < 18446744073709551616 → headerOk b i n ≡ false
-header-wrong b i n pl small less s t =
+header_wrong : (b : List ℕ) (i n pl : ℕ) → n < turn → (pl + n * turn) % 18446744073709551616 ≡ get_or b i 0 → 64 < pl → pl < 18446744073709551616 → header_ok b i n ≡ false
+header_wrong b i n pl small less s t =
     ⊎_elim
     (λ (e : leb (length_at b i) 64 ≡ true).
     let f : length_at b i ≤ 64 = leb-true _ _ e in
@@ -139,8 +139,8 @@ cancel x y z e s = omega arith
 
 -- the place `next` after an entry is computed from `base`, the place a after its header less its number
 module _ (h want a base next pl : ℕ) (from : (base + want) % 18446744073709551616 ≡ a) (to : next ≡ (h + base) % 18446744073709551616) (back : (pl + a) % 18446744073709551616 ≡ next) where
-  pub less-number : h < 18446744073709551616 → want % turn ≡ 0 → (pl + want / turn * turn) % 18446744073709551616 ≡ h
-  less-number s even =
+  pub less_number : h < 18446744073709551616 → want % turn ≡ 0 → (pl + want / turn * turn) % 18446744073709551616 ≡ h
+  less_number s even =
       let e : want / turn * turn ≡ want = omega arith in
       let f : (pl + want + base) % 18446744073709551616 ≡ (h + base) % 18446744073709551616 = around pl want base a from ∙ back ∙ to in
       rw e (cancel (pl + want) h base f s)
@@ -149,40 +149,40 @@ module _ (h want a base next pl : ℕ) (from : (base + want) % 18446744073709551
   place_after s t = omega arith
 
 -- a header with the next number and the same length
-pub number-next : (h h' : ℕ) → h < 4294967296 → h' ≡ (h + turn) % 4294967296 → (h' / turn ≡ after (h / turn) 1) × (h' % turn ≡ h % turn) × (h' < 4294967296)
-number-next h h' s e = (omega arith, omega arith, omega arith)
+pub number_next : (h h' : ℕ) → h < 4294967296 → h' ≡ (h + turn) % 4294967296 → (h' / turn ≡ after (h / turn) 1) × (h' % turn ≡ h % turn) × (h' < 4294967296)
+number_next h h' s e = (omega arith, omega arith, omega arith)
 
 -- ---- one turn of a leg: n is the number of the next entry, and its header stands at place i
 
 module _ (b : List ℕ) (at seq p i d n prev : ℕ) (x : Past b at seq p d i n prev (i - at)) where
-  pub past-wrong : (k pl : ℕ) → d < k → n < turn → (pl + n * turn) % 18446744073709551616 ≡ get_or b i 0 → 64 < pl → pl < 18446744073709551616 → (j : ℕ) → numbered (k + j) b at seq ≡ false
+  pub past_wrong : (k pl : ℕ) → d < k → n < turn → (pl + n * turn) % 18446744073709551616 ≡ get_or b i 0 → 64 < pl → pl < 18446744073709551616 → (j : ℕ) → numbered (k + j) b at seq ≡ false
   unfolding numbered
-  past-wrong k pl some small less s t j =
+  past_wrong k pl some small less s t j =
       let e : k + j ≡ d + suc (k - d - 1 + j) = omega arith in
-      rw (e, x.numbers (suc (k - d - 1 + j)), header-wrong b i n pl small less s t)
+      rw (e, x.numbers (suc (k - d - 1 + j)), header_wrong b i n pl small less s t)
 
-  pub past-turn : (pl i' n' p' : ℕ) → get_or b i 0 ≡ n * turn + pl → pl ≤ 64 → i' ≡ i + (1 + pl) → n' ≡ after n 1 → p' ≡ i → at ≤ i
+  pub past_turn : (pl i' n' p' : ℕ) → get_or b i 0 ≡ n * turn + pl → pl ≤ 64 → i' ≡ i + (1 + pl) → n' ≡ after n 1 → p' ≡ i → at ≤ i
       → Past b at seq p (d + 1) (slot_of (length b) at (i' - at)) n' p' (i' - at)
-  past-turn pl i' n' p' header short to number newest o =
+  past_turn pl i' n' p' header short to number newest o =
       let l : length_at b i ≡ pl = omega arith in
       let same : get_or b i 0 ≡ n * turn + length_at b i = omega arith in
-      let y = past-join b at seq p d i n prev (i - at) 1 (next_at b i) (after n 1) i (entrySize b i) x (past-entry b i n prev (omega arith) same) in
+      let y = past_join b at seq p d i n prev (i - at) 1 (next_at b i) (after n 1) i (entry_size b i) x (past_entry b i n prev (omega arith) same) in
       let f : i - at + (1 + pl) ≡ i + (1 + pl) - at = omega arith in
-      rw (to, slot-from (length b) at i (1 + pl) o, number, newest) (rw (l, f) at y)
+      rw (to, slot_from (length b) at i (1 + pl) o, number, newest) (rw (l, f) at y)
 
 -- ---- what a leg hands back
 
 module _ (b : List ℕ) (i n k : ℕ) where
-  pub ran-lost : (r : Leg) → r.lost ≡ true → ((j : ℕ) → numbered (k + j) b i n ≡ false) → (p : ℕ) → Ran b i n p k r
-  ran-lost r e h p = record { stops = λ _. h; goes = λ f. no-yes e f }
+  pub ran_lost : (r : Leg) → r.lost ≡ true → ((j : ℕ) → numbered (k + j) b i n ≡ false) → (p : ℕ) → Ran b i n p k r
+  ran_lost r e h p = record { stops = λ _. h; goes = λ f. no_yes e f }
 
   pub ran_on : (q passed seq prev words : ℕ) → 0 < passed → passed ≤ k → Past b i n q passed (slot_of (length b) i words) seq prev words
       → (p : ℕ) → Ran b i n p k (record { lost = false; seq = seq; prev = prev; words = words; passed = passed })
-  ran_on q passed seq prev words some few x p = record { stops = λ e. no-yes e refl; goes = λ _. (some, few, past-any _ _ _ _ _ _ _ _ _ _ some x) }
+  ran_on q passed seq prev words some few x p = record { stops = λ e. no_yes e refl; goes = λ _. (some, few, past_any _ _ _ _ _ _ _ _ _ _ some x) }
 
   -- of k entries it was asked for m
-  pub ran-more : (p m : ℕ) (r : Leg) → m ≤ k → Ran b i n p m r → Ran b i n p k r
-  ran-more p m r l x =
+  pub ran_more : (p m : ℕ) (r : Leg) → m ≤ k → Ran b i n p m r → Ran b i n p k r
+  ran_more p m r l x =
       record {
         stops = λ e j. (let f : k + j ≡ m + (k - m + j) = omega arith in rw f (x.stops e (k - m + j)));
         goes = λ e. (let g = x.goes e in (g.0, omega (arith, g.1), g.2));
@@ -191,76 +191,76 @@ module _ (b : List ℕ) (i n k : ℕ) where
 -- ---- the walk: of k entries some are left, and of u words
 
 module _ (b : List ℕ) (i n p k left at seq prev u words : ℕ) (x : Past b i n p (k - left) at seq prev (u - words)) (few : left ≤ k) where
-  pub walk-stops : ((j : ℕ) → numbered (left + j) b at seq ≡ false) → (j : ℕ) → passes (k + j) b i n u ≡ false
-  walk-stops h j =
+  pub walk_stops : ((j : ℕ) → numbered (left + j) b at seq ≡ false) → (j : ℕ) → passes (k + j) b i n u ≡ false
+  walk_stops h j =
       let e : k + j ≡ k - left + (left + j) = omega arith in
-      rw e (numbered-fails (k - left + (left + j)) b i n u (x.numbers (left + j) ∙ h j))
+      rw e (numbered_fails (k - left + (left + j)) b i n u (x.numbers (left + j) ∙ h j))
 
   module _ (l : words ≤ u) (d at' seq' prev' w : ℕ) (y : (0 < d) × (d ≤ left) × Past b at seq prev d at' seq' prev' w) where
-    pub walk-short : words < w → (j : ℕ) → passes (k + j) b i n u ≡ false
-    walk-short o j =
-        let z = past-join b i n p (k - left) at seq prev (u - words) d at' seq' prev' w x y.2 in
+    pub walk_short : words < w → (j : ℕ) → passes (k + j) b i n u ≡ false
+    walk_short o j =
+        let z = past_join b i n p (k - left) at seq prev (u - words) d at' seq' prev' w x y.2 in
         let m : d ≤ left = y.1 in
         let e : k + j ≡ k - left + d + (left - d + j) = omega arith in
-        rw e (words-fail (k - left + d + (left - d + j)) b i n u (omega (arith, z.taken (left - d + j))))
+        rw e (words_fail (k - left + d + (left - d + j)) b i n u (omega (arith, z.taken (left - d + j))))
 
-    pub past-walk : w ≤ words → Past b i n p (k - (left - d)) at' seq' prev' (u - (words - w))
-    past-walk o =
+    pub past_walk : w ≤ words → Past b i n p (k - (left - d)) at' seq' prev' (u - (words - w))
+    past_walk o =
         let m : d ≤ left = y.1 in
         let e : k - left + d ≡ k - (left - d) = omega arith in
         let f : u - words + w ≡ u - (words - w) = omega arith in
-        rw (e, f) at (past-join b i n p (k - left) at seq prev (u - words) d at' seq' prev' w x y.2)
+        rw (e, f) at (past_join b i n p (k - left) at seq prev (u - words) d at' seq' prev' w x y.2)
 
 -- ---- what a walk hands back
 
 module _ (b : List ℕ) (w : Stop) (k : ℕ) (r : Stop) where
-  pub walked-lost : r.lost ≡ true → ((j : ℕ) → passes (k + j) b w.at w.seq w.words ≡ false) → Walked b w k r
-  walked-lost e h = record { stops = λ _. h; goes = λ f. no-yes e f }
+  pub walked_lost : r.lost ≡ true → ((j : ℕ) → passes (k + j) b w.at w.seq w.words ≡ false) → Walked b w k r
+  walked_lost e h = record { stops = λ _. h; goes = λ f. no_yes e f }
 
   pub walked_all : (left at seq prev words : ℕ) → left ≤ 0 → at < length b → words ≤ w.words → Past b w.at w.seq w.prev (k - left) at seq prev (w.words - words)
       → r ≡ record { lost = false; at = at; seq = seq; prev = prev; words = words } → Walked b w k r
   walked_all left at seq prev words z o l x e =
       let f : k - left ≡ k = omega arith in
-      rw e (record { stops = λ g. no-yes g refl; goes = λ _. (o, l, rw f at x) })
+      rw e (record { stops = λ g. no_yes g refl; goes = λ _. (o, l, rw f at x) })
 
 -- ---- from a mark on
 
-pub mark-here : (h : SendHistory) (b : List ℕ) (m : Mark) (k : ℕ) → Marks h b m → m.entry ≡ k → (m.at ≡ header_at k b h.head) × (m.at < length b)
-mark-here h b m k a e = (rw (← e) a.0, a.1)
+pub mark_here : (h : SendHistory) (b : List ℕ) (m : Mark) (k : ℕ) → Marks h b m → m.entry ≡ k → (m.at ≡ header_at k b h.head) × (m.at < length b)
+mark_here h b m k a e = (rw (← e) a.0, a.1)
 
-pub mark-oldest : (h : SendHistory) (b : List ℕ) → Good h b → Marks h b (oldestMark h)
+pub mark_oldest : (h : SendHistory) (b : List ℕ) → Good h b → Marks h b (oldest_mark h)
 unfolding header_at
-mark-oldest h b g = (refl, omega (arith, g.ring, g.inside))
+mark_oldest h b g = (refl, omega (arith, g.ring, g.inside))
 
-pub mark-nearest : (h : SendHistory) (b : List ℕ) (m : Mark) (k : ℕ) → Good h b → Marks h b m → (r : Mark) → r ≡ nearestMark h m k → Marks h b r × (r.entry ≤ k)
-mark-nearest h b m k g a r e =
+pub mark_nearest : (h : SendHistory) (b : List ℕ) (m : Mark) (k : ℕ) → Good h b → Marks h b m → (r : Mark) → r ≡ nearest_mark h m k → Marks h b r × (r.entry ≤ k)
+mark_nearest h b m k g a r e =
     ⊎_elim
-    (λ (t : ltb k m.entry ≡ true). let u : r ≡ oldestMark h = rw t at e in rw u (mark-oldest h b g, omega arith))
+    (λ (t : ltb k m.entry ≡ true). let u : r ≡ oldest_mark h = rw t at e in rw u (mark_oldest h b g, omega arith))
     (λ (t : ltb k m.entry ≡ false). let u : r ≡ m = rw t at e in rw u (a, ltb-false k m.entry t))
     (split (ltb k m.entry))
 
 -- a walk from a mark, in a state that was tested, is not lost
 module _ (h : SendHistory) (b : List ℕ) (m : Mark) (g : Good h b) (o : h.oldest < turn) (a : Marks h b m) where
   -- the entries from the mark on
-  passes-from : m.entry ≤ h.count → passes (h.count - m.entry) b m.at (after h.oldest m.entry) h.used ≡ true
-  passes-from l =
+  passes_from : m.entry ≤ h.count → passes (h.count - m.entry) b m.at (after h.oldest m.entry) h.used ≡ true
+  passes_from l =
       let e : m.entry + (h.count - m.entry) ≡ h.count = omega arith in
-      let n = rw (← a.0) at (numbered-add m.entry (h.count - m.entry) b h.head h.oldest o (rw e g.headers)) in
-      let w = rw (e, ← a.0) at (words-add m.entry (h.count - m.entry) b h.head) in
-      rw n (le-leb (wordsFrom (h.count - m.entry) b m.at) h.used (omega (arith, w, g.words)))
+      let n = rw (← a.0) at (numbered_add m.entry (h.count - m.entry) b h.head h.oldest o (rw e g.headers)) in
+      let w = rw (e, ← a.0) at (words_add m.entry (h.count - m.entry) b h.head) in
+      rw n (le-leb (words_from (h.count - m.entry) b m.at) h.used (omega (arith, w, g.words)))
 
-  pub walked-good : (k : ℕ) (r : Stop) → m.entry ≤ k → k ≤ h.count
+  pub walked_good : (k : ℕ) (r : Stop) → m.entry ≤ k → k ≤ h.count
       → Walked b (record { lost = false; at = m.at; seq = after h.oldest m.entry; prev = h.last; words = h.used }) (k - m.entry) r
       → (r.at ≡ header_at k b h.head) × (r.at < length b)
   unfolding header_at
-  walked-good k r l few w =
+  walked_good k r l few w =
       ⊎_elim
       (λ (e : r.lost ≡ true).
       let f : k - m.entry + (h.count - k) ≡ h.count - m.entry = omega arith in
-      no-yes (passes-from (omega arith)) (rw f at (w.stops e (h.count - k))))
+      no_yes (passes_from (omega arith)) (rw f at (w.stops e (h.count - k))))
       (λ (e : r.lost ≡ false).
       let f : k - m.entry + 0 ≡ k - m.entry = omega arith in
       let d : m.entry + (k - m.entry) ≡ k = omega arith in
       let p = w.goes e in
-      (sym (rw f at (p.2.place 0)) ∙ rw (← a.0) at (sym (rw d at (header-add m.entry (k - m.entry) b h.head))), p.0))
+      (sym (rw f at (p.2.place 0)) ∙ rw (← a.0) at (sym (rw d at (header_add m.entry (k - m.entry) b h.head))), p.0))
       (split r.lost)

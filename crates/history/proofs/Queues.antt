@@ -4,30 +4,30 @@ use borrow.Author.Tests.{lt-leb, not-true, not-false}
 use Rattle.config.specs.Range.{within, outside}
 use Rattle.config.specs.inner.Tests.{and_left, and_right}
 use Rattle.history.specs.Ring.{slot_of}
-use Rattle.history.specs.Queue.{blank, noneWait, queueOk, Fit, request, requests, waiting, asks, oldestOf, behind, popped, inFront, answered, pushAnswer, pop_of, setFrontOf}
+use Rattle.history.specs.Queue.{blank, none_wait, queue_ok, Fit, request, requests, waiting, asks, oldest_of, behind, popped, in_front, answered, push_answer, pop_of, set_front_of}
 use Rattle.command.specs.declared.retransmit.RetransmitRequest.{RetransmitRequest}
 use Rattle.history.specs.declared.queue.RetransmitQueue.{RetransmitQueue}
 use Rattle.history.specs.declared.queue.Ignored.TheVariants.{Pending, Full}
 use Rattle.history.specs.declared.queue.Push.TheVariants.{Queued, Ignored}
 use Rattle.history.specs.declared.queue.Oldest.{Oldest}
 use Rattle.history.specs.declared.queue.Oldest.TheVariants.{Request, Nothing}
-use Rattle.history.proofs.Slots.{slot-in, slot-zero, slot-add, slot_apart}
+use Rattle.history.proofs.Slots.{slot_in, slot_zero, slot_add, slot_apart}
 
 -- ---- the test
 
 module _ (q : RetransmitQueue) where
-  pub queue-size : outside 1 16 q.size ≡ true → false ≡ queueOk q
-  queue-size e = rw (not-true (within 1 16 q.size) e)
+  pub queue_size : outside 1 16 q.size ≡ true → false ≡ queue_ok q
+  queue_size e = rw (not_true (within 1 16 q.size) e)
 
   module _ (s : outside 1 16 q.size ≡ false) where
-    pub queue-head : q.size ≤ q.head → false ≡ queueOk q
-    queue-head p = rw (not-false (within 1 16 q.size) s, le-ltb _ _ p)
+    pub queue_head : q.size ≤ q.head → false ≡ queue_ok q
+    queue_head p = rw (not-false (within 1 16 q.size) s, le-ltb _ _ p)
 
-    pub queue-len : q.head < q.size → leb q.len q.size ≡ queueOk q
-    queue-len p = rw (not-false (within 1 16 q.size) s, lt-ltb _ _ p)
+    pub queue_len : q.head < q.size → leb q.len q.size ≡ queue_ok q
+    queue_len p = rw (not-false (within 1 16 q.size) s, lt-ltb _ _ p)
 
-  pub queue-fit : queueOk q ≡ true → Fit q
-  queue-fit e =
+  pub queue_fit : queue_ok q ≡ true → Fit q
+  queue_fit e =
       let s = and_left (within 1 16 q.size) _ e in
       let r = and_right (within 1 16 q.size) _ e in
       record {
@@ -37,8 +37,8 @@ module _ (q : RetransmitQueue) where
         held = leb-true _ _ (and_right (ltb q.head q.size) _ r);
       }
 
-  pub fit-queue : Fit q → queueOk q ≡ true
-  fit-queue f = rw (le-leb _ _ f.least, le-leb _ _ f.most, lt-ltb _ _ f.inside, le-leb _ _ f.held)
+  pub fit_queue : Fit q → queue_ok q ≡ true
+  fit_queue f = rw (le-leb _ _ f.least, le-leb _ _ f.most, lt-ltb _ _ f.inside, le-leb _ _ f.held)
 
 -- ---- a number that waits
 
@@ -50,13 +50,13 @@ module _ (q : RetransmitQueue) (n i at : ℕ) (r : RetransmitRequest) (place : a
   unfolding request
   same = here ∙ rw place
 
-  pub asks-found : r.seq ≡ n → asks (requests q (q.len - i) i) n ≡ true
+  pub asks_found : r.seq ≡ n → asks (requests q (q.len - i) i) n ≡ true
   unfolding asks requests
-  asks-found h = rw (one, ← same, eq-eqb _ _ h)
+  asks_found h = rw (one, ← same, eq_eqb _ _ h)
 
-  pub asks-passed : (r.seq ≡ n → ⊥) → asks (requests q (q.len - i) i) n ≡ asks (requests q (q.len - (i + 1)) (i + 1)) n
+  pub asks_passed : (r.seq ≡ n → ⊥) → asks (requests q (q.len - i) i) n ≡ asks (requests q (q.len - (i + 1)) (i + 1)) n
   unfolding asks requests
-  asks-passed h = rw (one, ← same, ne_eqb _ _ h)
+  asks_passed h = rw (one, ← same, ne_eqb _ _ h)
 
 pub asks_none : (q : RetransmitQueue) (n i : ℕ) → q.len ≤ i → asks (requests q (q.len - i) i) n ≡ false
 unfolding asks requests
@@ -65,118 +65,118 @@ asks_none q n i h = let e : q.len - i ≡ 0 = omega arith in rw e
 -- ---- the ways out
 
 module _ (q : RetransmitQueue) (r : RetransmitRequest) where
-  pub push-pending : asks (waiting q) r.seq ≡ true → answered q (Ignored Pending) ≡ pushAnswer q r
-  unfolding pushAnswer
-  push-pending e = rw e
+  pub push_pending : asks (waiting q) r.seq ≡ true → answered q (Ignored Pending) ≡ push_answer q r
+  unfolding push_answer
+  push_pending e = rw e
 
   module _ (e : asks (waiting q) r.seq ≡ false) where
-    pub push-full : q.size ≤ q.len → answered q (Ignored Full) ≡ pushAnswer q r
-    unfolding pushAnswer
-    push-full p = rw (e, le-leb _ _ p)
+    pub push_full : q.size ≤ q.len → answered q (Ignored Full) ≡ push_answer q r
+    unfolding push_answer
+    push_full p = rw (e, le-leb _ _ p)
 
-    pub push-queued : (at : ℕ) → q.len < q.size → at ≡ slot_of q.size q.head q.len
-        → answered (record { items = set q.items at r; head = q.head; len = q.len + 1; size = q.size }) Queued ≡ pushAnswer q r
-    unfolding pushAnswer
-    push-queued at p s = rw (e, lt-leb _ _ p, s)
+    pub push_queued : (at : ℕ) → q.len < q.size → at ≡ slot_of q.size q.head q.len
+        → answered (record { items = set q.items at r; head = q.head; len = q.len + 1; size = q.size }) Queued ≡ push_answer q r
+    unfolding push_answer
+    push_queued at p s = rw (e, lt-leb _ _ p, s)
 
-  pub set-none : q.len ≡ 0 → q ≡ setFrontOf q r
-  unfolding setFrontOf
-  set-none e = rw (eq-eqb _ _ e)
+  pub set_none : q.len ≡ 0 → q ≡ set_front_of q r
+  unfolding set_front_of
+  set_none e = rw (eq_eqb _ _ e)
 
-  pub set-some : (q.len ≡ 0 → ⊥) → inFront q r ≡ setFrontOf q r
-  unfolding setFrontOf
-  set-some e = rw (ne_eqb _ _ e)
+  pub set_some : (q.len ≡ 0 → ⊥) → in_front q r ≡ set_front_of q r
+  unfolding set_front_of
+  set_some e = rw (ne_eqb _ _ e)
 
 module _ (q : RetransmitQueue) where
-  pub oldest-none : q.len ≡ 0 → Nothing ≡ oldestOf (waiting q)
-  unfolding oldestOf requests
-  oldest-none e = rw e
+  pub oldest_none : q.len ≡ 0 → Nothing ≡ oldest_of (waiting q)
+  unfolding oldest_of requests
+  oldest_none e = rw e
 
-  pub oldest-some : (r : RetransmitRequest) → (q.len ≡ 0 → ⊥) → q.head < q.size → r ≡ get_or q.items q.head blank → Request r ≡ oldestOf (waiting q)
-  unfolding oldestOf requests request
-  oldest-some r e p f =
+  pub oldest_some : (r : RetransmitRequest) → (q.len ≡ 0 → ⊥) → q.head < q.size → r ≡ get_or q.items q.head blank → Request r ≡ oldest_of (waiting q)
+  unfolding oldest_of requests request
+  oldest_some r e p f =
       let s : q.len ≡ suc (q.len - 1) = omega arith in
-      rw (s, slot-zero q.size q.head p, f)
+      rw (s, slot_zero q.size q.head p, f)
 
-  pub pop-none : (o : Oldest) → o ≡ oldestOf (waiting q) → q.len ≡ 0 → record { queue = q; oldest = o } ≡ pop_of q
+  pub pop_none : (o : Oldest) → o ≡ oldest_of (waiting q) → q.len ≡ 0 → record { queue = q; oldest = o } ≡ pop_of q
   unfolding pop_of
-  pop-none o f e = rw (eq-eqb _ _ e, f)
+  pop_none o f e = rw (eq_eqb _ _ e, f)
 
-  pub pop-some : (o : Oldest) (at : ℕ) → o ≡ oldestOf (waiting q) → at ≡ slot_of q.size q.head 1 → (q.len ≡ 0 → ⊥)
+  pub pop_some : (o : Oldest) (at : ℕ) → o ≡ oldest_of (waiting q) → at ≡ slot_of q.size q.head 1 → (q.len ≡ 0 → ⊥)
       → record { queue = record { items = q.items; head = at; len = q.len - 1; size = q.size }; oldest = o } ≡ pop_of q
   unfolding pop_of
-  pop-some o at f s e = rw (ne_eqb _ _ e, f, s)
+  pop_some o at f s e = rw (ne_eqb _ _ e, f, s)
 
 -- ---- the requests that wait, after each operation
 
 -- requests whose places a store leaves alone
-requests-kept : (q : RetransmitQueue) (r : RetransmitRequest) (k i : ℕ) → Fit q → q.len < q.size → i + k ≤ q.len
+requests_kept : (q : RetransmitQueue) (r : RetransmitRequest) (k i : ℕ) → Fit q → q.len < q.size → i + k ≤ q.len
     → requests (behind q r) k i ≡ requests q k i
 unfolding requests request
-requests-kept q r zero i f l h = refl
-requests-kept q r (suc k) i f l h =
+requests_kept q r zero i f l h = refl
+requests_kept q r (suc k) i f l h =
     rw (
       get_or-set_other q.items (slot_of q.size q.head q.len) (slot_of q.size q.head i) r blank
           (slot_apart q.size q.head i q.len f.inside (omega arith) l),
-      requests-kept q r k (i + 1) f l (omega arith),
+      requests_kept q r k (i + 1) f l (omega arith),
     )
 
 -- the last of k + 1 requests
-requests-last : (q : RetransmitQueue) (k i : ℕ) → requests q (k + 1) i ≡ requests q k i ++ (request q (i + k) ∷ [])
+requests_last : (q : RetransmitQueue) (k i : ℕ) → requests q (k + 1) i ≡ requests q k i ++ (request q (i + k) ∷ [])
 unfolding requests
-requests-last q zero i = let e : i + 0 ≡ i = omega arith in rw e
-requests-last q (suc k) i =
+requests_last q zero i = let e : i + 0 ≡ i = omega arith in rw e
+requests_last q (suc k) i =
     let e : suc k + 1 ≡ suc (k + 1) = omega arith in
     let f : i + 1 + k ≡ i + suc k = omega arith in
-    rw (e, requests-last q k (i + 1), f)
+    rw (e, requests_last q k (i + 1), f)
 
-pub waiting-pushed : (q : RetransmitQueue) (r : RetransmitRequest) → Fit q → q.len < q.size → length q.items ≡ 16
+pub waiting_pushed : (q : RetransmitQueue) (r : RetransmitRequest) → Fit q → q.len < q.size → length q.items ≡ 16
     → waiting (behind q r) ≡ waiting q ++ (r ∷ [])
 unfolding request
-waiting-pushed q r f l n =
-    let s : slot_of q.size q.head q.len < length q.items = omega (arith, slot-in q.size q.head q.len f.inside f.held, f.most) in
+waiting_pushed q r f l n =
+    let s : slot_of q.size q.head q.len < length q.items = omega (arith, slot_in q.size q.head q.len f.inside f.held, f.most) in
     let z : 0 + q.len ≡ q.len = omega arith in
-    requests-last (behind q r) q.len 0
-    ∙ rw (requests-kept q r q.len 0 f l (omega arith), z, get_or-set_same q.items (slot_of q.size q.head q.len) r blank s)
+    requests_last (behind q r) q.len 0
+    ∙ rw (requests_kept q r q.len 0 f l (omega arith), z, get_or-set_same q.items (slot_of q.size q.head q.len) r blank s)
 
 -- from the next head on each request is one nearer
-requests-popped : (q : RetransmitQueue) (k i : ℕ) → Fit q → i + k < q.size → requests (popped q) k i ≡ requests q k (i + 1)
+requests_popped : (q : RetransmitQueue) (k i : ℕ) → Fit q → i + k < q.size → requests (popped q) k i ≡ requests q k (i + 1)
 unfolding requests request
-requests-popped q zero i f h = refl
-requests-popped q (suc k) i f h =
+requests_popped q zero i f h = refl
+requests_popped q (suc k) i f h =
     let e : 1 + i ≡ i + 1 = omega arith in
-    rw (slot-add q.size q.head 1 i f.inside (omega arith), e, requests-popped q k (i + 1) f (omega arith))
+    rw (slot_add q.size q.head 1 i f.inside (omega arith), e, requests_popped q k (i + 1) f (omega arith))
 
 -- the oldest is gone, the others wait as before
-pub waiting-popped : (q : RetransmitQueue) → Fit q → 0 < q.len → waiting q ≡ request q 0 ∷ waiting (popped q)
+pub waiting_popped : (q : RetransmitQueue) → Fit q → 0 < q.len → waiting q ≡ request q 0 ∷ waiting (popped q)
 unfolding requests
-waiting-popped q f p =
+waiting_popped q f p =
     let s : q.len ≡ suc (q.len - 1) = omega arith in
     ap (λ (k : ℕ). requests q k 0) s
-    ∙ ap (λ (l : List RetransmitRequest). request q 0 ∷ l) (sym (requests-popped q (q.len - 1) 0 f (omega (arith, f.held))))
+    ∙ ap (λ (l : List RetransmitRequest). request q 0 ∷ l) (sym (requests_popped q (q.len - 1) 0 f (omega (arith, f.held))))
 
-requests-fronted : (q : RetransmitQueue) (r : RetransmitRequest) (k i : ℕ) → Fit q → 0 < i → i + k ≤ q.size → requests (inFront q r) k i ≡ requests q k i
+requests_fronted : (q : RetransmitQueue) (r : RetransmitRequest) (k i : ℕ) → Fit q → 0 < i → i + k ≤ q.size → requests (in_front q r) k i ≡ requests q k i
 unfolding requests request
-requests-fronted q r zero i f p h = refl
-requests-fronted q r (suc k) i f p h =
+requests_fronted q r zero i f p h = refl
+requests_fronted q r (suc k) i f p h =
     rw (
       get_or-set_other q.items q.head (slot_of q.size q.head i) r blank
-          (λ e. slot_apart q.size q.head 0 i f.inside p (omega arith) (slot-zero q.size q.head f.inside ∙ sym e)),
-      requests-fronted q r k (i + 1) f (omega arith) (omega arith),
+          (λ e. slot_apart q.size q.head 0 i f.inside p (omega arith) (slot_zero q.size q.head f.inside ∙ sym e)),
+      requests_fronted q r k (i + 1) f (omega arith) (omega arith),
     )
 
 -- the oldest is replaced
-pub waiting-fronted : (q : RetransmitQueue) (r : RetransmitRequest) → Fit q → 0 < q.len → length q.items ≡ 16
-    → waiting (inFront q r) ≡ r ∷ waiting (popped q)
+pub waiting_fronted : (q : RetransmitQueue) (r : RetransmitRequest) → Fit q → 0 < q.len → length q.items ≡ 16
+    → waiting (in_front q r) ≡ r ∷ waiting (popped q)
 unfolding requests request
-waiting-fronted q r f p n =
+waiting_fronted q r f p n =
     let s : q.len ≡ suc (q.len - 1) = omega arith in
     let l : q.head < length q.items = omega (arith, f.inside, f.most) in
-    let e : get_or (set q.items q.head r) (slot_of q.size q.head 0) blank ≡ r = rw (slot-zero q.size q.head f.inside) (get_or-set_same q.items q.head r blank l) in
-    ap (λ (k : ℕ). requests (inFront q r) k 0) s
-    ∙ ap (λ (x : RetransmitRequest). x ∷ requests (inFront q r) (q.len - 1) 1) e
-    ∙ ap (λ (x : List RetransmitRequest). r ∷ x) (requests-fronted q r (q.len - 1) 1 f (omega arith) (omega (arith, f.held)) ∙ sym (requests-popped q (q.len - 1) 0 f (omega (arith, f.held))))
+    let e : get_or (set q.items q.head r) (slot_of q.size q.head 0) blank ≡ r = rw (slot_zero q.size q.head f.inside) (get_or-set_same q.items q.head r blank l) in
+    ap (λ (k : ℕ). requests (in_front q r) k 0) s
+    ∙ ap (λ (x : RetransmitRequest). x ∷ requests (in_front q r) (q.len - 1) 1) e
+    ∙ ap (λ (x : List RetransmitRequest). r ∷ x) (requests_fronted q r (q.len - 1) 1 f (omega arith) (omega (arith, f.held)) ∙ sym (requests_popped q (q.len - 1) 0 f (omega (arith, f.held))))
 
-pub waiting_none : (size : ℕ) → waiting (noneWait size) ≡ []
+pub waiting_none : (size : ℕ) → waiting (none_wait size) ≡ []
 unfolding requests
 waiting_none size = refl

@@ -3,43 +3,43 @@ use Rattle.std.proofs.Common.{◌≡◌, ℕ, ◌+◌, ◌-◌, ◌<◌, ◌≤�
 use Rattle.config.specs.inner.Tests.{split}
 use Rattle.history.specs.Ring.{slot_of}
 
-pub slot-below : (c i n : ℕ) → i + n < c → i + n ≡ slot_of c i n
+pub slot_below : (c i n : ℕ) → i + n < c → i + n ≡ slot_of c i n
 unfolding slot_of
-slot-below c i n h = simp (lt-ltb (i + n) c h)
+slot_below c i n h = simp (lt-ltb (i + n) c h)
 
-pub slot-round : (c i n : ℕ) → c ≤ i + n → i + n - c ≡ slot_of c i n
+pub slot_round : (c i n : ℕ) → c ≤ i + n → i + n - c ≡ slot_of c i n
 unfolding slot_of
-slot-round c i n h = simp (le-ltb (i + n) c h)
+slot_round c i n h = simp (le-ltb (i + n) c h)
 
 -- one number is below another, or not
-pub lt-or-ge : (a b : ℕ) → (a < b) ⊎ (b ≤ a)
-lt-or-ge a b = ⊎_elim (λ (e : ltb a b ≡ true). inl (ltb-true a b e)) (λ (e : ltb a b ≡ false). inr (ltb-false a b e)) (split (ltb a b))
+pub lt_or_ge : (a b : ℕ) → (a < b) ⊎ (b ≤ a)
+lt_or_ge a b = ⊎_elim (λ (e : ltb a b ≡ true). inl (ltb-true a b e)) (λ (e : ltb a b ≡ false). inr (ltb-false a b e)) (split (ltb a b))
 
 -- the number that a place is, by the side of the end that it lies on
 pub slot_is : (c i n : ℕ) → ((i + n < c) × (slot_of c i n ≡ i + n)) ⊎ ((c ≤ i + n) × (slot_of c i n ≡ i + n - c))
 slot_is c i n =
     ⊎_elim
-    (λ (p : i + n < c). inl (p, sym (slot-below c i n p)))
-    (λ (p : c ≤ i + n). inr (p, sym (slot-round c i n p)))
-    (lt-or-ge (i + n) c)
+    (λ (p : i + n < c). inl (p, sym (slot_below c i n p)))
+    (λ (p : c ≤ i + n). inr (p, sym (slot_round c i n p)))
+    (lt_or_ge (i + n) c)
 
-pub slot-in : (c i n : ℕ) → i < c → n ≤ c → slot_of c i n < c
-slot-in c i n p q = ⊎_elim (λ r. omega arith) (λ r. omega arith) (slot_is c i n)
+pub slot_in : (c i n : ℕ) → i < c → n ≤ c → slot_of c i n < c
+slot_in c i n p q = ⊎_elim (λ r. omega arith) (λ r. omega arith) (slot_is c i n)
 
-pub slot-zero : (c i : ℕ) → i < c → slot_of c i 0 ≡ i
-slot-zero c i p = ⊎_elim (λ r. omega arith) (λ r. omega arith) (slot_is c i 0)
+pub slot_zero : (c i : ℕ) → i < c → slot_of c i 0 ≡ i
+slot_zero c i p = ⊎_elim (λ r. omega arith) (λ r. omega arith) (slot_is c i 0)
 
 -- a place j after i, by the words between them
-pub slot-from : (c i j n : ℕ) → i ≤ j → slot_of c i (j + n - i) ≡ slot_of c j n
+pub slot_from : (c i j n : ℕ) → i ≤ j → slot_of c i (j + n - i) ≡ slot_of c j n
 unfolding slot_of
-slot-from c i j n l = let e : i + (j + n - i) ≡ j + n = omega arith in rw e
+slot_from c i j n l = let e : i + (j + n - i) ≡ j + n = omega arith in rw e
 
-pub slot-to : (c i j : ℕ) → i ≤ j → j < c → slot_of c i (j - i) ≡ j
-slot-to c i j p q = ⊎_elim (λ r. omega arith) (λ r. omega arith) (slot_is c i (j - i))
+pub slot_to : (c i j : ℕ) → i ≤ j → j < c → slot_of c i (j - i) ≡ j
+slot_to c i j p q = ⊎_elim (λ r. omega arith) (λ r. omega arith) (slot_is c i (j - i))
 
 -- places add up
-pub slot-add : (c i m n : ℕ) → i < c → m + n ≤ c → slot_of c (slot_of c i m) n ≡ slot_of c i (m + n)
-slot-add c i m n p q =
+pub slot_add : (c i m n : ℕ) → i < c → m + n ≤ c → slot_of c (slot_of c i m) n ≡ slot_of c i (m + n)
+slot_add c i m n p q =
     ⊎_elim
     (λ r. ⊎_elim (λ s. ⊎_elim (λ t. omega arith) (λ t. omega arith) whole) (λ s. ⊎_elim (λ t. omega arith) (λ t. omega arith) whole) again)
     (λ r. ⊎_elim (λ s. ⊎_elim (λ t. omega arith) (λ t. omega arith) whole) (λ s. ⊎_elim (λ t. omega arith) (λ t. omega arith) whole) again)

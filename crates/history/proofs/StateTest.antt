@@ -5,17 +5,17 @@ use borrow.Author.Tests.{lt-leb, not-true, not-false}
 use lib.Dec.{eqb-suc-zero}
 use Rattle.config.specs.Range.{within, outside}
 use Rattle.config.specs.inner.Tests.{split, tests}
-use Rattle.history.specs.Headers.{next_at, header_at, wordsFrom, numbered}
-use Rattle.history.specs.inner.Walk.{newestFrom, passes, Past, Walked}
-use Rattle.history.specs.State.{newestAt, unsentTake, walkOk, stateOk, backOf, Marks, Answers}
+use Rattle.history.specs.Headers.{next_at, header_at, words_from, numbered}
+use Rattle.history.specs.inner.Walk.{newest_from, passes, Past, Walked}
+use Rattle.history.specs.State.{newest_at, unsent_take, walk_ok, state_ok, back_of, Marks, Answers}
 use Rattle.history.specs.declared.history.SendHistory.{SendHistory}
 use Rattle.history.specs.declared.history.Tested.{Tested}
 use Rattle.history.specs.declared.headers.Stop.{Stop}
-use Rattle.history.proofs.Past.{no-yes, past-none, past-on, past-fails}
+use Rattle.history.proofs.Past.{no_yes, past_none, past_on, past_fails}
 
 -- what a test passed may be used in the next
-and-under : (w u : ℕ) (l d f : Bool) → (w ≡ u → d ≡ f) → (eqb w u && (l && d)) ≡ (eqb w u && (l && f))
-and-under w u l d f h =
+and_under : (w u : ℕ) (l d f : Bool) → (w ≡ u → d ≡ f) → (eqb w u && (l && d)) ≡ (eqb w u && (l && f))
+and_under w u l d f h =
     ⊎_elim
     (λ (e : eqb w u ≡ true). rw (h (eqb-true w u e)))
     (λ (e : eqb w u ≡ false). rw e)
@@ -24,70 +24,70 @@ and-under w u l d f h =
 -- ---- the walk
 
 -- the newest header is the one that the walk came by last
-newest-is : (k : ℕ) (b : List ℕ) (i p : ℕ) → newestFrom (suc k) b i p ≡ header_at k b i
-unfolding newestFrom header_at
-newest-is zero b i p = refl
-newest-is (suc k) b i p = newest-is k b (next_at b i) i
+newest_is : (k : ℕ) (b : List ℕ) (i p : ℕ) → newest_from (suc k) b i p ≡ header_at k b i
+unfolding newest_from header_at
+newest_is zero b i p = refl
+newest_is (suc k) b i p = newest_is k b (next_at b i) i
 
-newest-at : (last k : ℕ) (b : List ℕ) (i : ℕ) → eqb (newestFrom k b i last) last ≡ newestAt last b k i
-unfolding newestFrom
-newest-at last zero b i = eq-eqb last last refl
-newest-at last (suc k) b i =
+newest_at_lem : (last k : ℕ) (b : List ℕ) (i : ℕ) → eqb (newest_from k b i last) last ≡ newest_at last b k i
+unfolding newest_from
+newest_at_lem last zero b i = eq_eqb last last refl
+newest_at_lem last (suc k) b i =
     let e : suc k - 1 ≡ k = omega arith in
-    rw (newest-is k b i last, eqb-suc-zero k, e)
+    rw (newest_is k b i last, eqb_suc_zero k, e)
 
 module _ (b : List ℕ) (last unsent words k i n u : ℕ) where
-  pub walk-fails : passes k b i n u ≡ false → walkOk b last unsent words k i n u ≡ false
-  unfolding walkOk
-  walk-fails h =
+  pub walk_fails : passes k b i n u ≡ false → walk_ok b last unsent words k i n u ≡ false
+  unfolding walk_ok
+  walk_fails h =
       ⊎_elim
       (λ (e : numbered k b i n ≡ true).
-      let f : leb (wordsFrom k b i) u ≡ false = rw e at h in
-      rw (e, ne_eqb (wordsFrom k b i) u (λ g. omega (arith, tests))))
+      let f : leb (words_from k b i) u ≡ false = rw e at h in
+      rw (e, ne_eqb (words_from k b i) u (λ g. omega (arith, tests))))
       (λ (e : numbered k b i n ≡ false). rw e)
       (split (numbered k b i n))
 
-  pub walk-lost : (d at seq prev w e : ℕ) → Past b i n last d at seq prev (u - w) → w ≤ u → d + e ≤ k → ((j : ℕ) → passes (e + j) b at seq w ≡ false) → false ≡ walkOk b last unsent words k i n u
-  walk-lost d at seq prev w e x l m h =
+  pub walk_lost : (d at seq prev w e : ℕ) → Past b i n last d at seq prev (u - w) → w ≤ u → d + e ≤ k → ((j : ℕ) → passes (e + j) b at seq w ≡ false) → false ≡ walk_ok b last unsent words k i n u
+  walk_lost d at seq prev w e x l m h =
       let f : d + (e + (k - (d + e))) ≡ k = omega arith in
-      sym (walk-fails (past-fails b i n last d at seq prev u w (e + (k - (d + e))) k x l f (h (k - (d + e)))))
+      sym (walk_fails (past_fails b i n last d at seq prev u w (e + (k - (d + e))) k x l f (h (k - (d + e)))))
 
   -- behind the written entries w words are left
   module _ (at seq prev w : ℕ) (x : Past b i n last (k - unsent) at seq prev (u - w)) (few : unsent ≤ k) (l : w ≤ u) where
-    all_words : wordsFrom k b i ≡ u - w + wordsFrom unsent b at
+    all_words : words_from k b i ≡ u - w + words_from unsent b at
     all_words = let e : k - unsent + unsent ≡ k = omega arith in rw e at (x.taken unsent)
 
-    unsent-words : unsentTake unsent words b k i ≡ eqb (wordsFrom unsent b at) words
+    unsent_words_lem : unsent_take unsent words b k i ≡ eqb (words_from unsent b at) words
     unfolding header_at
-    unsent-words =
+    unsent_words_lem =
         let e : k - unsent + 0 ≡ k - unsent = omega arith in
         let f : header_at (k - unsent) b i ≡ at = rw e at (x.place 0) in
         rw (le-ltb k unsent few, f)
 
-    pub walk-unsent : (w ≡ words → ⊥) → walkOk b last unsent words k i n u ≡ false
-    unfolding walkOk
-    walk-unsent h =
+    pub walk_unsent : (w ≡ words → ⊥) → walk_ok b last unsent words k i n u ≡ false
+    unfolding walk_ok
+    walk_unsent h =
         rw
-        (unsent-words, and-under (wordsFrom k b i) u (newestAt last b k i) (eqb (wordsFrom unsent b at) words) false (λ e. ne_eqb (wordsFrom unsent b at) words (λ f. h (omega (arith, all_words)))), and-false, and-false, and-false)
+        (unsent_words_lem, and_under (words_from k b i) u (newest_at last b k i) (eqb (words_from unsent b at) words) false (λ e. ne_eqb (words_from unsent b at) words (λ f. h (omega (arith, all_words)))), and_false, and_false, and_false)
 
     module _ (at' seq' prev' w' : ℕ) (y : Past b i n last k at' seq' prev' (u - w')) (l' : w' ≤ u) where
-      none_left : wordsFrom k b i ≡ u - w'
-      unfolding wordsFrom
+      none_left : words_from k b i ≡ u - w'
+      unfolding words_from
       none_left = let e : k + 0 ≡ k = omega arith in omega (arith, rw e at (y.taken 0))
 
-      pub walk-left : (w' ≡ 0 → ⊥) → walkOk b last unsent words k i n u ≡ false
-      unfolding walkOk
-      walk-left h = rw (ne_eqb (wordsFrom k b i) u (λ e. h (omega (arith, none_left))), and-false)
+      pub walk_left : (w' ≡ 0 → ⊥) → walk_ok b last unsent words k i n u ≡ false
+      unfolding walk_ok
+      walk_left h = rw (ne_eqb (words_from k b i) u (λ e. h (omega (arith, none_left))), and_false)
 
-      pub walk-all : w ≡ words → w' ≡ 0 → walkOk b last unsent words k i n u ≡ eqb prev' last
-      unfolding walkOk numbered newestFrom
-      walk-all s z =
+      pub walk_all : w ≡ words → w' ≡ 0 → walk_ok b last unsent words k i n u ≡ eqb prev' last
+      unfolding walk_ok numbered newest_from
+      walk_all s z =
           let e : k + 0 ≡ k = omega arith in
           let f : numbered k b i n ≡ true = rw e at (y.numbers 0) in
-          let g : newestFrom k b i last ≡ prev' = rw e at (y.newest 0) in
-          let q : wordsFrom k b i ≡ u = omega (arith, none_left) in
-          let t : wordsFrom unsent b at ≡ words = omega (arith, all_words) in
-          rw (unsent-words, eq-eqb (wordsFrom unsent b at) words t, f, eq-eqb (wordsFrom k b i) u q, and-true, ← newest-at last k b i, g)
+          let g : newest_from k b i last ≡ prev' = rw e at (y.newest 0) in
+          let q : words_from k b i ≡ u = omega (arith, none_left) in
+          let t : words_from unsent b at ≡ words = omega (arith, all_words) in
+          rw (unsent_words_lem, eq_eqb (words_from unsent b at) words t, f, eq_eqb (words_from k b i) u q, and_true, ← newest_at_lem last k b i, g)
 
 -- ---- the state
 
@@ -95,38 +95,38 @@ size_in : (n : ℕ) → outside 65 32768 n ≡ false → within 65 32768 n ≡ t
 size_in n s = not-false (within 65 32768 n) s
 
 module _ (h : SendHistory) (b : List ℕ) (unsent words : ℕ) where
-  pub test-size : outside 65 32768 h.size ≡ true → false ≡ stateOk h b unsent words
-  unfolding stateOk
-  test-size e = rw (not-true (within 65 32768 h.size) e)
+  pub test_size : outside 65 32768 h.size ≡ true → false ≡ state_ok h b unsent words
+  unfolding state_ok
+  test_size e = rw (not_true (within 65 32768 h.size) e)
 
   module _ (s : outside 65 32768 h.size ≡ false) where
-    pub test-length : (length b ≡ h.size → ⊥) → false ≡ stateOk h b unsent words
-    unfolding stateOk
-    test-length p = rw (size_in h.size s, ne_eqb _ _ p)
+    pub test_length : (length b ≡ h.size → ⊥) → false ≡ state_ok h b unsent words
+    unfolding state_ok
+    test_length p = rw (size_in h.size s, ne_eqb _ _ p)
 
     module _ (l : length b ≡ h.size) where
-      pub test-head : h.size ≤ h.head → false ≡ stateOk h b unsent words
-      unfolding stateOk
-      test-head p = rw (size_in h.size s, eq-eqb _ _ l, le-ltb _ _ p)
+      pub test_head : h.size ≤ h.head → false ≡ state_ok h b unsent words
+      unfolding state_ok
+      test_head p = rw (size_in h.size s, eq_eqb _ _ l, le-ltb _ _ p)
 
       module _ (i : h.head < h.size) where
-        pub test-used : h.size < h.used → false ≡ stateOk h b unsent words
-        unfolding stateOk
-        test-used p = rw (size_in h.size s, eq-eqb _ _ l, lt-ltb _ _ i, lt-leb _ _ p)
+        pub test_used : h.size < h.used → false ≡ state_ok h b unsent words
+        unfolding state_ok
+        test_used p = rw (size_in h.size s, eq_eqb _ _ l, lt-ltb _ _ i, lt-leb _ _ p)
 
         module _ (r : h.used ≤ h.size) where
-          pub test-unsent : h.count < unsent → false ≡ stateOk h b unsent words
-          unfolding stateOk
-          test-unsent p = rw (size_in h.size s, eq-eqb _ _ l, lt-ltb _ _ i, le-leb _ _ r, lt-leb _ _ p)
+          pub test_unsent : h.count < unsent → false ≡ state_ok h b unsent words
+          unfolding state_ok
+          test_unsent p = rw (size_in h.size s, eq_eqb _ _ l, lt-ltb _ _ i, le-leb _ _ r, lt-leb _ _ p)
 
-          pub test-walk : (t : Bool) → t ≡ walkOk b h.last unsent words h.count h.head h.oldest h.used → unsent ≤ h.count → t ≡ stateOk h b unsent words
-          unfolding stateOk
-          test-walk t e p = rw (size_in h.size s, eq-eqb _ _ l, lt-ltb _ _ i, le-leb _ _ r, le-leb _ _ p, e)
+          pub test_walk : (t : Bool) → t ≡ walk_ok b h.last unsent words h.count h.head h.oldest h.used → unsent ≤ h.count → t ≡ state_ok h b unsent words
+          unfolding state_ok
+          test_walk t e p = rw (size_in h.size s, eq_eqb _ _ l, lt-ltb _ _ i, le-leb _ _ r, le-leb _ _ p, e)
 
 -- ---- the answer
 
-pub answers-no : (t : Bool) (h : SendHistory) (b : List ℕ) (unsent back : ℕ) (r : Tested) → r.ok ≡ false → false ≡ t → Answers t h b unsent back r
-answers-no t h b unsent back r e f = record { answer = e ∙ f; entry = λ g. no-yes g e; place = λ g. no-yes g e }
+pub answers_no : (t : Bool) (h : SendHistory) (b : List ℕ) (unsent back : ℕ) (r : Tested) → r.ok ≡ false → false ≡ t → Answers t h b unsent back r
+answers_no t h b unsent back r e f = record { answer = e ∙ f; entry = λ g. no_yes g e; place = λ g. no_yes g e }
 
 -- ---- the walk in three parts: up to the last `again` written entries, these, and the unwritten ones
 
@@ -135,26 +135,26 @@ start_of h = record { lost = false; at = h.head; seq = h.oldest; prev = h.last; 
 
 module _ (h : SendHistory) (b : List ℕ) (unsent words back : ℕ) (few : unsent ≤ h.count) (again : ℕ) (a : again ≡ min back (h.count - unsent)) (f : Stop) (x : Walked b (start_of h) (h.count - unsent - again) f) where
   abbrev answer : Bool
-  answer = walkOk b h.last unsent words h.count h.head h.oldest h.used
+  answer = walk_ok b h.last unsent words h.count h.head h.oldest h.used
 
-  pub first-lost : f.lost ≡ true → false ≡ answer
-  first-lost e =
+  pub first_lost : f.lost ≡ true → false ≡ answer
+  first_lost e =
       let z : h.used - h.used ≡ 0 = omega arith in
-      walk-lost b h.last unsent words h.count h.head h.oldest h.used 0 h.head h.oldest h.last h.used (h.count - unsent - again) (rw z (past-none b h.head h.oldest h.last)) (omega arith) (omega arith) (x.stops e)
+      walk_lost b h.last unsent words h.count h.head h.oldest h.used 0 h.head h.oldest h.last h.used (h.count - unsent - again) (rw z (past_none b h.head h.oldest h.last)) (omega arith) (omega arith) (x.stops e)
 
   module _ (p : f.lost ≡ false) where
-    pub back-place : Marks h b record { entry = h.count - unsent - again; at = f.at }
+    pub back_place : Marks h b record { entry = h.count - unsent - again; at = f.at }
     unfolding header_at
-    back-place =
+    back_place =
         let g = x.goes p in
         let e : h.count - unsent - again + 0 ≡ h.count - unsent - again = omega arith in
         (sym (rw e at (g.2.place 0)), g.0)
 
     module _ (s : Stop) (y : Walked b f again s) where
-      pub second-lost : s.lost ≡ true → false ≡ answer
-      second-lost e =
+      pub second_lost : s.lost ≡ true → false ≡ answer
+      second_lost e =
           let g = x.goes p in
-          walk-lost b h.last unsent words h.count h.head h.oldest h.used _ _ _ _ _ again g.2 g.1 (omega arith) (y.stops e)
+          walk_lost b h.last unsent words h.count h.head h.oldest h.used _ _ _ _ _ again g.2 g.1 (omega arith) (y.stops e)
 
       module _ (q : s.lost ≡ false) where
         both : (s.words ≤ h.used) × Past b h.head h.oldest h.last (h.count - unsent) s.at s.seq s.prev (h.used - s.words)
@@ -164,14 +164,14 @@ module _ (h : SendHistory) (b : List ℕ) (unsent words back : ℕ) (few : unsen
             let gw : f.words ≤ h.used = g.1 in
             let kw : s.words ≤ f.words = k.1 in
             let e : h.count - unsent - again + again ≡ h.count - unsent = omega arith in
-            (omega arith, rw e at (past-on b h.head h.oldest h.last (h.count - unsent - again) f.at f.seq f.prev h.used f.words again s.at s.seq s.prev s.words g.2 gw k.2 kw))
+            (omega arith, rw e at (past_on b h.head h.oldest h.last (h.count - unsent - again) f.at f.seq f.prev h.used f.words again s.at s.seq s.prev s.words g.2 gw k.2 kw))
 
-        pub unsent-off : (s.words ≡ words → ⊥) → false ≡ answer
-        unsent-off o = sym (walk-unsent b h.last unsent words h.count h.head h.oldest h.used _ _ _ s.words both.1 few both.0 o)
+        pub unsent_off : (s.words ≡ words → ⊥) → false ≡ answer
+        unsent_off o = sym (walk_unsent b h.last unsent words h.count h.head h.oldest h.used _ _ _ s.words both.1 few both.0 o)
 
         module _ (t : Stop) (z : Walked b s unsent t) where
-          pub last-lost : t.lost ≡ true → false ≡ answer
-          last-lost e = walk-lost b h.last unsent words h.count h.head h.oldest h.used _ _ _ _ _ unsent both.1 both.0 (omega arith) (z.stops e)
+          pub last_lost : t.lost ≡ true → false ≡ answer
+          last_lost e = walk_lost b h.last unsent words h.count h.head h.oldest h.used _ _ _ _ _ unsent both.1 both.0 (omega arith) (z.stops e)
 
           module _ (r : t.lost ≡ false) where
             whole : (t.words ≤ h.used) × Past b h.head h.oldest h.last h.count t.at t.seq t.prev (h.used - t.words)
@@ -180,10 +180,10 @@ module _ (h : SendHistory) (b : List ℕ) (unsent words back : ℕ) (few : unsen
                 let bw : s.words ≤ h.used = both.0 in
                 let kw : t.words ≤ s.words = k.1 in
                 let e : h.count - unsent + unsent ≡ h.count = omega arith in
-                (omega arith, rw e at (past-on b h.head h.oldest h.last (h.count - unsent) s.at s.seq s.prev h.used s.words unsent t.at t.seq t.prev t.words both.1 bw k.2 kw))
+                (omega arith, rw e at (past_on b h.head h.oldest h.last (h.count - unsent) s.at s.seq s.prev h.used s.words unsent t.at t.seq t.prev t.words both.1 bw k.2 kw))
 
             pub words_left : (t.words ≡ 0 → ⊥) → false ≡ answer
-            words_left o = sym (walk-left b h.last unsent words h.count h.head h.oldest h.used _ _ _ s.words both.1 few both.0 _ _ _ t.words whole.1 whole.0 o)
+            words_left o = sym (walk_left b h.last unsent words h.count h.head h.oldest h.used _ _ _ s.words both.1 few both.0 _ _ _ t.words whole.1 whole.0 o)
 
-            pub newest-told : s.words ≡ words → t.words ≡ 0 → eqb t.prev h.last ≡ answer
-            newest-told o n = sym (walk-all b h.last unsent words h.count h.head h.oldest h.used _ _ _ s.words both.1 few both.0 _ _ _ t.words whole.1 whole.0 o n)
+            pub newest_told : s.words ≡ words → t.words ≡ 0 → eqb t.prev h.last ≡ answer
+            newest_told o n = sym (walk_all b h.last unsent words h.count h.head h.oldest h.used _ _ _ s.words both.1 few both.0 _ _ _ t.words whole.1 whole.0 o n)

@@ -2,7 +2,7 @@
 use Rattle.std.specs.Prelude.{◌≡◌, ℕ, ◌+◌, ◌-◌, ◌*◌, ◌<◌, ◌≤◌, cond, List, [], ◌∷◌, ◌++◌, length, take, drop, nat_lt}
 use Rattle.config.specs.Sequence.{turn, after}
 use Rattle.history.specs.Ring.{slot_of, view}
-use Rattle.history.specs.Headers.{entriesFrom}
+use Rattle.history.specs.Headers.{entries_from}
 use Rattle.history.specs.declared.history.SendHistory.{SendHistory}
 
 -- the words of entries as they stand in the ring, the first of them with number n
@@ -25,8 +25,8 @@ unfoldable pub contents : SendHistory → List ℕ → List ℕ
 contents h b = take h.used (view b h.head)
 
 -- the entries held, read from the ring
-abbrev pub entriesOf : SendHistory → List ℕ → List (List ℕ)
-entriesOf h b = entriesFrom h.count b h.head
+abbrev pub entries_of : SendHistory → List ℕ → List (List ℕ)
+entries_of h b = entries_from h.count b h.head
 
 -- the state and the ring hold the entries
 pub record Holds (h : SendHistory) (b : List ℕ) (es : List (List ℕ)) : Type 0 where

@@ -1,17 +1,17 @@
 -- 01, "History, repeats, idle": words join the newest command or open further ones, and the oldest leave when words are needed.
 use Rattle.std.specs.Prelude.{ℕ, zero, suc, ◌+◌, ◌-◌, ◌*◌, cond, List, ◌∷◌, length, nat_lt, slice_index, slice_set}
 use Rattle.config.specs.Sequence.{turn, after}
-use Rattle.history.specs.Ring.{slot_of, ringStored}
-use Rattle.history.specs.Headers.{entrySize, next_at}
+use Rattle.history.specs.Ring.{slot_of, ring_stored}
+use Rattle.history.specs.Headers.{entry_size, next_at}
 use Rattle.history.specs.declared.history.SendHistory.{SendHistory}
 
 -- the oldest entry leaves
-unfoldable pub popOne : List ℕ → SendHistory → SendHistory
-popOne b h =
+unfoldable pub pop_one : List ℕ → SendHistory → SendHistory
+pop_one b h =
     record {
       size = h.size;
       head = next_at b h.head;
-      used = h.used - entrySize b h.head;
+      used = h.used - entry_size b h.head;
       count = h.count - 1;
       oldest = after h.oldest 1;
       last = h.last;
@@ -20,7 +20,7 @@ popOne b h =
 -- oldest entries leave, at most k, while fewer than `need` words are free
 unfoldable pub popped : ℕ → ℕ → List ℕ → SendHistory → SendHistory
 popped zero need b h = h
-popped (suc k) need b h = cond (nat_lt (h.size - h.used) need) (popped k need b (popOne b h)) h
+popped (suc k) need b h = cond (nat_lt (h.size - h.used) need) (popped k need b (pop_one b h)) h
 
 -- the place behind the newest entry
 abbrev pub end_of : SendHistory → ℕ
@@ -46,7 +46,7 @@ entry_of h ws = (after h.oldest h.count * turn + length ws) ∷ ws
 unfoldable pub pushed : SendHistory → List ℕ → List ℕ → SendHistory × List ℕ
 pushed h b ws =
     let g : SendHistory = popped h.count (1 + length ws) b h in
-    (grown g (length ws), ringStored b (end_of g) (entry_of g ws))
+    (grown g (length ws), ring_stored b (end_of g) (entry_of g ws))
 
 -- the state after n words have joined the newest entry
 unfoldable pub longer : SendHistory → ℕ → SendHistory
@@ -64,4 +64,4 @@ longer h n =
 unfoldable pub appended : SendHistory → List ℕ → List ℕ → SendHistory × List ℕ
 appended h b ws =
     let g : SendHistory = popped (h.count - 1) (length ws) b h in
-    (longer g (length ws), slice_set (ringStored b (end_of g) ws) h.last (slice_index b h.last + length ws))
+    (longer g (length ws), slice_set (ring_stored b (end_of g) ws) h.last (slice_index b h.last + length ws))

@@ -17,12 +17,12 @@ abbrev pub blank : RetransmitRequest
 blank = record { seq = 0; count = 0 }
 
 -- a start and a reset
-abbrev pub noneWait : ℕ → RetransmitQueue
-noneWait size = record { items = replicate 16 blank; head = 0; len = 0; size = size }
+abbrev pub none_wait : ℕ → RetransmitQueue
+none_wait size = record { items = replicate 16 blank; head = 0; len = 0; size = size }
 
 -- 01, "State test": the request queue's part of number 13
-abbrev pub queueOk : RetransmitQueue → Bool
-queueOk q = within 1 16 q.size && (nat_lt q.head q.size && nat_le q.len q.size)
+abbrev pub queue_ok : RetransmitQueue → Bool
+queue_ok q = within 1 16 q.size && (nat_lt q.head q.size && nat_le q.len q.size)
 
 -- a queue that passes the test
 pub record Fit (q : RetransmitQueue) : Type 0 where
@@ -50,9 +50,9 @@ asks [] n = false
 asks (r ∷ rs) n = r.seq == n || asks rs n
 
 -- the oldest of them
-unfoldable pub oldestOf : List RetransmitRequest → Oldest
-oldestOf [] = Nothing
-oldestOf (r ∷ rs) = Request r
+unfoldable pub oldest_of : List RetransmitRequest → Oldest
+oldest_of [] = Nothing
+oldest_of (r ∷ rs) = Request r
 
 -- ---- what the operations leave
 
@@ -63,20 +63,20 @@ behind q r =
 abbrev pub popped : RetransmitQueue → RetransmitQueue
 popped q = record { items = q.items; head = slot_of q.size q.head 1; len = q.len - 1; size = q.size }
 
-abbrev pub inFront : RetransmitQueue → RetransmitRequest → RetransmitQueue
-inFront q r = record { items = slice_set q.items q.head r; head = q.head; len = q.len; size = q.size }
+abbrev pub in_front : RetransmitQueue → RetransmitRequest → RetransmitQueue
+in_front q r = record { items = slice_set q.items q.head r; head = q.head; len = q.len; size = q.size }
 
 abbrev pub answered : RetransmitQueue → Push → Pushed
 answered q a = record { queue = q; answer = a }
 
-unfoldable pub pushAnswer : RetransmitQueue → RetransmitRequest → Pushed
-pushAnswer q r =
+unfoldable pub push_answer : RetransmitQueue → RetransmitRequest → Pushed
+push_answer q r =
     cond (asks (waiting q) r.seq) (answered q (Ignored Pending))
     (cond (nat_le q.size q.len) (answered q (Ignored Full))
     (answered (behind q r) Queued))
 
 unfoldable pub pop_of : RetransmitQueue → Popped
-pop_of q = record { queue = cond (q.len == 0) q (popped q); oldest = oldestOf (waiting q) }
+pop_of q = record { queue = cond (q.len == 0) q (popped q); oldest = oldest_of (waiting q) }
 
-unfoldable pub setFrontOf : RetransmitQueue → RetransmitRequest → RetransmitQueue
-setFrontOf q r = cond (q.len == 0) q (inFront q r)
+unfoldable pub set_front_of : RetransmitQueue → RetransmitRequest → RetransmitQueue
+set_front_of q r = cond (q.len == 0) q (in_front q r)

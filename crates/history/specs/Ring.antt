@@ -10,14 +10,14 @@ abbrev pub run_of : ℕ → ℕ → ℕ → ℕ
 run_of c i n = min n (c - i)
 
 -- the ring after words are stored one after the other from place i on
-unfoldable pub ringStored : List ℕ → ℕ → List ℕ → List ℕ
-ringStored b i [] = b
-ringStored b i (w ∷ ws) = ringStored (slice_set b i w) (slot_of (length b) i 1) ws
+unfoldable pub ring_stored : List ℕ → ℕ → List ℕ → List ℕ
+ring_stored b i [] = b
+ring_stored b i (w ∷ ws) = ring_stored (slice_set b i w) (slot_of (length b) i 1) ws
 
 -- n words of the ring from place i on
-unfoldable pub ringRead : List ℕ → ℕ → ℕ → List ℕ
-ringRead b i zero = []
-ringRead b i (suc n) = slice_index b i ∷ ringRead b (slot_of (length b) i 1) n
+unfoldable pub ring_read : List ℕ → ℕ → ℕ → List ℕ
+ring_read b i zero = []
+ring_read b i (suc n) = slice_index b i ∷ ring_read b (slot_of (length b) i 1) n
 
 -- the ring, read once round from place i
 unfoldable pub view : List ℕ → ℕ → List ℕ

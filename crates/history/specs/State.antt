@@ -1,7 +1,7 @@
 -- 01, "State test": the history's part of number 13.
 use Rattle.std.specs.Prelude.{◌≡◌, ℕ, ◌-◌, ◌<◌, ◌≤◌, min, Bool, true, cond, ◌&&◌, ◌||◌, List, length, replicate, ◌==◌, nat_le, nat_lt}
 use Rattle.config.specs.Range.{within}
-use Rattle.history.specs.Headers.{header_at, wordsFrom, numbered}
+use Rattle.history.specs.Headers.{header_at, words_from, numbered}
 use Rattle.history.specs.declared.history.SendHistory.{SendHistory}
 use Rattle.history.specs.declared.history.Mark.{Mark}
 use Rattle.history.specs.declared.history.Tested.{Tested}
@@ -15,47 +15,47 @@ abbrev pub cleared : ℕ → List ℕ → SendHistory × List ℕ
 cleared size b = (fresh size, replicate (length b) 0)
 
 -- unless there is none, the newest of k headers from place i on stands at `last`
-abbrev pub newestAt : ℕ → List ℕ → ℕ → ℕ → Bool
-newestAt last b k i = k == 0 || header_at (k - 1) b i == last
+abbrev pub newest_at : ℕ → List ℕ → ℕ → ℕ → Bool
+newest_at last b k i = k == 0 || header_at (k - 1) b i == last
 
 -- the newest `unsent` of k entries from place i on, if there are so many, take just `words` words
-abbrev pub unsentTake : ℕ → ℕ → List ℕ → ℕ → ℕ → Bool
-unsentTake unsent words b k i = nat_lt k unsent || wordsFrom unsent b (header_at (k - unsent) b i) == words
+abbrev pub unsent_take : ℕ → ℕ → List ℕ → ℕ → ℕ → Bool
+unsent_take unsent words b k i = nat_lt k unsent || words_from unsent b (header_at (k - unsent) b i) == words
 
 -- what the walk over k entries from the header at place i on must find: numbers from n on, u words in use, the last index, the unwritten entries
-unfoldable pub walkOk : List ℕ → ℕ → ℕ → ℕ → ℕ → ℕ → ℕ → ℕ → Bool
-walkOk b last unsent words k i n u =
-    numbered k b i n && (wordsFrom k b i == u && (newestAt last b k i && unsentTake unsent words b k i))
+unfoldable pub walk_ok : List ℕ → ℕ → ℕ → ℕ → ℕ → ℕ → ℕ → ℕ → Bool
+walk_ok b last unsent words k i n u =
+    numbered k b i n && (words_from k b i == u && (newest_at last b k i && unsent_take unsent words b k i))
 
 -- the state test: the sizes, the lent history's length, the head and the words in use, the unwritten entries, and the walk
-unfoldable pub stateOk : SendHistory → List ℕ → ℕ → ℕ → Bool
-stateOk h b unsent words =
+unfoldable pub state_ok : SendHistory → List ℕ → ℕ → ℕ → Bool
+state_ok h b unsent words =
     within 65 32768 h.size
     && (length b == h.size
     && (nat_lt h.head h.size
     && (nat_le h.used h.size
     && (nat_le unsent h.count
-    && walkOk b h.last unsent words h.count h.head h.oldest h.used))))
+    && walk_ok b h.last unsent words h.count h.head h.oldest h.used))))
 
 -- the entry `back` before the unwritten ones, or the oldest where fewer are written
-abbrev pub backOf : SendHistory → ℕ → ℕ → ℕ
-backOf h unsent back = h.count - unsent - min back (h.count - unsent)
+abbrev pub back_of : SendHistory → ℕ → ℕ → ℕ
+back_of h unsent back = h.count - unsent - min back (h.count - unsent)
 
 -- the header of the mark's entry stands at its place
 abbrev pub Marks : SendHistory → List ℕ → Mark → Type 0
 Marks h b m = (m.at ≡ header_at m.entry b h.head) × (m.at < length b)
 
-abbrev pub oldestMark : SendHistory → Mark
-oldestMark h = record { entry = 0; at = h.head }
+abbrev pub oldest_mark : SendHistory → Mark
+oldest_mark h = record { entry = 0; at = h.head }
 
 -- the oldest where entry k is before the mark
-abbrev pub nearestMark : SendHistory → Mark → ℕ → Mark
-nearestMark h m k = cond (nat_lt k m.entry) (oldestMark h) m
+abbrev pub nearest_mark : SendHistory → Mark → ℕ → Mark
+nearest_mark h m k = cond (nat_lt k m.entry) (oldest_mark h) m
 
 -- the answer of a test, and where it is yes the header that its walk came by
 pub record Answers (t : Bool) (h : SendHistory) (b : List ℕ) (unsent back : ℕ) (r : Tested) : Type 0 where
   pub answer : r.ok ≡ t
-  pub entry : r.ok ≡ true → r.mark.entry ≡ backOf h unsent back
+  pub entry : r.ok ≡ true → r.mark.entry ≡ back_of h unsent back
   pub place : r.ok ≡ true → Marks h b r.mark
 
 -- a state that passes the test, whatever of it is unwritten
@@ -66,5 +66,5 @@ pub record Good (h : SendHistory) (b : List ℕ) : Type 0 where
   pub inside : h.head < h.size
   pub room : h.used ≤ h.size
   pub headers : numbered h.count b h.head h.oldest ≡ true
-  pub words : wordsFrom h.count b h.head ≡ h.used
+  pub words : words_from h.count b h.head ≡ h.used
   pub newest : 0 < h.count → header_at (h.count - 1) b h.head ≡ h.last

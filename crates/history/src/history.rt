@@ -1,6 +1,6 @@
 // The commands that were queued, the oldest that still fit, numbered without a gap.
 ghost use Rattle.std.specs.Prelude.{◌≡◌, ◌<◌, ◌≤◌, false, length};
-ghost use Rattle.history.specs.State.{stateOk, walkOk, Answers};
+ghost use Rattle.history.specs.State.{state_ok, walk_ok, Answers};
 
 use super::headers;
 use super::headers::Stop;
@@ -48,7 +48,7 @@ impl SendHistory {
     // The history's part of the state test; of the commands held, the newest `unsent` are not
     // written and take `unsent_words` words.
     pub fn state_ok(self, ring: &[u32], unsent: usize, unsent_words: usize) -> bool
-        ensures { result ≡ stateOk self ring.now unsent unsent_words }
+        ensures { result ≡ state_ok self ring.now unsent unsent_words }
     {
         let tested = self.state_walk(ring, unsent, unsent_words, 0);
         tested.ok
@@ -57,7 +57,7 @@ impl SendHistory {
     // The state test, and from its walk the header `back` before the unwritten ones, or the oldest where
     // fewer are written.
     pub fn state_walk(self, ring: &[u32], unsent: usize, unsent_words: usize, back: usize) -> Tested
-        ensures { Answers (stateOk self ring.now unsent unsent_words) self ring.now unsent back result }
+        ensures { Answers (state_ok self ring.now unsent unsent_words) self ring.now unsent back result }
     {
         if outside(MIN_WORDS, MAX_WORDS, self.size) {
             return refused();
@@ -91,7 +91,7 @@ fn refused() -> Tested
 // one behind the written ones.
 fn walks(h: SendHistory, ring: &[u32], unsent: usize, unsent_words: usize, back: usize) -> Tested
     requires { (h.head < length ring.now) × (length ring.now ≤ 32768) × (h.used ≤ length ring.now) × (unsent ≤ h.count) }
-    ensures { Answers (walkOk ring.now h.last unsent unsent_words h.count h.head h.oldest h.used) h ring.now unsent back result }
+    ensures { Answers (walk_ok ring.now h.last unsent unsent_words h.count h.head h.oldest h.used) h ring.now unsent back result }
 {
     let written = h.count - unsent;
     let again = least(back, written);

@@ -1,6 +1,6 @@
 // The Retransmit Requests that wait to be served.
 ghost use Rattle.std.specs.Prelude.{◌≡◌};
-ghost use Rattle.history.specs.Queue.{queueOk};
+ghost use Rattle.history.specs.Queue.{queue_ok};
 
 use command::retransmit::RetransmitRequest;
 use config::range::outside;
@@ -59,7 +59,7 @@ pub struct Popped {
 impl RetransmitQueue {
     // The request queue's part of the state test.
     pub fn state_ok(self) -> bool
-        ensures { result ≡ queueOk self }
+        ensures { result ≡ queue_ok self }
     {
         if outside(1, PLACES, self.size) {
             return false;

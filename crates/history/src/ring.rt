@@ -1,6 +1,6 @@
 // Places and straight runs of a ring of words in a slice.
 ghost use Rattle.std.specs.Prelude.{◌≡◌, ◌+◌, ◌-◌, ◌<◌, ◌≤◌, length, drop, replicate};
-ghost use Rattle.history.specs.Ring.{slot_of, run_of, ringStored};
+ghost use Rattle.history.specs.Ring.{slot_of, run_of, ring_stored};
 
 use config::range::least;
 
@@ -25,7 +25,7 @@ pub fn run_end(c: usize, at: usize, n: usize) -> usize
 fn put_run(ring: &mut [u32], at: usize, words: &[u32], from: usize, n: usize)
     requires { (from + n ≤ length words.now) × (at + n ≤ length ring.old) × (at < length ring.old) }
     ensures { (length ring.new ≡ length ring.old)
-        × (ringStored ring.new (slot_of (length ring.old) at n) (drop (from + n) words.now) ≡ ringStored ring.old at (drop from words.now)) }
+        × (ring_stored ring.new (slot_of (length ring.old) at n) (drop (from + n) words.now) ≡ ring_stored ring.old at (drop from words.now)) }
 {
     let mut k = 0;
     while k < n {
@@ -37,7 +37,7 @@ fn put_run(ring: &mut [u32], at: usize, words: &[u32], from: usize, n: usize)
 // Stores the words from place `at` on, round the end.
 pub fn put(ring: &mut [u32], at: usize, words: &[u32])
     requires { (at < length ring.old) × (length words.now ≤ length ring.old) }
-    ensures { ring.new ≡ ringStored ring.old at words.now }
+    ensures { ring.new ≡ ring_stored ring.old at words.now }
 {
     let n = words.len();
     let room = run_end(ring.len(), at, n);

@@ -1,13 +1,13 @@
 // What a sender calls once its state has passed the state test, or a start its sizes.
 ghost use Rattle.std.specs.Prelude.{◌≡◌, ◌+◌, ◌-◌, ◌<◌, ◌≤◌, true, length};
 ghost use Rattle.config.specs.Sequence.{after};
-ghost use Rattle.history.specs.State.{Good, Marks, oldestMark, nearestMark, cleared};
-ghost use Rattle.history.specs.Headers.{number_at, length_at, next_at, header_at, wordsFrom};
-ghost use Rattle.history.specs.Push.{popOne, pushed, appended};
+ghost use Rattle.history.specs.State.{Good, Marks, oldest_mark, nearest_mark, cleared};
+ghost use Rattle.history.specs.Headers.{number_at, length_at, next_at, header_at, words_from};
+ghost use Rattle.history.specs.Push.{pop_one, pushed, appended};
 ghost use Rattle.history.specs.inner.Room.{Freed};
-ghost use Rattle.history.specs.Queue.{Fit, noneWait, waiting, asks, oldestOf, pushAnswer, setFrontOf, pop_of};
+ghost use Rattle.history.specs.Queue.{Fit, none_wait, waiting, asks, oldest_of, push_answer, set_front_of, pop_of};
 ghost use Rattle.packet.specs.Write.{valid_of, written_of};
-ghost use Rattle.history.specs.Written.{entryPacket};
+ghost use Rattle.history.specs.Written.{entry_packet};
 
 use super::headers::Stop;
 use super::history::{Mark, SendHistory};
@@ -60,7 +60,7 @@ pub fn next_index(ring: &[u32], at: usize) -> usize
 
 // The oldest entry's header.
 pub fn oldest(h: SendHistory) -> Mark
-    ensures { result ≡ oldestMark h }
+    ensures { result ≡ oldest_mark h }
 {
     Mark {
         entry: 0,
@@ -70,7 +70,7 @@ pub fn oldest(h: SendHistory) -> Mark
 
 // The mark, or the oldest entry's header where entry `k` is before the mark.
 fn nearest(h: SendHistory, from: Mark, k: usize) -> Mark
-    ensures { result ≡ nearestMark h from k }
+    ensures { result ≡ nearest_mark h from k }
 {
     if k < from.entry {
         return oldest(h);
@@ -99,7 +99,7 @@ pub fn index_of(h: SendHistory, ring: &[u32], from: Mark, k: usize) -> usize
 // The oldest entry leaves.
 fn pop_oldest(h: SendHistory, ring: &[u32]) -> SendHistory
     requires { Good h ring.now × (0 < h.count) }
-    ensures { result ≡ popOne ring.now h }
+    ensures { result ≡ pop_one ring.now h }
 {
     let n = 1 + pl(ring, h.head);
     SendHistory {
@@ -114,7 +114,7 @@ fn pop_oldest(h: SendHistory, ring: &[u32]) -> SendHistory
 
 // Oldest entries leave while fewer than `need` words are free and more than `stay` entries are held.
 fn make_room(h: SendHistory, ring: &[u32], need: usize, stay: usize) -> SendHistory
-    requires { Good h ring.now × (stay ≤ h.count) × (need + wordsFrom stay ring.now (header_at (h.count - stay) ring.now h.head) ≤ h.size) }
+    requires { Good h ring.now × (stay ≤ h.count) × (need + words_from stay ring.now (header_at (h.count - stay) ring.now h.head) ≤ h.size) }
     ensures { Freed (h.count - stay) need h ring.now result }
 {
     let mut g = h;
@@ -183,7 +183,7 @@ pub fn append_to_last(h: SendHistory, ring: &mut [u32], words: &[u32]) -> SendHi
 // from the lent history into the payload, in two runs where they pass the end.
 pub fn write_entry(p: PayloadWriter, buf: &mut [u8], ring: &[u32], at: usize) -> Wrote
     requires { (valid_of p (length buf.old) ≡ true) × (at < length ring.now) × (65 ≤ length ring.now) × (length ring.now ≤ 32768) × (length_at ring.now at ≤ 64) }
-    ensures { (result, buf.new) ≡ written_of p buf.old (entryPacket ring.now at) }
+    ensures { (result, buf.new) ≡ written_of p buf.old (entry_packet ring.now at) }
 {
     let n = pl(ring, at);
     let number = seq(ring, at);
@@ -205,7 +205,7 @@ pub fn write_entry(p: PayloadWriter, buf: &mut [u8], ring: &[u32], at: usize) ->
 // A start and a reset: no request waits.
 pub fn clear_requests(size: usize) -> RetransmitQueue
     requires { (1 ≤ size) × (size ≤ 16) }
-    ensures { result ≡ noneWait size }
+    ensures { result ≡ none_wait size }
 {
     RetransmitQueue {
         items: [RetransmitRequest { seq: 0, count: 0 }; 16],
@@ -235,7 +235,7 @@ fn pending(q: RetransmitQueue, seq: SeqNum) -> bool
 // Adds a request behind the newest, unless one with its number waits or no place is free.
 pub fn push_request(q: RetransmitQueue, req: RetransmitRequest) -> Pushed
     requires { Fit q }
-    ensures { result ≡ pushAnswer q req }
+    ensures { result ≡ push_answer q req }
 {
     if pending(q, req.seq) {
         return Pushed {
@@ -262,7 +262,7 @@ pub fn push_request(q: RetransmitQueue, req: RetransmitRequest) -> Pushed
 // The oldest request.
 fn front(q: RetransmitQueue) -> Oldest
     requires { Fit q }
-    ensures { result ≡ oldestOf (waiting q) }
+    ensures { result ≡ oldest_of (waiting q) }
 {
     if q.len == 0 {
         return Oldest::Nothing;
@@ -274,7 +274,7 @@ fn front(q: RetransmitQueue) -> Oldest
 // Puts a request in the oldest one's place; changes nothing where none waits.
 pub fn set_front(q: RetransmitQueue, req: RetransmitRequest) -> RetransmitQueue
     requires { Fit q }
-    ensures { result ≡ setFrontOf q req }
+    ensures { result ≡ set_front_of q req }
 {
     if q.len == 0 {
         return q;

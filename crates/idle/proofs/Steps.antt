@@ -9,30 +9,30 @@ use lib.Dec.{leb, ltb, eqb}
 use borrow.Author.Tests.{lt-ltb, le-ltb, le-leb, lt-leb, leb-true}
 use Rattle.config.specs.inner.Tests.{split, tests, lifts}
 use Rattle.config.specs.Range.{outside}
-use Rattle.config.specs.Settings.{checkOf}
-use Rattle.config.specs.Time.{lastTime, later}
+use Rattle.config.specs.Settings.{check_of}
+use Rattle.config.specs.Time.{last_time, later}
 use Rattle.config.specs.declared.refusal.Refusal.TheVariants.{IdleInterval, IdleGrowth, CommandWords}
 use Rattle.config.specs.declared.settings.StreamConfig.{StreamConfig}
 use Rattle.config.specs.declared.answer.Outcome.TheVariants.{Done, Refused}
-use Rattle.idle.specs.Schedule.{idleOk, idleStart, grownBy, idleNext}
+use Rattle.idle.specs.Schedule.{idle_ok, idle_start, grown_by, idle_next}
 use Rattle.idle.specs.declared.idle.Idle.{Idle}
 use Rattle.idle.specs.declared.idle.IdleTimer.{IdleTimer}
 use Rattle.idle.specs.declared.idle.IdleTimer.TheVariants.{Off, Waiting}
 
 -- ---- an interval that grows
 module _ (i g : ℕ) (some : 0 < g) where
-  pub grown-last : lastTime / g < i → lastTime ≡ grownBy g i
-  grown-last h = let l : lastTime < i * g = (div-lt_iff_lt-mul {k = g} {x = lastTime} {y = i} some).0 h in omega arith
+  pub grown_last : last_time / g < i → last_time ≡ grown_by g i
+  grown_last h = let l : last_time < i * g = (div-lt_iff_lt-mul {k = g} {x = last_time} {y = i} some).0 h in omega arith
 
-  pub grown-fits : i ≤ lastTime / g → i * g ≤ lastTime
-  grown-fits h = (le-div_iff_mul-le {k = g} {x = i} {y = lastTime} some).0 h
+  pub grown_fits : i ≤ last_time / g → i * g ≤ last_time
+  grown_fits h = (le-div_iff_mul-le {k = g} {x = i} {y = last_time} some).0 h
 
-  pub grown-product : i ≤ lastTime / g → i * g ≡ grownBy g i
-  grown-product h = let l = grown-fits h in omega arith
+  pub grown_product : i ≤ last_time / g → i * g ≡ grown_by g i
+  grown_product h = let l = grown_fits h in omega arith
 
-pub settings-growth : (cfg : StreamConfig) → checkOf cfg ≡ Done → 0 < cfg.idle_growth
-unfolding checkOf
-settings-growth cfg e = by (outside 1 64 cfg.max_command_words) (outside 1 300 cfg.idle_interval_ms) (eqb cfg.idle_growth 0) refl e
+pub settings_growth : (cfg : StreamConfig) → check_of cfg ≡ Done → 0 < cfg.idle_growth
+unfolding check_of
+settings_growth cfg e = by (outside 1 64 cfg.max_command_words) (outside 1 300 cfg.idle_interval_ms) (eqb cfg.idle_growth 0) refl e
   where
     by : (a b t : Bool) → eqb cfg.idle_growth 0 ≡ t → cond a (Refused CommandWords) (cond b (Refused IdleInterval) (cond t (Refused IdleGrowth) Done)) ≡ Done → 0 < cfg.idle_growth
     by true b t f h = absurd (let z : ◌≡◌ {A = ℕ} 0 1 = cc in omega arith)
@@ -41,32 +41,32 @@ settings-growth cfg e = by (outside 1 64 cfg.max_command_words) (outside 1 300 c
     by false false false f h = omega (arith, tests)
 
 -- ---- the start
-pub started : (cfg : StreamConfig) (time due : ℕ) → due ≡ later time cfg.idle_interval_ms → Waiting record { due = due; step = 0; interval = cfg.idle_interval_ms } ≡ idleStart cfg time
+pub started : (cfg : StreamConfig) (time due : ℕ) → due ≡ later time cfg.idle_interval_ms → Waiting record { due = due; step = 0; interval = cfg.idle_interval_ms } ≡ idle_start cfg time
 started cfg time due e = rw e
 
 -- ---- the next step
 module _ (cfg : StreamConfig) (time : ℕ) (i : Idle) where
-  pub next-repeat : (due : ℕ) → i.step + 1 ≤ cfg.fec_repeats → due ≡ later time i.interval → Waiting record { due = due; step = i.step + 1; interval = i.interval } ≡ idleNext cfg time i
-  unfolding idleNext
-  next-repeat due h e = rw (le-leb _ _ h, e)
+  pub next_repeat : (due : ℕ) → i.step + 1 ≤ cfg.fec_repeats → due ≡ later time i.interval → Waiting record { due = due; step = i.step + 1; interval = i.interval } ≡ idle_next cfg time i
+  unfolding idle_next
+  next_repeat due h e = rw (le-leb _ _ h, e)
 
   module _ (h : cfg.fec_repeats < i.step + 1) where
-    pub next-further : (due interval : ℕ) → i.step + 1 < 1 + cfg.fec_repeats + cfg.idle_further → interval ≡ grownBy cfg.idle_growth i.interval → due ≡ later time interval
-        → Waiting record { due = due; step = i.step + 1; interval = interval } ≡ idleNext cfg time i
-    unfolding idleNext
-    next-further due interval l e f = rw (lt-leb _ _ h, lt-ltb _ _ l, f, e)
+    pub next_further : (due interval : ℕ) → i.step + 1 < 1 + cfg.fec_repeats + cfg.idle_further → interval ≡ grown_by cfg.idle_growth i.interval → due ≡ later time interval
+        → Waiting record { due = due; step = i.step + 1; interval = interval } ≡ idle_next cfg time i
+    unfolding idle_next
+    next_further due interval l e f = rw (lt-leb _ _ h, lt-ltb _ _ l, f, e)
 
-    pub next-off : 1 + cfg.fec_repeats + cfg.idle_further ≤ i.step + 1 → Off ≡ idleNext cfg time i
-    unfolding idleNext
-    next-off l = rw (lt-leb _ _ h, le-ltb _ _ l)
+    pub next_off : 1 + cfg.fec_repeats + cfg.idle_further ≤ i.step + 1 → Off ≡ idle_next cfg time i
+    unfolding idle_next
+    next_off l = rw (lt-leb _ _ h, le-ltb _ _ l)
 
 -- ---- the state test
-pub idle-step : (t : IdleTimer) (i : Idle) → idleOk t ≡ true → t ≡ Waiting i → i.step ≤ 510
-idle-step t i ok e = leb-true _ _ (rw e at ok)
+pub idle_step : (t : IdleTimer) (i : Idle) → idle_ok t ≡ true → t ≡ Waiting i → i.step ≤ 510
+idle_step t i ok e = leb-true _ _ (rw e at ok)
 
-pub next-ok : (cfg : StreamConfig) (time : ℕ) (i : Idle) → cfg.fec_repeats ≤ 255 → cfg.idle_further ≤ 255 → idleOk (idleNext cfg time i) ≡ true
-unfolding idleNext
-next-ok cfg time i r k = elim (split (leb (i.step + 1) cfg.fec_repeats)) [
+pub next_ok : (cfg : StreamConfig) (time : ℕ) (i : Idle) → cfg.fec_repeats ≤ 255 → cfg.idle_further ≤ 255 → idle_ok (idle_next cfg time i) ≡ true
+unfolding idle_next
+next_ok cfg time i r k = elim (split (leb (i.step + 1) cfg.fec_repeats)) [
   | inl a ↦ rw a (omega (arith, tests, lifts))
   | inr a ↦ elim (split (ltb (i.step + 1) (1 + cfg.fec_repeats + cfg.idle_further))) [
     | inl b ↦ rw (a, b) (omega (arith, tests, lifts))

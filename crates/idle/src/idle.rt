@@ -1,6 +1,6 @@
 // The idle timer, and what is asked of it.
 ghost use Rattle.std.specs.Prelude.{◌≡◌};
-ghost use Rattle.idle.specs.Schedule.{idleOk, isDue, idleStart};
+ghost use Rattle.idle.specs.Schedule.{idle_ok, is_due, idle_start};
 
 use config::settings::StreamConfig;
 use config::time::later_by;
@@ -27,7 +27,7 @@ pub enum IdleTimer {
 impl IdleTimer {
     // After a command with words is written: the first idle command is due T1 later.
     pub fn start(cfg: StreamConfig, time: u64) -> Self
-        ensures { result ≡ idleStart cfg time }
+        ensures { result ≡ idle_start cfg time }
     {
         let interval = cfg.idle_interval_ms as u64;
         IdleTimer::Waiting(Idle {
@@ -39,7 +39,7 @@ impl IdleTimer {
 
     // The idle timer's part of the state test.
     pub fn state_ok(self) -> bool
-        ensures { result ≡ idleOk self }
+        ensures { result ≡ idle_ok self }
     {
         match self {
             IdleTimer::Off => true,
@@ -48,7 +48,7 @@ impl IdleTimer {
     }
 
     pub fn is_due(self, time: u64) -> bool
-        ensures { result ≡ isDue self time }
+        ensures { result ≡ is_due self time }
     {
         match self {
             IdleTimer::Off => false,

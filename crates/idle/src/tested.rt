@@ -1,8 +1,8 @@
 // The next step, over settings and a timer that were tested.
 ghost use Rattle.std.specs.Prelude.{◌≡◌, ◌≤◌, ◌<◌};
-ghost use Rattle.config.specs.Settings.{checkOf};
+ghost use Rattle.config.specs.Settings.{check_of};
 ghost use Rattle.config.specs.declared.answer.Outcome.TheVariants.{Done};
-ghost use Rattle.idle.specs.Schedule.{grownBy, idleNext};
+ghost use Rattle.idle.specs.Schedule.{grown_by, idle_next};
 
 use super::idle::{Idle, IdleTimer};
 use config::settings::StreamConfig;
@@ -11,7 +11,7 @@ use config::time::later_by;
 // The interval times the growth, at most the last time.
 fn grown(interval: u64, growth: u32) -> u64
     requires { 0 < growth }
-    ensures { result ≡ grownBy growth interval }
+    ensures { result ≡ grown_by growth interval }
 {
     let times = growth as u64;
     if u64::MAX / times < interval {
@@ -23,8 +23,8 @@ fn grown(interval: u64, growth: u32) -> u64
 // The schedule after an idle command is queued: 1 + R at steps of T1, then K more, each step G times
 // the one before.
 pub fn next(cfg: StreamConfig, time: u64, i: Idle) -> IdleTimer
-    requires { (checkOf cfg ≡ Done) × (i.step ≤ 510) }
-    ensures { result ≡ idleNext cfg time i }
+    requires { (check_of cfg ≡ Done) × (i.step ≤ 510) }
+    ensures { result ≡ idle_next cfg time i }
 {
     let step = i.step + 1;
     let repeats = cfg.fec_repeats as u16;

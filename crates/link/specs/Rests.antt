@@ -10,28 +10,28 @@ use Rattle.link_rules.specs.declared.run.Waiting.{Waiting as ErrorWaiting}
 use Rattle.link_rules.specs.declared.run.Waiting.TheVariants.{Nothing, Error}
 
 -- no idle command is due
-unfoldable pub idleRests : IdleTimer → ℕ → Bool
-idleRests Off time = true
-idleRests (Waiting i) time = ltb time i.due
+unfoldable pub idle_rests : IdleTimer → ℕ → Bool
+idle_rests Off time = true
+idle_rests (Waiting i) time = ltb time i.due
 
 -- a poll has nothing to do
-unfoldable pub timerRests : Timer → ℕ → Bool
-timerRests Stopped time = true
-timerRests (Running t) time = ltb time t.due
+unfoldable pub timer_rests : Timer → ℕ → Bool
+timer_rests Stopped time = true
+timer_rests (Running t) time = ltb time t.due
 
 -- nothing is to be written: no request is due, no command is unwritten, no request waits, no idle command is due
-unfoldable pub quietOf : DataStream → ℕ → Bool
-quietOf s time =
-    not s.receiver.request_due && (eqb s.sender.unsent 0 && (eqb s.sender.queue.len 0 && idleRests s.sender.idle time))
+unfoldable pub quiet_of : DataStream → ℕ → Bool
+quiet_of s time =
+    not s.receiver.request_due && (eqb s.sender.unsent 0 && (eqb s.sender.queue.len 0 && idle_rests s.sender.idle time))
 
-unfoldable pub noError : ErrorWaiting → Bool
-noError Nothing = true
-noError (Error e) = false
+unfoldable pub no_error : ErrorWaiting → Bool
+no_error Nothing = true
+no_error (Error e) = false
 
 -- the console, with the load's value and the error that waits
-unfoldable pub consoleRests : DataStream → ℕ → ℕ → ErrorWaiting → Bool
-consoleRests s time x w = noError w && (eqb (count_of x) 0 && quietOf s time)
+unfoldable pub console_rests : DataStream → ℕ → ℕ → ErrorWaiting → Bool
+console_rests s time x w = no_error w && (eqb (count_of x) 0 && quiet_of s time)
 
 -- the chamber, which has read
-unfoldable pub chamberRests : DataStream → ℕ → Bool
-chamberRests s time = timerRests s.receiver.timer time && quietOf s time
+unfoldable pub chamber_rests : DataStream → ℕ → Bool
+chamber_rests s time = timer_rests s.receiver.timer time && quiet_of s time

@@ -1,7 +1,7 @@
 // The two halves of a step: there, from the console to the chamber, and back.
 ghost use Rattle.std.specs.Prelude.{◌≡◌, ◌≤◌};
 ghost use Rattle.link_tally.specs.Tally.{Few};
-ghost use Rattle.link.specs.Turns.{thereOf, backOf};
+ghost use Rattle.link.specs.Turns.{there_of, back_of};
 
 use super::quiet::{chamber_rests, console_rests};
 use super::turns::{carry, chamber_turn, console_turn, part};
@@ -40,7 +40,7 @@ fn spoken(
     ring: &mut [u32],
     other: &[u32],
 ) -> Gone
-    ensures { ((result, ring.new) ≡ thereOf console chamber cfg time load.last line.last figure waiting ring.old other.now) × Few result.chamber }
+    ensures { ((result, ring.new) ≡ there_of console chamber cfg time load.last line.last figure waiting ring.old other.now) × Few result.chamber }
 {
     let mut buf = [0u8; 1400];
     let turn = console_turn(console, cfg, time, load, waiting, &mut buf, ring);
@@ -66,7 +66,7 @@ pub fn there(
     ring: &mut [u32],
     other: &[u32],
 ) -> Gone
-    ensures { ((result, ring.new) ≡ thereOf console chamber cfg time load.last line.last figure waiting ring.old other.now) × Few result.chamber }
+    ensures { ((result, ring.new) ≡ there_of console chamber cfg time load.last line.last figure waiting ring.old other.now) × Few result.chamber }
 {
     if console_rests(console, time, load, waiting) {
         return Gone {
@@ -93,7 +93,7 @@ fn replied(
     ring: &[u32],
     other: &mut [u32],
 ) -> Come
-    ensures { ((result, other.new) ≡ backOf console chamber cfg time ring.now other.old) × (result.losses ≤ 1) }
+    ensures { ((result, other.new) ≡ back_of console chamber cfg time ring.now other.old) × (result.losses ≤ 1) }
 {
     let mut buf = [0u8; 1400];
     let turn = chamber_turn(chamber, cfg, time, &mut buf, other);
@@ -117,7 +117,7 @@ pub fn back(
     ring: &[u32],
     other: &mut [u32],
 ) -> Come
-    ensures { ((result, other.new) ≡ backOf console chamber cfg time ring.now other.old) × (result.losses ≤ 1) }
+    ensures { ((result, other.new) ≡ back_of console chamber cfg time ring.now other.old) × (result.losses ≤ 1) }
 {
     if chamber_rests(chamber, time) {
         return Come {

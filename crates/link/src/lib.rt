@@ -11,7 +11,7 @@
 //
 // How an end reads a payload, and what is counted of its answers, is crate `link_tally`.
 //
-// `run` equals `runAnswer` of crate `link_rules`, with both lent histories: steps done, commands handed on and losses
+// `run` equals `run_answer` of crate `link_rules`, with both lent histories: steps done, commands handed on and losses
 // reported. It refuses with 9, 7, 8 for settings, and 12 for sizes that a start does not take or a budget above
 // 65,536; a refused run changes nothing. What holds of every run stands there too.
 mod halves;

@@ -1,7 +1,7 @@
 // The pretend link: its state, a step of 1 ms, and a run.
 ghost use Rattle.std.specs.Prelude.{◌≡◌, ◌+◌, ◌≤◌, ◌<◌};
-ghost use Rattle.link_rules.specs.Link.{step_of, run_of, mostSteps, reportOf, runAnswer};
-ghost use Rattle.link.specs.Turns.{endsOf, Fits};
+ghost use Rattle.link_rules.specs.Link.{step_of, run_of, most_steps, report_of, run_answer};
+ghost use Rattle.link.specs.Turns.{ends_of, Fits};
 ghost use Rattle.link_rules.specs.declared.run.Ran.TheVariants.{Done};
 
 use super::halves::{back, there};
@@ -38,8 +38,8 @@ fn step(
     ring: &mut [u32],
     other: &mut [u32],
 ) -> State
-    requires { (time < mostSteps) × Fits s time }
-    ensures { (endsOf result (time + 1) ring.new other.new ≡ step_of cfg figure (endsOf s time ring.old other.old)) × Fits result (time + 1) }
+    requires { (time < most_steps) × Fits s time }
+    ensures { (ends_of result (time + 1) ring.new other.new ≡ step_of cfg figure (ends_of s time ring.old other.old)) × Fits result (time + 1) }
 {
     let console = s.console;
     let chamber = s.chamber;
@@ -88,8 +88,8 @@ fn steps(
     ring: &mut [u32],
     other: &mut [u32],
 ) -> Report
-    requires { (budget ≤ mostSteps) × Fits first 0 }
-    ensures { (Done result, ring.new, other.new) ≡ reportOf (run_of cfg figure (endsOf first 0 ring.old other.old) budget) }
+    requires { (budget ≤ most_steps) × Fits first 0 }
+    ensures { (Done result, ring.new, other.new) ≡ report_of (run_of cfg figure (ends_of first 0 ring.old other.old) budget) }
 {
     let mut s = first;
     let mut done = 0;
@@ -119,7 +119,7 @@ pub fn run(
     ring: &mut [u32],
     other: &mut [u32],
 ) -> Ran
-    ensures { (result, ring.new, other.new) ≡ runAnswer cfg window words places seed «drop» figure budget ring.old other.old }
+    ensures { (result, ring.new, other.new) ≡ run_answer cfg window words places seed «drop» figure budget ring.old other.old }
 {
     match cfg.check() {
         Outcome::Refused(why) => Ran::Refused(why),

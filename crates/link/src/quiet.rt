@@ -1,6 +1,6 @@
 // Whether an end rests in a step: it has nothing to queue, to write or to poll for, and is left as it is, untested.
 ghost use Rattle.std.specs.Prelude.{◌≡◌};
-ghost use Rattle.link.specs.Rests.{idleRests, timerRests, quietOf, noError, consoleRests, chamberRests};
+ghost use Rattle.link.specs.Rests.{idle_rests, timer_rests, quiet_of, no_error, console_rests, chamber_rests};
 
 use idle::idle::IdleTimer;
 use link_rules::run::Waiting;
@@ -10,7 +10,7 @@ use stream::stream::DataStream;
 
 // No idle command is due.
 fn idle_rests(idle: IdleTimer, time: u64) -> bool
-    ensures { result ≡ idleRests idle time }
+    ensures { result ≡ idle_rests idle time }
 {
     match idle {
         IdleTimer::Off => true,
@@ -20,7 +20,7 @@ fn idle_rests(idle: IdleTimer, time: u64) -> bool
 
 // A poll has nothing to do.
 fn timer_rests(timer: Timer, time: u64) -> bool
-    ensures { result ≡ timerRests timer time }
+    ensures { result ≡ timer_rests timer time }
 {
     match timer {
         Timer::Stopped => true,
@@ -30,7 +30,7 @@ fn timer_rests(timer: Timer, time: u64) -> bool
 
 // Nothing is to be written: no request is due, no command is unwritten, no request waits, no idle command is due.
 fn quiet(s: DataStream, time: u64) -> bool
-    ensures { result ≡ quietOf s time }
+    ensures { result ≡ quiet_of s time }
 {
     let receiver = s.receiver;
     let sender = s.sender;
@@ -49,7 +49,7 @@ fn quiet(s: DataStream, time: u64) -> bool
 }
 
 fn no_error(waiting: Waiting) -> bool
-    ensures { result ≡ noError waiting }
+    ensures { result ≡ no_error waiting }
 {
     match waiting {
         Waiting::Nothing => true,
@@ -59,7 +59,7 @@ fn no_error(waiting: Waiting) -> bool
 
 // The console, with the load's value and the error that waits.
 pub fn console_rests(s: DataStream, time: u64, load: Load, waiting: Waiting) -> bool
-    ensures { result ≡ consoleRests s time load.last waiting }
+    ensures { result ≡ console_rests s time load.last waiting }
 {
     if no_error(waiting) {
         let asked = load.words();
@@ -73,7 +73,7 @@ pub fn console_rests(s: DataStream, time: u64, load: Load, waiting: Waiting) -> 
 
 // The chamber, which has read.
 pub fn chamber_rests(s: DataStream, time: u64) -> bool
-    ensures { result ≡ chamberRests s time }
+    ensures { result ≡ chamber_rests s time }
 {
     let receiver = s.receiver;
     let timer = receiver.timer;

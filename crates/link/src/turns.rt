@@ -1,9 +1,9 @@
 // What each end does in a step: the console queues the load's words and writes, the line carries or drops, the chamber reads, polls and writes.
 ghost use Rattle.std.specs.Prelude.{◌≡◌, ◌≤◌, length};
-ghost use Rattle.link_rules.specs.Arriving.{arrivedOf};
+ghost use Rattle.link_rules.specs.Arriving.{arrived_of};
 ghost use Rattle.link_tally.specs.Tally.{Few, tallied, unread};
 ghost use Rattle.link_rules.specs.Link.{limit, blank, carried};
-ghost use Rattle.link.specs.Turns.{begun, queued_at, wroteInto, consoleOf, chamberOf, pollLoss, part_of, turn_of};
+ghost use Rattle.link.specs.Turns.{begun, queued_at, wrote_into, console_of, chamber_of, poll_loss, part_of, turn_of};
 
 use config::settings::StreamConfig;
 use link_rules::run::Waiting;
@@ -60,7 +60,7 @@ fn write(
     ring: &mut [u32],
     losses: u32,
 ) -> Turn
-    ensures { (turn_of result buf.new ring.new ≡ wroteInto s cfg time ring.old (p, buf.old)) × (result.losses ≡ losses) }
+    ensures { (turn_of result buf.new ring.new ≡ wrote_into s cfg time ring.old (p, buf.old)) × (result.losses ≡ losses) }
 {
     let wrote = s.write_data(cfg, time, p, buf, ring);
     let stream = wrote.stream;
@@ -83,7 +83,7 @@ pub fn console_turn(
     ring: &mut [u32],
 ) -> Turn
     requires { buf.old ≡ blank }
-    ensures { turn_of result buf.new ring.new ≡ consoleOf s cfg time ring.old load.last waiting }
+    ensures { turn_of result buf.new ring.new ≡ console_of s cfg time ring.old load.last waiting }
 {
     let queued = queue(s, cfg, ring, load);
     let p = begin(waiting, buf);
@@ -99,7 +99,7 @@ pub fn chamber_turn(
     ring: &mut [u32],
 ) -> Turn
     requires { buf.old ≡ blank }
-    ensures { (turn_of result buf.new ring.new ≡ chamberOf s cfg time ring.old) × (result.losses ≡ pollLoss s cfg time) × (result.losses ≤ 1) }
+    ensures { (turn_of result buf.new ring.new ≡ chamber_of s cfg time ring.old) × (result.losses ≡ poll_loss s cfg time) × (result.losses ≤ 1) }
 {
     let told = s.poll(cfg, time);
     let polled = told.stream;
@@ -132,7 +132,7 @@ pub fn carry(
     payload: &[u8],
 ) -> Tally
     requires { length payload.now ≤ limit }
-    ensures { (result ≡ tallied (unread s) (arrivedOf s cfg time ring.now (carried figure line.last payload.now))) × Few result }
+    ensures { (result ≡ tallied (unread s) (arrived_of s cfg time ring.now (carried figure line.last payload.now))) × Few result }
 {
     if line.last % 0x100 < figure {
         return Tally {

@@ -4,12 +4,12 @@ use mathlib.Core.Bool.{true, false}
 use Prim.Native.Nat.{ℕ, ◌+◌, ◌-◌, ◌*◌, ◌^◌, ◌≤◌, ◌<◌}
 use native.Mathlib.Omega.{arith}
 use Rattle.config.specs.Range.{within}
-use Rattle.config.specs.Settings.{checkOf}
+use Rattle.config.specs.Settings.{check_of}
 use Rattle.config.specs.declared.answer.Outcome.TheVariants.{Done}
 use Rattle.config.specs.declared.settings.StreamConfig.{StreamConfig}
-use Rattle.window.specs.Set.{maxWindow}
+use Rattle.window.specs.Set.{max_window}
 use Rattle.link_rules.specs.Link.{Ends, start_of}
-use Rattle.link_rules.specs.Cleared.{newGap, noneMissing}
+use Rattle.link_rules.specs.Cleared.{new_gap, none_missing}
 use Rattle.link_rules.proofs.Bound.{cleared}
 
 -- requests enabled, with this D and M
@@ -17,15 +17,15 @@ abbrev asking : ℕ → ℕ → StreamConfig
 asking D M =
     record { idle_interval_ms = 100; idle_growth = 2; idle_further = 5; fec_repeats = 2; retransmit = true; request_delay_ms = D; max_requests = M; max_command_words = 64 }
 
-every-delay : (D M : ℕ) → checkOf (asking D M) ≡ Done
-unfolding checkOf
-every-delay D M = refl
+every_delay : (D M : ℕ) → check_of (asking D M) ≡ Done
+unfolding check_of
+every_delay D M = refl
 
 -- Where requests are enabled, D is at least 1 and M at most 8: the last new gap up to a step is at g, that step is D × (2^(M+1) - 1) steps after it, and a budget of up to
 -- 65,536 steps lasts so long.
 module _
     (cfg : StreamConfig) (window words places seed drop figure budget g : ℕ)
-    (allowed : checkOf cfg ≡ Done) (size : within 1 maxWindow window ≡ true) (taken : budget ≤ 65536)
+    (allowed : check_of cfg ≡ Done) (size : within 1 max_window window ≡ true) (taken : budget ≤ 65536)
     (enabled : cfg.retransmit ≡ true) (D-some : 1 ≤ cfg.request_delay_ms) (M-few : cfg.max_requests ≤ 8) where
   abbrev start : Ends
   start = start_of window words places seed drop
@@ -33,9 +33,9 @@ module _
   abbrev then : ℕ
   then = g + cfg.request_delay_ms * (2 ^ (cfg.max_requests + 1) - 1)
 
-  as-asked : newGap cfg figure start g ≡ true → ((j : ℕ) → g < j → j ≤ then → newGap cfg figure start j ≡ false) → then < budget → noneMissing cfg figure start then ≡ true
-  as-asked gap none lasts = cleared cfg window words places seed drop figure allowed size enabled D-some g then (omega arith) (omega arith) none
+  as_asked : new_gap cfg figure start g ≡ true → ((j : ℕ) → g < j → j ≤ then → new_gap cfg figure start j ≡ false) → then < budget → none_missing cfg figure start then ≡ true
+  as_asked gap none lasts = cleared cfg window words places seed drop figure allowed size enabled D-some g then (omega arith) (omega arith) none
 
 -- D 128 with M 8, and D 2 with M 13: the bound still lies in a run; with M 16 it does not
-in-a-run : (128 * (2 ^ (8 + 1) - 1) < 65536) × (2 * (2 ^ (13 + 1) - 1) < 65536) × (65536 ≤ 1 * (2 ^ (16 + 1) - 1))
-in-a-run = (omega arith, omega arith, omega arith)
+in_a_run : (128 * (2 ^ (8 + 1) - 1) < 65536) × (2 * (2 ^ (13 + 1) - 1) < 65536) × (65536 ≤ 1 * (2 ^ (16 + 1) - 1))
+in_a_run = (omega arith, omega arith, omega arith)

@@ -9,68 +9,68 @@ use lib.ListN.{length, replicate, length-replicate}
 use borrow.Author.Tests.{leb-true, eqb-true, not-false}
 use Rattle.config.specs.Range.{outside, within}
 use Rattle.config.specs.Sequence.{turn}
-use Rattle.config.specs.Settings.{checkOf}
+use Rattle.config.specs.Settings.{check_of}
 use Rattle.config.specs.declared.answer.Outcome.TheVariants.{Done}
 use Rattle.config.specs.declared.settings.StreamConfig.{StreamConfig}
 use Rattle.config.specs.inner.Tests.{and_left, and_right}
 use Rattle.config.specs.inner.Choices.{or_left, or_right}
 use Rattle.packet.specs.Read.{Item, whole, cut, items_of}
-use Rattle.packet.specs.Write.{written_of, valid_of as payloadValid}
-use Rattle.command.specs.Write.{errorPacket, errorWritten}
+use Rattle.packet.specs.Write.{written_of, valid_of as payload_valid}
+use Rattle.command.specs.Write.{error_packet, error_written}
 use Rattle.command.specs.declared.parse.Command.{Command}
 use Rattle.command.specs.declared.parse.Command.TheVariants.{UmpData, RetransmitRequest, RetransmitError, Raw, Refused as Malformed}
-use Rattle.window.specs.Set.{maxWindow}
-use Rattle.window.proofs.Preserved.{valid-fresh}
+use Rattle.window.specs.Set.{max_window}
+use Rattle.window.proofs.Preserved.{valid_fresh}
 use Rattle.sender.specs.Answers as sender
 use Rattle.sender.specs.declared.sender.RequestOutcome.TheVariants.{Queued, Ignored, Error as ErrorOutcome, NotSupported, Refused as NotTaken}
 use Rattle.sender_log.specs.Book.{nothing}
 use Rattle.sender_log.specs.Calls.{TypedConfig}
-use Rattle.sender_log.proofs.Follows.{start-follows, send-follows, request-follows}
-use Rattle.stream.specs.Answers.{sizesOut}
-use Rattle.stream.specs.Ends.{sendAnswer, requestAnswer, dataAnswer, errorAnswer, pollAnswer}
+use Rattle.sender_log.proofs.Follows.{start_follows, send_follows, request_follows}
+use Rattle.stream.specs.Answers.{sizes_out}
+use Rattle.stream.specs.Ends.{send_answer, request_answer, data_answer, error_answer, poll_answer}
 use Rattle.stream.specs.State.{fresh}
 use Rattle.stream.specs.declared.stream.DataStream.{DataStream}
 use Rattle.load.specs.Load.{next, words_of}
-use Rattle.link_rules.specs.Arriving.{Answer, heard, told, requested, Arrived, commandOf, arrivedBy, itemBy, arrivedOf, errorBy, errorIn}
-use Rattle.link_rules.specs.Link.{Ends, start_of, empty, blank, openedBy, carried, payloadOf, calls_of, step_of, run_of}
+use Rattle.link_rules.specs.Arriving.{Answer, heard, told, requested, Arrived, command_of, arrived_by, item_by, arrived_of, error_by, error_in}
+use Rattle.link_rules.specs.Link.{Ends, start_of, empty, blank, opened_by, carried, payload_of, calls_of, step_of, run_of}
 use Rattle.link_rules.specs.NoneRefused.{refuses, NoneRefuses, Taken, NoneRefused}
 use Rattle.link_rules.specs.declared.run.Waiting.{Waiting}
 use Rattle.link_rules.specs.declared.run.Waiting.TheVariants.{Nothing, Error}
-use Rattle.link_rules.proofs.Room.{Room, written-room, one-fits}
-use Rattle.link_rules.proofs.Sound.{Defined, heard-sound, error-sound, polled-sound, sent-sound, requested-sound, Sound, written-sound}
+use Rattle.link_rules.proofs.Room.{Room, written_room, one_fits}
+use Rattle.link_rules.proofs.Sound.{Defined, heard_sound, error_sound, polled_sound, sent_sound, requested_sound, Sound, written_sound}
 
 -- ---- what an end answers
 
 -- no refusal, and no error but one that can be written
 abbrev Fine : List Answer → Type 0
 Fine [] = Unit {0}
-Fine (a ∷ rest) = (refuses a ≡ false) × Defined (errorBy Nothing a) × Fine rest
+Fine (a ∷ rest) = (refuses a ≡ false) × Defined (error_by Nothing a) × Fine rest
 
-fine-none : (xs : List Answer) → Fine xs → NoneRefuses xs
-fine-none [] f = tt
-fine-none (a ∷ rest) f = (f.0, fine-none rest f.2)
+fine_none : (xs : List Answer) → Fine xs → NoneRefuses xs
+fine_none [] f = tt
+fine_none (a ∷ rest) f = (f.0, fine_none rest f.2)
 
-fine-append : (xs ys : List Answer) → Fine xs → Fine ys → Fine (xs ++ ys)
-fine-append [] ys f g = g
-fine-append (a ∷ xs) ys f g = (f.0, f.1, fine-append xs ys f.2 g)
+fine_append : (xs ys : List Answer) → Fine xs → Fine ys → Fine (xs ++ ys)
+fine_append [] ys f g = g
+fine_append (a ∷ xs) ys f g = (f.0, f.1, fine_append xs ys f.2 g)
 
-error-defined : (w : Waiting) (a : Answer) → Defined w → Defined (errorBy Nothing a) → Defined (errorBy w a)
-error-defined w (heard h) d e = d
-error-defined w (told x) d e = d
-error-defined w (requested Queued) d e = d
-error-defined w (requested (Ignored why)) d e = d
-error-defined w (requested (ErrorOutcome x)) d e = e
-error-defined w (requested NotSupported) d e = d
-error-defined w (requested (NotTaken why)) d e = d
+error_defined : (w : Waiting) (a : Answer) → Defined w → Defined (error_by Nothing a) → Defined (error_by w a)
+error_defined w (heard h) d e = d
+error_defined w (told x) d e = d
+error_defined w (requested Queued) d e = d
+error_defined w (requested (Ignored why)) d e = d
+error_defined w (requested (ErrorOutcome x)) d e = e
+error_defined w (requested NotSupported) d e = d
+error_defined w (requested (NotTaken why)) d e = d
 
-errors-defined : (xs : List Answer) (w : Waiting) → Defined w → Fine xs → Defined (errorIn w xs)
-unfolding errorIn
-errors-defined [] w d f = d
-errors-defined (a ∷ xs) w d f = errors-defined xs (errorBy w a) (error-defined w a d f.1) f.2
+errors_defined : (xs : List Answer) (w : Waiting) → Defined w → Fine xs → Defined (error_in w xs)
+unfolding error_in
+errors_defined [] w d f = d
+errors_defined (a ∷ xs) w d f = errors_defined xs (error_by w a) (error_defined w a d f.1) f.2
 
 -- ---- an end reads
 
-module _ (cfg : StreamConfig) (ok : checkOf cfg ≡ Done) (c q time : ℕ) (ring : List ℕ) where
+module _ (cfg : StreamConfig) (ok : check_of cfg ≡ Done) (c q time : ℕ) (ring : List ℕ) where
   -- and as many words are unwritten as were
   record ArrivedSound (unwritten : ℕ) (a : Arrived) : Type 0 where
     stream : Sound c q a.stream ring
@@ -81,120 +81,120 @@ module _ (cfg : StreamConfig) (ok : checkOf cfg ≡ Done) (c q time : ℕ) (ring
     abbrev S : Arrived → Type 0
     S = ArrivedSound s.sender.unsent_words
 
-    nothing-heard : S (record { stream = s; answers = [] })
-    nothing-heard = record { stream = i; fine = tt; same = refl }
+    nothing_heard : S (record { stream = s; answers = [] })
+    nothing_heard = record { stream = i; fine = tt; same = refl }
 
-    command-sound : (k : Command) → S (arrivedBy s cfg time ring k)
-    unfolding dataAnswer requestAnswer errorAnswer
-    command-sound (UmpData d) =
-        let h = heard-sound cfg ok s.receiver i.window time d.seq in
+    command_sound : (k : Command) → S (arrived_by s cfg time ring k)
+    unfolding data_answer request_answer error_answer
+    command_sound (UmpData d) =
+        let h = heard_sound cfg ok s.receiver i.window time d.seq in
         record { stream = record { book = i.book; follows = i.follows; window = h.0 }; fine = (h.1, tt, tt); same = refl }
-    command-sound (RetransmitRequest r) =
-        let h = requested-sound cfg ok c q s.sender ring i.book i.follows r in
-        record { stream = record { book = _; follows = (request-follows c q s.sender ring i.book i.follows cfg r).0; window = i.window }; fine = (h.0, h.1, tt); same = h.2 }
-    command-sound (RetransmitError x) =
-        let h = error-sound cfg ok s.receiver i.window x in
+    command_sound (RetransmitRequest r) =
+        let h = requested_sound cfg ok c q s.sender ring i.book i.follows r in
+        record { stream = record { book = _; follows = (request_follows c q s.sender ring i.book i.follows cfg r).0; window = i.window }; fine = (h.0, h.1, tt); same = h.2 }
+    command_sound (RetransmitError x) =
+        let h = error_sound cfg ok s.receiver i.window x in
         record { stream = record { book = i.book; follows = i.follows; window = h.0 }; fine = (h.1, tt, tt); same = refl }
-    command-sound (Raw h) = nothing-heard
-    command-sound (Malformed why) = nothing-heard
+    command_sound (Raw h) = nothing_heard
+    command_sound (Malformed why) = nothing_heard
 
-    item-sound : (x : Item) → S (itemBy s cfg time ring x)
-    item-sound (whole at k) = command-sound (commandOf k)
-    item-sound (cut h) = nothing-heard
+    item_sound : (x : Item) → S (item_by s cfg time ring x)
+    item_sound (whole at k) = command_sound (command_of k)
+    item_sound (cut h) = nothing_heard
 
-  arrived-sound : (items : List Item) (s : DataStream) → Sound c q s ring → ArrivedSound s.sender.unsent_words (arrivedOf s cfg time ring items)
-  unfolding arrivedOf
-  arrived-sound [] s i = nothing-heard s i
-  arrived-sound (x ∷ items) s i =
-      let a = item-sound s i x in
-      let b = arrived-sound items (itemBy s cfg time ring x).stream a.stream in
-      record { stream = b.stream; fine = fine-append (itemBy s cfg time ring x).answers (arrivedOf (itemBy s cfg time ring x).stream cfg time ring items).answers a.fine b.fine; same = b.same ∙ a.same }
+  arrived_sound : (items : List Item) (s : DataStream) → Sound c q s ring → ArrivedSound s.sender.unsent_words (arrived_of s cfg time ring items)
+  unfolding arrived_of
+  arrived_sound [] s i = nothing_heard s i
+  arrived_sound (x ∷ items) s i =
+      let a = item_sound s i x in
+      let b = arrived_sound items (item_by s cfg time ring x).stream a.stream in
+      record { stream = b.stream; fine = fine_append (item_by s cfg time ring x).answers (arrived_of (item_by s cfg time ring x).stream cfg time ring items).answers a.fine b.fine; same = b.same ∙ a.same }
 
 -- ---- the console's payload
 
-opened-empty : Room empty blank
-unfolding payloadValid
-opened-empty = let l : length blank ≡ 1400 = length-replicate {A = ℕ} 1400 0 in record { max = refl; lent = l; valid = refl }
+opened_empty : Room empty blank
+unfolding payload_valid
+opened_empty = let l : length blank ≡ 1400 = length-replicate {A = ℕ} 1400 0 in record { max = refl; lent = l; valid = refl }
 
 record OpenedSound (w : Waiting) : Type 0 where
-  answer : (openedBy w).0.answer ≡ Done
-  room : Room (openedBy w).0.payload (openedBy w).1
-  short : (openedBy w).0.payload.len ≤ 12
+  answer : (opened_by w).0.answer ≡ Done
+  room : Room (opened_by w).0.payload (opened_by w).1
+  short : (opened_by w).0.payload.len ≤ 12
 
-opened-sound : (w : Waiting) → Defined w → OpenedSound w
-unfolding errorWritten
-opened-sound Nothing d = record { answer = refl; room = opened-empty; short = omega arith }
-opened-sound (Error e) d =
-    let f = one-fits empty blank (errorPacket e) opened-empty (omega arith) (omega arith) in
-    let g : errorWritten e empty blank ≡ written_of empty blank (errorPacket e) = rw (opened-empty.valid, d) in
+opened_sound : (w : Waiting) → Defined w → OpenedSound w
+unfolding error_written
+opened_sound Nothing d = record { answer = refl; room = opened_empty; short = omega arith }
+opened_sound (Error e) d =
+    let f = one_fits empty blank (error_packet e) opened_empty (omega arith) (omega arith) in
+    let g : error_written e empty blank ≡ written_of empty blank (error_packet e) = rw (opened_empty.valid, d) in
     let h = g ∙ f in
-    record { answer = rw h; room = rw g (written-room empty blank (errorPacket e) opened-empty); short = rw h (omega arith) }
+    record { answer = rw h; room = rw g (written_room empty blank (error_packet e) opened_empty); short = rw h (omega arith) }
 
 -- ---- a step
 
-module _ (cfg : StreamConfig) (ok : checkOf cfg ≡ Done) (typed : TypedConfig cfg) (c q figure : ℕ) where
+module _ (cfg : StreamConfig) (ok : check_of cfg ≡ Done) (typed : TypedConfig cfg) (c q figure : ℕ) where
   record Sane (e : Ends) : Type 0 where
-    console : Sound c q e.console e.consoleRing
-    chamber : Sound c q e.chamber e.chamberRing
+    console : Sound c q e.console e.console_ring
+    chamber : Sound c q e.chamber e.chamber_ring
     waiting : Defined e.waiting
     -- 16 words of the console's history are free of unwritten ones
     calm : e.console.sender.unsent_words + 16 ≤ c
 
-  queued-sound : (s : DataStream) (ring : List ℕ) → Sound c q s ring → s.sender.unsent_words + 16 ≤ c → (x : ℕ)
-      → (let a = sendAnswer s cfg ring (words_of x) in Sound c q a.0.stream a.1 × (a.0.answer ≡ Done))
-  unfolding sendAnswer
-  queued-sound s ring i calm x = (
-    record { book = _; follows = (send-follows c q s.sender ring i.book i.follows cfg (words_of x)).0; window = i.window },
-    sent-sound cfg ok c q s.sender ring i.book i.follows x calm,
+  queued_sound : (s : DataStream) (ring : List ℕ) → Sound c q s ring → s.sender.unsent_words + 16 ≤ c → (x : ℕ)
+      → (let a = send_answer s cfg ring (words_of x) in Sound c q a.0.stream a.1 × (a.0.answer ≡ Done))
+  unfolding send_answer
+  queued_sound s ring i calm x = (
+    record { book = _; follows = (send_follows c q s.sender ring i.book i.follows cfg (words_of x)).0; window = i.window },
+    sent_sound cfg ok c q s.sender ring i.book i.follows x calm,
   )
 
-  step-sane : (e : Ends) → Sane e → Taken (calls_of cfg figure e) × Sane (step_of cfg figure e)
-  unfolding calls_of step_of pollAnswer
-  step-sane e i =
+  step_sane : (e : Ends) → Sane e → Taken (calls_of cfg figure e) × Sane (step_of cfg figure e)
+  unfolding calls_of step_of poll_answer
+  step_sane e i =
       let time : ℕ = e.steps in
       let k = calls_of cfg figure e in
-      let queued = queued-sound e.console e.consoleRing i.console i.calm (next e.load) in
-      let opened = opened-sound e.waiting i.waiting in
-      let wrote = written-sound cfg ok typed c q time k.queued.0.stream k.queued.1 queued.0 k.opened.0.payload k.opened.1 opened.room opened.short in
-      let heard = arrived-sound cfg ok c q time e.chamberRing (carried figure (next e.line) (payloadOf k.wrote)) e.chamber i.chamber in
-      let polled = polled-sound cfg ok k.heard.stream.receiver heard.stream.window time in
-      let after : Sound c q k.polled.stream e.chamberRing = record { book = heard.stream.book; follows = heard.stream.follows; window = polled.0 } in
-      let replied = written-sound cfg ok typed c q time k.polled.stream e.chamberRing after empty blank opened-empty (omega arith) in
-      let read = arrived-sound cfg ok c q time k.wrote.2 (items_of (payloadOf k.replied)) k.wrote.0.stream wrote.stream in (
+      let queued = queued_sound e.console e.console_ring i.console i.calm (next e.load) in
+      let opened = opened_sound e.waiting i.waiting in
+      let wrote = written_sound cfg ok typed c q time k.queued.0.stream k.queued.1 queued.0 k.opened.0.payload k.opened.1 opened.room opened.short in
+      let heard = arrived_sound cfg ok c q time e.chamber_ring (carried figure (next e.line) (payload_of k.wrote)) e.chamber i.chamber in
+      let polled = polled_sound cfg ok k.heard.stream.receiver heard.stream.window time in
+      let after : Sound c q k.polled.stream e.chamber_ring = record { book = heard.stream.book; follows = heard.stream.follows; window = polled.0 } in
+      let replied = written_sound cfg ok typed c q time k.polled.stream e.chamber_ring after empty blank opened_empty (omega arith) in
+      let read = arrived_sound cfg ok c q time k.wrote.2 (items_of (payload_of k.replied)) k.wrote.0.stream wrote.stream in (
         record {
           queued = queued.1;
           opened = opened.answer;
           wrote = wrote.answer;
-          heard = fine-none k.heard.answers heard.fine;
+          heard = fine_none k.heard.answers heard.fine;
           polled = polled.1;
           replied = replied.answer;
-          read = fine-none k.read.answers read.fine;
+          read = fine_none k.read.answers read.fine;
         },
-        record { console = read.stream; chamber = replied.stream; waiting = errors-defined k.read.answers Nothing tt read.fine; calm = omega (arith, read.same, wrote.calm) },
+        record { console = read.stream; chamber = replied.stream; waiting = errors_defined k.read.answers Nothing tt read.fine; calm = omega (arith, read.same, wrote.calm) },
       )
 
-  run-sane : (e : Ends) → Sane e → (n : ℕ) → Sane (run_of cfg figure e n)
+  run_sane : (e : Ends) → Sane e → (n : ℕ) → Sane (run_of cfg figure e n)
   unfolding run_of
-  run-sane e i zero = i
-  run-sane e i (suc n) = (step-sane (run_of cfg figure e n) (run-sane e i n)).1
+  run_sane e i zero = i
+  run_sane e i (suc n) = (step_sane (run_of cfg figure e n) (run_sane e i n)).1
 
 -- ---- a start
 
-start-sound : (window words places : ℕ) (ring : List ℕ) → sizesOut window words places ring ≡ false → Sound words places (fresh window words places) (replicate words 0)
-unfolding sender.newAnswer
-start-sound window words places ring e =
-    let o = or_right (outside 1 maxWindow window) _ e in
-    let w = not-false (within 1 maxWindow window) (or_left _ _ e) in
+start_sound : (window words places : ℕ) (ring : List ℕ) → sizes_out window words places ring ≡ false → Sound words places (fresh window words places) (replicate words 0)
+unfolding sender.new_answer
+start_sound window words places ring e =
+    let o = or_right (outside 1 max_window window) _ e in
+    let w = not-false (within 1 max_window window) (or_left _ _ e) in
     let l : length ring ≡ words = eqb-true _ _ (not-false _ (or_left (not (eqb (length ring) words)) _ (or_right (outside 65 32768 words) _ o))) in
-    let f = start-follows words places ring (rw o) in
+    let f = start_follows words places ring (rw o) in
     record {
       book = nothing;
       follows = rw (o, l) at f;
-      window = valid-fresh window (turn - 1) (leb-true _ _ (and_left (leb 1 window) _ w)) (leb-true _ _ (and_right (leb 1 window) _ w));
+      window = valid_fresh window (turn - 1) (leb-true _ _ (and_left (leb 1 window) _ w)) (leb-true _ _ (and_right (leb 1 window) _ w));
     }
 
-pub none-refused : NoneRefused
-none-refused cfg window words places seed drop figure ring ok typed sizes n =
-    let s = start-sound window words places ring sizes in
-    let i = run-sane cfg ok typed words places figure (start_of window words places seed drop) record { console = s; chamber = s; waiting = tt; calm = omega (arith, s.follows.least) } n in
-    (step-sane cfg ok typed words places figure (run_of cfg figure (start_of window words places seed drop) n) i).0
+pub none_refused : NoneRefused
+none_refused cfg window words places seed drop figure ring ok typed sizes n =
+    let s = start_sound window words places ring sizes in
+    let i = run_sane cfg ok typed words places figure (start_of window words places seed drop) record { console = s; chamber = s; waiting = tt; calm = omega (arith, s.follows.least) } n in
+    (step_sane cfg ok typed words places figure (run_of cfg figure (start_of window words places seed drop) n) i).0

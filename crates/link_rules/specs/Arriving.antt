@@ -3,20 +3,20 @@ use Rattle.std.specs.Prelude.{ℕ, ◌+◌, Bool, false, cond, ◌||◌, List, [
 use Rattle.config.specs.declared.settings.StreamConfig.{StreamConfig}
 use Rattle.packet.specs.Layout.{Packet}
 use Rattle.packet.specs.Read.{header, Item, whole, cut}
-use Rattle.command.specs.Parse.{parsedOf}
+use Rattle.command.specs.Parse.{parsed_of}
 use Rattle.command.specs.declared.parse.Command.{Command}
 use Rattle.command.specs.declared.parse.Command.TheVariants.{UmpData, RetransmitRequest, RetransmitError, Raw, Refused as Malformed}
 use Rattle.window.specs.declared.window.Span.{Span}
 use Rattle.window.specs.declared.window.Span.TheVariants.{Nothing as NoSpan, Of}
-use Rattle.receiver.specs.Receiver.{isGap}
-use Rattle.receiver.specs.Messages.{handsOn}
+use Rattle.receiver.specs.Receiver.{is_gap}
+use Rattle.receiver.specs.Messages.{hands_on}
 use Rattle.receiver.specs.declared.receiver.Hearing.{Hearing}
 use Rattle.receiver.specs.declared.receiver.Hearing.TheVariants.{Delivery as Delivered, Refused as NotHeard}
 use Rattle.receiver.specs.declared.receiver.StreamEvent.{StreamEvent}
 use Rattle.receiver.specs.declared.receiver.StreamEvent.TheVariants.{Nothing as NoEvent, DataLoss, ErrorLoss, RetransmitError as ErrorOnly, Refused as NotTold}
 use Rattle.sender.specs.declared.sender.RequestOutcome.{RequestOutcome}
 use Rattle.sender.specs.declared.sender.RequestOutcome.TheVariants.{Queued, Ignored, Error, NotSupported, Refused as NotTaken}
-use Rattle.stream.specs.Ends.{dataAnswer, requestAnswer, errorAnswer}
+use Rattle.stream.specs.Ends.{data_answer, request_answer, error_answer}
 use Rattle.stream.specs.declared.stream.DataStream.{DataStream}
 use Rattle.link_rules.specs.declared.run.Waiting.{Waiting}
 use Rattle.link_rules.specs.declared.run.Waiting.TheVariants.{Error as WaitingError}
@@ -37,89 +37,89 @@ pub record Arrived : Type 0 where
 abbrev pub nothing : DataStream → Arrived
 nothing s = record { stream = s; answers = [] }
 
-abbrev pub commandOf : Packet → Command
-commandOf c = parsedOf (header c.code (length c.words) c.csd1 c.csd2) c.words
+abbrev pub command_of : Packet → Command
+command_of c = parsed_of (header c.code (length c.words) c.csd1 c.csd2) c.words
 
-abbrev pub arrivedBy : DataStream → StreamConfig → ℕ → List ℕ → Command → Arrived
-arrivedBy s cfg time ring (UmpData d) =
-    let h = dataAnswer s cfg time d.seq in record { stream = h.stream; answers = heard h.answer ∷ [] }
-arrivedBy s cfg time ring (RetransmitRequest q) =
-    let h = requestAnswer s cfg ring q in record { stream = h.stream; answers = requested h.outcome ∷ [] }
-arrivedBy s cfg time ring (RetransmitError e) =
-    let h = errorAnswer s e in record { stream = h.stream; answers = told h.event ∷ [] }
-arrivedBy s cfg time ring (Raw h) = nothing s
-arrivedBy s cfg time ring (Malformed why) = nothing s
+abbrev pub arrived_by : DataStream → StreamConfig → ℕ → List ℕ → Command → Arrived
+arrived_by s cfg time ring (UmpData d) =
+    let h = data_answer s cfg time d.seq in record { stream = h.stream; answers = heard h.answer ∷ [] }
+arrived_by s cfg time ring (RetransmitRequest q) =
+    let h = request_answer s cfg ring q in record { stream = h.stream; answers = requested h.outcome ∷ [] }
+arrived_by s cfg time ring (RetransmitError e) =
+    let h = error_answer s e in record { stream = h.stream; answers = told h.event ∷ [] }
+arrived_by s cfg time ring (Raw h) = nothing s
+arrived_by s cfg time ring (Malformed why) = nothing s
 
-abbrev pub itemBy : DataStream → StreamConfig → ℕ → List ℕ → Item → Arrived
-itemBy s cfg time ring (whole at c) = arrivedBy s cfg time ring (commandOf c)
-itemBy s cfg time ring (cut h) = nothing s
+abbrev pub item_by : DataStream → StreamConfig → ℕ → List ℕ → Item → Arrived
+item_by s cfg time ring (whole at c) = arrived_by s cfg time ring (command_of c)
+item_by s cfg time ring (cut h) = nothing s
 
 abbrev pub behind : List Answer → Arrived → Arrived
 behind before a = record { stream = a.stream; answers = before ++ a.answers }
 
 -- a payload's items, one after the other, at `time`
-unfoldable pub arrivedOf : DataStream → StreamConfig → ℕ → List ℕ → List Item → Arrived
-arrivedOf s cfg time ring [] = nothing s
-arrivedOf s cfg time ring (i ∷ items) =
-    let a = itemBy s cfg time ring i in
-    behind a.answers (arrivedOf a.stream cfg time ring items)
+unfoldable pub arrived_of : DataStream → StreamConfig → ℕ → List ℕ → List Item → Arrived
+arrived_of s cfg time ring [] = nothing s
+arrived_of s cfg time ring (i ∷ items) =
+    let a = item_by s cfg time ring i in
+    behind a.answers (arrived_of a.stream cfg time ring items)
 
 -- ---- what is counted of the answers
 
 -- commands handed on: those answered New or Late
-abbrev pub handedBy : Answer → ℕ
-handedBy (heard (Delivered d)) = cond (handsOn d.class) 1 0
-handedBy (heard (NotHeard why)) = 0
-handedBy (told e) = 0
-handedBy (requested o) = 0
+abbrev pub handed_by : Answer → ℕ
+handed_by (heard (Delivered d)) = cond (hands_on d.class) 1 0
+handed_by (heard (NotHeard why)) = 0
+handed_by (told e) = 0
+handed_by (requested o) = 0
 
-unfoldable pub handedIn : List Answer → ℕ
-handedIn [] = 0
-handedIn (a ∷ rest) = handedBy a + handedIn rest
+unfoldable pub handed_in : List Answer → ℕ
+handed_in [] = 0
+handed_in (a ∷ rest) = handed_by a + handed_in rest
 
 -- losses reported, each once, however many numbers it has
-abbrev pub spanLoss : Span → ℕ
-spanLoss NoSpan = 0
-spanLoss (Of range) = 1
+abbrev pub span_loss : Span → ℕ
+span_loss NoSpan = 0
+span_loss (Of range) = 1
 
-abbrev pub eventLoss : StreamEvent → ℕ
-eventLoss NoEvent = 0
-eventLoss (DataLoss range) = 1
-eventLoss (ErrorLoss range e) = 1
-eventLoss (ErrorOnly e) = 0
-eventLoss (NotTold why) = 0
+abbrev pub event_loss : StreamEvent → ℕ
+event_loss NoEvent = 0
+event_loss (DataLoss range) = 1
+event_loss (ErrorLoss range e) = 1
+event_loss (ErrorOnly e) = 0
+event_loss (NotTold why) = 0
 
-abbrev pub lossBy : Answer → ℕ
-lossBy (heard (Delivered d)) = spanLoss d.lost
-lossBy (heard (NotHeard why)) = 0
-lossBy (told e) = eventLoss e
-lossBy (requested o) = 0
+abbrev pub loss_by : Answer → ℕ
+loss_by (heard (Delivered d)) = span_loss d.lost
+loss_by (heard (NotHeard why)) = 0
+loss_by (told e) = event_loss e
+loss_by (requested o) = 0
 
-unfoldable pub lossesIn : List Answer → ℕ
-lossesIn [] = 0
-lossesIn (a ∷ rest) = lossBy a + lossesIn rest
+unfoldable pub losses_in : List Answer → ℕ
+losses_in [] = 0
+losses_in (a ∷ rest) = loss_by a + losses_in rest
 
 -- a new gap is among them
-abbrev pub gapBy : Answer → Bool
-gapBy (heard (Delivered d)) = isGap d.class
-gapBy (heard (NotHeard why)) = false
-gapBy (told e) = false
-gapBy (requested o) = false
+abbrev pub gap_by : Answer → Bool
+gap_by (heard (Delivered d)) = is_gap d.class
+gap_by (heard (NotHeard why)) = false
+gap_by (told e) = false
+gap_by (requested o) = false
 
-unfoldable pub gapIn : List Answer → Bool
-gapIn [] = false
-gapIn (a ∷ rest) = gapBy a || gapIn rest
+unfoldable pub gap_in : List Answer → Bool
+gap_in [] = false
+gap_in (a ∷ rest) = gap_by a || gap_in rest
 
 -- The error answered waits for the next payload, the last of several; but a stream writes at most one request into a payload. NotSupported sends nothing.
-abbrev pub errorBy : Waiting → Answer → Waiting
-errorBy w (heard h) = w
-errorBy w (told e) = w
-errorBy w (requested Queued) = w
-errorBy w (requested (Ignored why)) = w
-errorBy w (requested (Error e)) = WaitingError e
-errorBy w (requested NotSupported) = w
-errorBy w (requested (NotTaken why)) = w
+abbrev pub error_by : Waiting → Answer → Waiting
+error_by w (heard h) = w
+error_by w (told e) = w
+error_by w (requested Queued) = w
+error_by w (requested (Ignored why)) = w
+error_by w (requested (Error e)) = WaitingError e
+error_by w (requested NotSupported) = w
+error_by w (requested (NotTaken why)) = w
 
-unfoldable pub errorIn : Waiting → List Answer → Waiting
-errorIn w [] = w
-errorIn w (a ∷ rest) = errorIn (errorBy w a) rest
+unfoldable pub error_in : Waiting → List Answer → Waiting
+error_in w [] = w
+error_in w (a ∷ rest) = error_in (error_by w a) rest

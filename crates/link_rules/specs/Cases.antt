@@ -1,8 +1,8 @@
 -- Runs computed from the definition, each with what it reports: steps done, commands handed on, losses.
 use Rattle.std.specs.Prelude.{ℕ, ◌≡◌, Bool, true, false, replicate}
 use Rattle.config.specs.declared.settings.StreamConfig.{StreamConfig}
-use Rattle.link_rules.specs.Link.{start_of, runAnswer}
-use Rattle.link_rules.specs.Cleared.{newGap, noneMissing, boundOf}
+use Rattle.link_rules.specs.Link.{start_of, run_answer}
+use Rattle.link_rules.specs.Cleared.{new_gap, none_missing, bound_of}
 use Rattle.link_rules.specs.declared.run.Ran.{Ran}
 use Rattle.link_rules.specs.declared.run.Ran.TheVariants.{Done}
 
@@ -13,7 +13,7 @@ settings T1 R D M size =
 
 -- settings, W, both seeds, figure and budget; C 65, Q 1
 abbrev pub ran : StreamConfig → ℕ → ℕ → ℕ → ℕ → ℕ → Ran
-ran cfg window seed drop figure budget = (runAnswer cfg window 65 1 seed drop figure budget (replicate 65 0) (replicate 65 0)).0
+ran cfg window seed drop figure budget = (run_answer cfg window 65 1 seed drop figure budget (replicate 65 0) (replicate 65 0)).0
 
 abbrev pub reported : ℕ → ℕ → ℕ → Ran
 reported steps handed losses = Done record { steps = steps; handed = handed; losses = losses }
@@ -22,11 +22,11 @@ reported steps handed losses = Done record { steps = steps; handed = handed; los
 abbrev pub patient : StreamConfig
 patient = settings 100 0 2 1 64
 
-abbrev pub gapAt : ℕ → Bool
-gapAt k = newGap patient 128 (start_of 2 65 1 172 123) k
+abbrev pub gap_at : ℕ → Bool
+gap_at k = new_gap patient 128 (start_of 2 65 1 172 123) k
 
-abbrev pub clearAt : ℕ → Bool
-clearAt k = noneMissing patient 128 (start_of 2 65 1 172 123) k
+abbrev pub clear_at : ℕ → Bool
+clear_at k = none_missing patient 128 (start_of 2 65 1 172 123) k
 
 pub record Runs : Type 0 where
   -- no step
@@ -39,8 +39,8 @@ pub record Runs : Type 0 where
   pub error : ran (settings 100 0 2 1 64) 14 333 223 200 14 ≡ reported 14 2 1
   -- The command that a request brings is dropped, and a poll reports the loss: at the bound, and no step before.
   pub asks : ran patient 2 172 123 128 10 ≡ reported 10 1 1
-  pub bound : boundOf patient ≡ 6
-  pub gap : gapAt 2 ≡ true
-  pub no_gaps : (gapAt 3 ≡ false) × (gapAt 4 ≡ false) × (gapAt 5 ≡ false) × (gapAt 6 ≡ false) × (gapAt 7 ≡ false) × (gapAt 8 ≡ false)
-  pub before : clearAt 7 ≡ false
-  pub then : clearAt 8 ≡ true
+  pub bound : bound_of patient ≡ 6
+  pub gap : gap_at 2 ≡ true
+  pub no_gaps : (gap_at 3 ≡ false) × (gap_at 4 ≡ false) × (gap_at 5 ≡ false) × (gap_at 6 ≡ false) × (gap_at 7 ≡ false) × (gap_at 8 ≡ false)
+  pub before : clear_at 7 ≡ false
+  pub then : clear_at 8 ≡ true

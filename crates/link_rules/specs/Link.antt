@@ -1,25 +1,25 @@
 -- 02, 7/14, "Trying settings on a pretend link": a console, a line and a chamber in steps of 1 ms.
 use Rattle.std.specs.Prelude.{ℕ, zero, suc, ◌+◌, ◌%◌, Bool, cond, ◌||◌, List, [], replicate, ltb}
-use Rattle.config.specs.Settings.{checkOf, tested}
+use Rattle.config.specs.Settings.{check_of, tested}
 use Rattle.config.specs.declared.refusal.Refusal.{Refusal}
 use Rattle.config.specs.declared.refusal.Refusal.TheVariants.{SizeNotAllowed}
 use Rattle.config.specs.declared.settings.StreamConfig.{StreamConfig}
 use Rattle.packet.specs.Read.{Item, items_of}
-use Rattle.packet.specs.Write.{bytesIn}
+use Rattle.packet.specs.Write.{bytes_in}
 use Rattle.packet.specs.declared.writer.PayloadWriter.{PayloadWriter}
 use Rattle.config.specs.declared.answer.Outcome.TheVariants.{Done as OutcomeDone}
 use Rattle.packet.specs.declared.writer.Wrote.{Wrote as Opened}
-use Rattle.command.specs.Write.{errorWritten}
+use Rattle.command.specs.Write.{error_written}
 use Rattle.stream.specs.State.{fresh}
-use Rattle.stream.specs.Answers.{sizesOut}
-use Rattle.stream.specs.Ends.{sendAnswer, pollAnswer}
-use Rattle.stream.specs.Writing.{writeAnswer}
+use Rattle.stream.specs.Answers.{sizes_out}
+use Rattle.stream.specs.Ends.{send_answer, poll_answer}
+use Rattle.stream.specs.Writing.{write_answer}
 use Rattle.stream.specs.declared.stream.DataStream.{DataStream}
 use Rattle.stream.specs.declared.stream.Sent.{Sent}
 use Rattle.stream.specs.declared.stream.Told.{Told}
 use Rattle.stream.specs.declared.stream.Wrote.{Wrote}
 use Rattle.load.specs.Load.{next, words_of}
-use Rattle.link_rules.specs.Arriving.{Arrived, arrivedOf, handedIn, lossesIn, eventLoss, errorIn}
+use Rattle.link_rules.specs.Arriving.{Arrived, arrived_of, handed_in, losses_in, event_loss, error_in}
 use Rattle.link_rules.specs.declared.run.Waiting.{Waiting}
 use Rattle.link_rules.specs.declared.run.Waiting.TheVariants.{Nothing, Error}
 use Rattle.link_rules.specs.declared.run.Ran.{Ran}
@@ -30,9 +30,9 @@ use Rattle.link_rules.specs.declared.run.Ran.TheVariants.{Done, Refused}
 -- both ends, each a stream with its lent history
 pub record Ends : Type 0 where
   pub console : DataStream
-  pub consoleRing : List ℕ
+  pub console_ring : List ℕ
   pub chamber : DataStream
-  pub chamberRing : List ℕ
+  pub chamber_ring : List ℕ
   -- the error that stands first in the console's next payload
   pub waiting : Waiting
   -- the last values drawn, at first the seeds
@@ -48,9 +48,9 @@ abbrev pub start_of : ℕ → ℕ → ℕ → ℕ → ℕ → Ends
 start_of window words places seed drop =
     record {
       console = fresh window words places;
-      consoleRing = replicate words 0;
+      console_ring = replicate words 0;
       chamber = fresh window words places;
-      chamberRing = replicate words 0;
+      chamber_ring = replicate words 0;
       waiting = Nothing;
       load = seed;
       line = drop;
@@ -72,13 +72,13 @@ abbrev pub blank : List ℕ
 blank = replicate limit 0
 
 -- a payload with its buffer: empty, or with the error that waits
-abbrev pub openedBy : Waiting → Opened × List ℕ
-openedBy Nothing = (record { payload = empty; answer = OutcomeDone }, blank)
-openedBy (Error e) = errorWritten e empty blank
+abbrev pub opened_by : Waiting → Opened × List ℕ
+opened_by Nothing = (record { payload = empty; answer = OutcomeDone }, blank)
+opened_by (Error e) = error_written e empty blank
 
 -- the bytes that a write leaves in its payload
-abbrev pub payloadOf : Wrote × List ℕ × List ℕ → List ℕ
-payloadOf w = bytesIn w.0.payload w.1
+abbrev pub payload_of : Wrote × List ℕ × List ℕ → List ℕ
+payload_of w = bytes_in w.0.payload w.1
 
 -- the line drops a payload when its draw modulo 256 is below the figure, and else carries it
 abbrev pub carried : ℕ → ℕ → List ℕ → List Item
@@ -108,13 +108,13 @@ pub record Calls : Type 0 where
 unfoldable pub calls_of : StreamConfig → ℕ → Ends → Calls
 calls_of cfg figure e =
     let time : ℕ = e.steps in
-    let queued = sendAnswer e.console cfg e.consoleRing (words_of (next e.load)) in
-    let opened = openedBy e.waiting in
-    let wrote = writeAnswer queued.0.stream cfg time opened.0.payload opened.1 queued.1 in
-    let heard = arrivedOf e.chamber cfg time e.chamberRing (carried figure (next e.line) (payloadOf wrote)) in
-    let polled = pollAnswer heard.stream cfg time in
-    let replied = writeAnswer polled.stream cfg time empty blank e.chamberRing in
-    let read = arrivedOf wrote.0.stream cfg time wrote.2 (items_of (payloadOf replied)) in
+    let queued = send_answer e.console cfg e.console_ring (words_of (next e.load)) in
+    let opened = opened_by e.waiting in
+    let wrote = write_answer queued.0.stream cfg time opened.0.payload opened.1 queued.1 in
+    let heard = arrived_of e.chamber cfg time e.chamber_ring (carried figure (next e.line) (payload_of wrote)) in
+    let polled = poll_answer heard.stream cfg time in
+    let replied = write_answer polled.stream cfg time empty blank e.chamber_ring in
+    let read = arrived_of wrote.0.stream cfg time wrote.2 (items_of (payload_of replied)) in
     record { queued = queued; opened = opened; wrote = wrote; heard = heard; polled = polled; replied = replied; read = read }
 
 -- an error the console answers waits for its next payload; commands handed on and losses are the chamber's
@@ -123,15 +123,15 @@ step_of cfg figure e =
     let c = calls_of cfg figure e in
     record {
       console = c.read.stream;
-      consoleRing = c.wrote.2;
+      console_ring = c.wrote.2;
       chamber = c.replied.0.stream;
-      chamberRing = c.replied.2;
-      waiting = errorIn Nothing c.read.answers;
+      chamber_ring = c.replied.2;
+      waiting = error_in Nothing c.read.answers;
       load = next e.load;
       line = next e.line;
       steps = e.steps + 1;
-      handed = e.handed + handedIn c.heard.answers;
-      losses = e.losses + lossesIn c.heard.answers + eventLoss c.polled.event;
+      handed = e.handed + handed_in c.heard.answers;
+      losses = e.losses + losses_in c.heard.answers + event_loss c.polled.event;
     }
 
 -- ---- a run
@@ -142,21 +142,21 @@ run_of cfg figure e zero = e
 run_of cfg figure e (suc n) = step_of cfg figure (run_of cfg figure e n)
 
 -- the largest step budget
-abbrev pub mostSteps : ℕ
-mostSteps = 65536
+abbrev pub most_steps : ℕ
+most_steps = 65536
 
 -- sizes that a start does not take, with either lent history, or a budget above 65,536: 12
-abbrev pub refusesSizes : ℕ → ℕ → ℕ → ℕ → List ℕ → List ℕ → Bool
-refusesSizes window words places budget ring other =
-    sizesOut window words places ring || (sizesOut window words places other || ltb mostSteps budget)
+abbrev pub refuses_sizes : ℕ → ℕ → ℕ → ℕ → List ℕ → List ℕ → Bool
+refuses_sizes window words places budget ring other =
+    sizes_out window words places ring || (sizes_out window words places other || ltb most_steps budget)
 
 -- steps done, commands handed on and losses reported, with both lent histories
-abbrev pub reportOf : Ends → Ran × List ℕ × List ℕ
-reportOf e = (Done record { steps = e.steps; handed = e.handed; losses = e.losses }, e.consoleRing, e.chamberRing)
+abbrev pub report_of : Ends → Ran × List ℕ × List ℕ
+report_of e = (Done record { steps = e.steps; handed = e.handed; losses = e.losses }, e.console_ring, e.chamber_ring)
 
 -- 9, 7, 8, then 12; a run that is refused changes nothing
-unfoldable pub runAnswer : StreamConfig → ℕ → ℕ → ℕ → ℕ → ℕ → ℕ → ℕ → List ℕ → List ℕ → Ran × List ℕ × List ℕ
-runAnswer cfg window words places seed drop figure budget ring other =
-    tested (checkOf cfg) (λ (why : Refusal). (Refused why, ring, other))
-    (cond (refusesSizes window words places budget ring other) (Refused SizeNotAllowed, ring, other)
-    (reportOf (run_of cfg figure (start_of window words places seed drop) budget)))
+unfoldable pub run_answer : StreamConfig → ℕ → ℕ → ℕ → ℕ → ℕ → ℕ → ℕ → List ℕ → List ℕ → Ran × List ℕ × List ℕ
+run_answer cfg window words places seed drop figure budget ring other =
+    tested (check_of cfg) (λ (why : Refusal). (Refused why, ring, other))
+    (cond (refuses_sizes window words places budget ring other) (Refused SizeNotAllowed, ring, other)
+    (report_of (run_of cfg figure (start_of window words places seed drop) budget)))

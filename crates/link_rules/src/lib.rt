@@ -7,7 +7,7 @@
 //   run        `Ran` and `Report`, what a run answers; `Waiting`, the error for the console's next payload
 //   theorems   `steps_done`, `none_refused`, `cleared`, `cases`: each function does nothing, and its contract is the theorem
 //
-// specs/Link.antt has a step's calls in order (`calls_of`), the step, the run and its answer (`runAnswer`), which
+// specs/Link.antt has a step's calls in order (`calls_of`), the step, the run and its answer (`run_answer`), which
 // refuses with 9, 7, 8, then 12 for sizes or a budget above 65,536; specs/Arriving.antt has what an end does with a
 // payload and what is counted of its answers; specs/Cases.antt has runs computed.
 pub mod run;

@@ -1,8 +1,8 @@
 -- What is counted while an end reads a payload.
 use Rattle.std.specs.Prelude.{ℕ, ◌+◌, ◌≤◌, List, length, drop}
-use Rattle.packet.specs.Read.{Item, itemsFrom}
+use Rattle.packet.specs.Read.{Item, items_from}
 use Rattle.stream.specs.declared.stream.DataStream.{DataStream}
-use Rattle.link_rules.specs.Arriving.{Arrived, handedIn, lossesIn, errorIn}
+use Rattle.link_rules.specs.Arriving.{Arrived, handed_in, losses_in, error_in}
 use Rattle.link_tally.specs.declared.arriving.Tally.{Tally}
 use Rattle.link_rules.specs.declared.run.Waiting.TheVariants.{Nothing}
 
@@ -20,11 +20,11 @@ abbrev pub tallied : Tally → Arrived → Tally
 tallied a x =
     record {
       stream = x.stream;
-      waiting = errorIn a.waiting x.answers;
-      handed = a.handed + handedIn x.answers;
-      losses = a.losses + lossesIn x.answers;
+      waiting = error_in a.waiting x.answers;
+      handed = a.handed + handed_in x.answers;
+      losses = a.losses + losses_in x.answers;
     }
 
 -- the items of a payload from a place on
 unfoldable pub rest_at : List ℕ → ℕ → List Item
-rest_at b at = itemsFrom (length b) at (drop at b)
+rest_at b at = items_from (length b) at (drop at b)

@@ -1,11 +1,11 @@
 // An end reads a payload: data is heard, a request is answered, an error is told, other commands pass.
 ghost use Rattle.std.specs.Prelude.{◌≡◌, ◌≤◌, cond, [], length};
-ghost use Rattle.receiver.specs.Messages.{handsOn};
+ghost use Rattle.receiver.specs.Messages.{hands_on};
 ghost use Rattle.packet.specs.Bytes.{words_of};
 ghost use Rattle.packet.specs.Read.{items_of};
-ghost use Rattle.command.specs.Parse.{parsedOf};
+ghost use Rattle.command.specs.Parse.{parsed_of};
 ghost use Rattle.command.specs.declared.parse.Command.TheVariants.{UmpData as UmpDataOf, RetransmitRequest as RequestOf, RetransmitError as ErrorOf};
-ghost use Rattle.link_rules.specs.Arriving.{requested, spanLoss, eventLoss, errorBy, arrivedBy, arrivedOf};
+ghost use Rattle.link_rules.specs.Arriving.{requested, span_loss, event_loss, error_by, arrived_by, arrived_of};
 ghost use Rattle.link_tally.specs.Tally.{Few, rest_at, tallied, unread};
 
 use command::data::UmpData;
@@ -33,7 +33,7 @@ pub struct Tally {
 
 // Whether a span is a loss, as a count.
 fn span_loss(span: Span) -> u32
-    ensures { (result ≡ spanLoss span) × (result ≤ 1) }
+    ensures { (result ≡ span_loss span) × (result ≤ 1) }
 {
     match span {
         Span::Nothing => 0,
@@ -43,7 +43,7 @@ fn span_loss(span: Span) -> u32
 
 // Whether an event is a loss, as a count.
 pub fn event_loss(event: StreamEvent) -> u32
-    ensures { (result ≡ eventLoss event) × (result ≤ 1) }
+    ensures { (result ≡ event_loss event) × (result ≤ 1) }
 {
     match event {
         StreamEvent::Nothing => 0,
@@ -56,7 +56,7 @@ pub fn event_loss(event: StreamEvent) -> u32
 
 // The error that waits after a request was answered.
 fn error_after(waiting: Waiting, outcome: RequestOutcome) -> Waiting
-    ensures { result ≡ errorBy waiting (requested outcome) }
+    ensures { result ≡ error_by waiting (requested outcome) }
 {
     match outcome {
         RequestOutcome::Queued => waiting,
@@ -69,7 +69,7 @@ fn error_after(waiting: Waiting, outcome: RequestOutcome) -> Waiting
 
 // Commands handed on by one of this class.
 fn hands_on(class: Class) -> u32
-    ensures { (result ≡ cond (handsOn class) 1 0) × (result ≤ 1) }
+    ensures { (result ≡ cond (hands_on class) 1 0) × (result ≤ 1) }
 {
     if delivers(class) {
         return 1;
@@ -80,7 +80,7 @@ fn hands_on(class: Class) -> u32
 // A data command.
 fn hear(a: Tally, cfg: StreamConfig, time: u64, data: UmpData) -> Tally
     requires { Few a }
-    ensures { result ≡ tallied a (arrivedBy a.stream cfg time [] (UmpDataOf «data»)) }
+    ensures { result ≡ tallied a (arrived_by a.stream cfg time [] (UmpDataOf «data»)) }
 {
     let before = a.stream;
     let waiting = a.waiting;
@@ -109,7 +109,7 @@ fn hear(a: Tally, cfg: StreamConfig, time: u64, data: UmpData) -> Tally
 
 // A Retransmit Request.
 fn request(a: Tally, cfg: StreamConfig, ring: &[u32], req: RetransmitRequest) -> Tally
-    ensures { result ≡ tallied a (arrivedBy a.stream cfg 0 ring.now (RequestOf req)) }
+    ensures { result ≡ tallied a (arrived_by a.stream cfg 0 ring.now (RequestOf req)) }
 {
     let before = a.stream;
     let waiting = a.waiting;
@@ -127,7 +127,7 @@ fn request(a: Tally, cfg: StreamConfig, ring: &[u32], req: RetransmitRequest) ->
 // A Retransmit Error.
 fn error(a: Tally, cfg: StreamConfig, err: RetransmitError) -> Tally
     requires { Few a }
-    ensures { result ≡ tallied a (arrivedBy a.stream cfg 0 [] (ErrorOf err)) }
+    ensures { result ≡ tallied a (arrived_by a.stream cfg 0 [] (ErrorOf err)) }
 {
     let before = a.stream;
     let waiting = a.waiting;
@@ -145,7 +145,7 @@ fn error(a: Tally, cfg: StreamConfig, err: RetransmitError) -> Tally
 // One command.
 fn command(a: Tally, cfg: StreamConfig, time: u64, ring: &[u32], c: Command) -> Tally
     requires { Few a }
-    ensures { result ≡ tallied a (arrivedBy a.stream cfg time ring.now c) }
+    ensures { result ≡ tallied a (arrived_by a.stream cfg time ring.now c) }
 {
     match c {
         Command::UmpData(d) => hear(a, cfg, time, d),
@@ -159,7 +159,7 @@ fn command(a: Tally, cfg: StreamConfig, time: u64, ring: &[u32], c: Command) -> 
 // The commands of a payload that has the signature, one after the other.
 fn walk(first: Tally, cfg: StreamConfig, time: u64, ring: &[u32], payload: &[u8]) -> Tally
     requires { (length payload.now ≤ 1400) × (first.handed ≡ 0) × (first.losses ≡ 0) }
-    ensures { (result ≡ tallied first (arrivedOf first.stream cfg time ring.now (rest_at payload.now 4))) × Few result }
+    ensures { (result ≡ tallied first (arrived_of first.stream cfg time ring.now (rest_at payload.now 4))) × Few result }
 {
     let mut a = first;
     let mut at = 4;
@@ -193,7 +193,7 @@ fn walk(first: Tally, cfg: StreamConfig, time: u64, ring: &[u32], payload: &[u8]
 // A payload; nothing is read without the signature.
 pub fn arrive(s: DataStream, cfg: StreamConfig, time: u64, ring: &[u32], payload: &[u8]) -> Tally
     requires { length payload.now ≤ 1400 }
-    ensures { (result ≡ tallied (unread s) (arrivedOf s cfg time ring.now (items_of payload.now))) × Few result }
+    ensures { (result ≡ tallied (unread s) (arrived_of s cfg time ring.now (items_of payload.now))) × Few result }
 {
     let none = Tally {
         stream: s,

@@ -8,11 +8,11 @@ idle x h = rw (ne_eqb (x / 2 ^ 31 % 2) 1 (λ z. let w : ⊥ = omega (arith, z) i
 
 pub sending : (x : ℕ) → x < 4294967296 → 8 ≤ x / 268435456 → x / 268435456 % 8 + 1 ≡ count_of x
 unfolding count_of
-sending x b h = rw (eq-eqb (x / 2 ^ 31 % 2) 1 (omega arith)) refl
+sending x b h = rw (eq_eqb (x / 2 ^ 31 % 2) 1 (omega arith)) refl
 
-pub count-le : (x : ℕ) → count_of x ≤ 8
+pub count_le : (x : ℕ) → count_of x ≤ 8
 unfolding count_of
-count-le x = go (sends x)
+count_le x = go (sends x)
   where
     go : (t : Bool) → cond t (x / 2 ^ 28 % 8 + 1) 0 ≤ 8
     go true = omega arith

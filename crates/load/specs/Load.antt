@@ -39,21 +39,21 @@ words_of x = replicate (count_of x) word
 
 -- ---- how many binary digits a number has: none for 0, and else one more than its half. A number n has no more than n of them, so n is
 -- enough to look at.
-unfoldable pub digitsIn : ℕ → ℕ → ℕ
-digitsIn zero n = zero
-digitsIn (suc f) zero = zero
-digitsIn (suc f) (suc n) = suc (digitsIn f (suc n / 2))
+unfoldable pub digits_in : ℕ → ℕ → ℕ
+digits_in zero n = zero
+digits_in (suc f) zero = zero
+digits_in (suc f) (suc n) = suc (digits_in f (suc n / 2))
 
-unfoldable pub digitsOf : ℕ → ℕ
-digitsOf n = digitsIn n n
+unfoldable pub digits_of : ℕ → ℕ
+digits_of n = digits_in n n
 
 -- ---- the calls
-abbrev pub drawOf : Load → Load
-drawOf s = record { last = next s.last }
+abbrev pub draw_of : Load → Load
+draw_of s = record { last = next s.last }
 
 -- drawing n at one step equals n single draws; a round for each binary digit of n
-abbrev pub jumpOf : Load → ℕ → Jump
-jumpOf s n = record { load = record { last = drawn n s.last }; rounds = digitsOf n }
+abbrev pub jump_of : Load → ℕ → Jump
+jump_of s n = record { load = record { last = drawn n s.last }; rounds = digits_of n }
 
 -- the words are the first `count`
 abbrev pub asked_of : Load → Words

@@ -1,7 +1,7 @@
 -- What holds of the load over whole lists of calls.
 use Rattle.std.specs.Prelude.{◌≡◌, ℕ, ◌+◌, ◌*◌, ◌^◌, ◌<◌, ◌≤◌, List, [], ◌∷◌, ◌++◌, take, slice_index}
 use Rattle.load.specs.declared.load.Load.{Load}
-use Rattle.load.specs.Load.{next, drawn, values_of, words_of, digitsOf, drawOf, jumpOf, asked_of}
+use Rattle.load.specs.Load.{next, drawn, values_of, words_of, digits_of, draw_of, jump_of, asked_of}
 
 -- ---- lists of calls
 pub data Call : Type 0 where
@@ -10,8 +10,8 @@ pub data Call : Type 0 where
 
 -- the load after a call, by that call's definition
 abbrev pub after : Call → Load → Load
-after draw s = drawOf s
-after (jump n) s = (jumpOf s n).load
+after draw s = draw_of s
+after (jump n) s = (jump_of s n).load
 
 -- how many draws a call stands for
 abbrev pub draws : Call → ℕ
@@ -32,7 +32,7 @@ pub record MadeAgain : Type 0 where
   -- whatever the calls, the load is where as many single draws lead
   pub calls : (cs : List Call) (seed : ℕ) → run cs record { last = seed } ≡ record { last = drawn (total cs) seed }
   -- n draws and then m are n + m
-  pub in-turn : (n m seed : ℕ) → drawn m (drawn n seed) ≡ drawn (n + m) seed
+  pub in_turn_lem : (n m seed : ℕ) → drawn m (drawn n seed) ≡ drawn (n + m) seed
   -- the values of a seed, in order: the one at place k comes with draw k + 1
   pub value : (n k seed : ℕ) → k < n → slice_index (values_of n seed) k ≡ drawn (k + 1) seed
   -- after n draws come the values that follow the seed's first n
@@ -46,7 +46,7 @@ pub record MadeAgain : Type 0 where
 -- ---- rounds
 pub record FewRounds : Type 0 where
   -- a count of at most 65,535 has at most 16 binary digits
-  pub few : (s : Load) (n : ℕ) → n ≤ 65535 → (jumpOf s n).rounds ≤ 16
+  pub few : (s : Load) (n : ℕ) → n ≤ 65535 → (jump_of s n).rounds ≤ 16
   -- so many digits reach past the number, and one digit less does not
-  pub enough : (n : ℕ) → n < 2 ^ digitsOf n
-  pub needed : (n : ℕ) → 0 < n → 2 ^ digitsOf n ≤ 2 * n
+  pub enough : (n : ℕ) → n < 2 ^ digits_of n
+  pub needed : (n : ℕ) → 0 < n → 2 ^ digits_of n ≤ 2 * n

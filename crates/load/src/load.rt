@@ -1,6 +1,6 @@
 // The load: its values, and what the last one asks to send.
 ghost use Rattle.std.specs.Prelude.{◌≡◌, ◌+◌, ◌*◌, ◌%◌, ◌^◌, if◌then◌else◌, nat_eq};
-ghost use Rattle.load.specs.Load.{drawOf, jumpOf, asked_of};
+ghost use Rattle.load.specs.Load.{draw_of, jump_of, asked_of};
 
 // A value is the last one times this ..
 const TIMES: u32 = 1664525;
@@ -65,7 +65,7 @@ fn if_odd(a: u32, b: u32, x: u32, left: u16) -> u32
 impl Load {
     // One draw.
     pub fn draw(self) -> Load
-        ensures { result ≡ drawOf self }
+        ensures { result ≡ draw_of self }
     {
         Load {
             last: mapped(TIMES, PLUS, self.last),
@@ -75,7 +75,7 @@ impl Load {
     // n draws at one step. Each round halves what is left to draw: two turns of x * a + b are one of another
     // such map.
     pub fn jump(self, n: u16) -> Jump
-        ensures { result ≡ jumpOf self n }
+        ensures { result ≡ jump_of self n }
     {
         let mut a = TIMES;
         let mut b = PLUS;

@@ -10,11 +10,11 @@ use lib.Seq.{take_all}
 use lib.Dec.{ltb, leb, eqb}
 use Rattle.config.specs.Range.{within, outside}
 use mathlib.Core.Logic.{◌⊎◌, inl, inr}
-use Rattle.config.specs.inner.Ranges.{outside-not, not-outside}
+use Rattle.config.specs.inner.Ranges.{outside_not, not_outside}
 use Rattle.config.specs.inner.Tests.{split, and_left, and_right}
 use Rattle.sheet_blocks.specs.Bytes.{spliced}
-use Rattle.sheet_blocks.specs.Records.{allRecords, isBlock, rows}
-use Rattle.loss_sheet.specs.Sheet.{all_below, stateOk, fresh, start_of, taken_of, answer_of, arrivals, block_of, pushedAll, sheetBytes, held}
+use Rattle.sheet_blocks.specs.Records.{all_records, is_block, rows}
+use Rattle.loss_sheet.specs.Sheet.{all_below, state_ok, fresh, start_of, taken_of, answer_of, arrivals, block_of, pushed_all, sheet_bytes, held}
 use Rattle.loss_sheet.specs.inner.Fits.{Good}
 use Rattle.loss_sheet.specs.declared.sheet.Sheet.{Sheet}
 use Rattle.loss_sheet.specs.declared.sheet.Answered.{Answered}
@@ -22,88 +22,88 @@ use Rattle.loss_sheet.specs.declared.sheet.Answered.{Answered}
 -- ---- the state test
 
 pub head_first : (h l n : ℕ) → h ≡ 0 → true ≡ (eqb h 0 || eqb l n)
-head_first h l n e = rw (eq-eqb h 0 e)
+head_first h l n e = rw (eq_eqb h 0 e)
 
-pub head-later : (h l n : ℕ) → (h ≡ 0 → ⊥) → eqb l n ≡ (eqb h 0 || eqb l n)
-head-later h l n e = rw (ne_eqb h 0 e)
+pub head_later : (h l n : ℕ) → (h ≡ 0 → ⊥) → eqb l n ≡ (eqb h 0 || eqb l n)
+head_later h l n e = rw (ne_eqb h 0 e)
 
 module _ (s : Sheet) (b : List ℕ) where
-  pub state-ring : (length b ≡ s.n → ⊥) → false ≡ stateOk s b
-  unfolding stateOk
-  state-ring h = rw (ne_eqb (length b) s.n h)
+  pub state_ring : (length b ≡ s.n → ⊥) → false ≡ state_ok s b
+  unfolding state_ok
+  state_ring h = rw (ne_eqb (length b) s.n h)
 
   module _ (r : length b ≡ s.n) where
-    pub state-head : s.n ≤ s.head → false ≡ stateOk s b
-    unfolding stateOk
-    state-head h = rw (eq-eqb (length b) s.n r, le-ltb s.head s.n h)
+    pub state_head : s.n ≤ s.head → false ≡ state_ok s b
+    unfolding state_ok
+    state_head h = rw (eq_eqb (length b) s.n r, le-ltb s.head s.n h)
 
     module _ (i : s.head < s.n) where
-      pub state-len : s.n < s.len → false ≡ stateOk s b
-      unfolding stateOk
-      state-len h = rw (eq-eqb (length b) s.n r, lt-ltb s.head s.n i, lt-leb s.len s.n h)
+      pub state_len : s.n < s.len → false ≡ state_ok s b
+      unfolding state_ok
+      state_len h = rw (eq_eqb (length b) s.n r, lt-ltb s.head s.n i, lt-leb s.len s.n h)
 
       module _ (l : s.len ≤ s.n) where
-        pub state-first : (eqb s.head 0 || eqb s.len s.n) ≡ false → false ≡ stateOk s b
-        unfolding stateOk
-        state-first h = rw (eq-eqb (length b) s.n r, lt-ltb s.head s.n i, le-leb s.len s.n l, h)
+        pub state_first : (eqb s.head 0 || eqb s.len s.n) ≡ false → false ≡ state_ok s b
+        unfolding state_ok
+        state_first h = rw (eq_eqb (length b) s.n r, lt-ltb s.head s.n i, le-leb s.len s.n l, h)
 
         module _ (f : (eqb s.head 0 || eqb s.len s.n) ≡ true) where
-          pub state-words : all_below 196608 (take s.len b) ≡ false → false ≡ stateOk s b
-          unfolding stateOk
-          state-words h = rw (eq-eqb (length b) s.n r, lt-ltb s.head s.n i, le-leb s.len s.n l, f, h)
+          pub state_words : all_below 196608 (take s.len b) ≡ false → false ≡ state_ok s b
+          unfolding state_ok
+          state_words h = rw (eq_eqb (length b) s.n r, lt-ltb s.head s.n i, le-leb s.len s.n l, f, h)
 
-          pub state-rest : (t : Bool) → all_below 196608 (take s.len b) ≡ true → t ≡ all_below 1 (drop s.len b) → t ≡ stateOk s b
-          unfolding stateOk
-          state-rest t h e = rw (eq-eqb (length b) s.n r, lt-ltb s.head s.n i, le-leb s.len s.n l, f, h) e
+          pub state_rest : (t : Bool) → all_below 196608 (take s.len b) ≡ true → t ≡ all_below 1 (drop s.len b) → t ≡ state_ok s b
+          unfolding state_ok
+          state_rest t h e = rw (eq_eqb (length b) s.n r, lt-ltb s.head s.n i, le-leb s.len s.n l, f, h) e
 
 -- what a part up to the end is
-pub state-part : (b : List ℕ) (l : ℕ) (t : Bool) → t ≡ all_below 1 (take (length b - l) (drop l b)) → t ≡ all_below 1 (drop l b)
-state-part b l t e = e ∙ rw (take_all (length b - l) (drop l b) (rw length-drop (omega arith)))
+pub state_part : (b : List ℕ) (l : ℕ) (t : Bool) → t ≡ all_below 1 (take (length b - l) (drop l b)) → t ≡ all_below 1 (drop l b)
+state_part b l t e = e ∙ rw (take_all (length b - l) (drop l b) (rw length-drop (omega arith)))
 
 -- ---- the answers
 
 module _ (s : Sheet) (b bs : List ℕ) (room : ℕ) where
-  pub answer-12 : outside 1 4096 s.n ≡ true → 12 ≡ answer_of s b bs room
+  pub answer_12 : outside 1 4096 s.n ≡ true → 12 ≡ answer_of s b bs room
   unfolding answer_of
-  answer-12 o = rw o
+  answer_12 o = rw o
 
   module _ (o : outside 1 4096 s.n ≡ false) where
-    pub answer-13 : stateOk s b ≡ false → 13 ≡ answer_of s b bs room
+    pub answer_13 : state_ok s b ≡ false → 13 ≡ answer_of s b bs room
     unfolding answer_of
-    answer-13 t = rw (o, t)
+    answer_13 t = rw (o, t)
 
-    module _ (t : stateOk s b ≡ true) where
-      pub answer-16 : isBlock (length bs) room ≡ false → 16 ≡ answer_of s b bs room
+    module _ (t : state_ok s b ≡ true) where
+      pub answer_16 : is_block (length bs) room ≡ false → 16 ≡ answer_of s b bs room
       unfolding answer_of taken_of
-      answer-16 i = rw (o, t, i)
+      answer_16 i = rw (o, t, i)
 
-      module _ (i : isBlock (length bs) room ≡ true) where
-        pub answer-17 : allRecords bs (rows bs) 0 ≡ false → 17 ≡ answer_of s b bs room
+      module _ (i : is_block (length bs) room ≡ true) where
+        pub answer_17 : all_records bs (rows bs) 0 ≡ false → 17 ≡ answer_of s b bs room
         unfolding answer_of taken_of
-        answer-17 r = rw (o, t, i, r)
+        answer_17 r = rw (o, t, i, r)
 
-        pub answer-0 : allRecords bs (rows bs) 0 ≡ true → 0 ≡ answer_of s b bs room
+        pub answer_0 : all_records bs (rows bs) 0 ≡ true → 0 ≡ answer_of s b bs room
         unfolding answer_of taken_of
-        answer-0 r = rw (o, t, i, r)
+        answer_0 r = rw (o, t, i, r)
 
 none_of : (o t : Bool) (k : ℕ) → cond o 12 (cond t k 13) ≡ 0 → (o ≡ false) × (t ≡ true) × (k ≡ 0)
 none_of true t k e = absurd (let z : ⊥ = omega arith in z)
 none_of false true k e = (refl, refl, e)
 none_of false false k e = absurd (let z : ⊥ = omega arith in z)
 
-neither-of : (i r : Bool) → ◌≡◌ {A = ℕ} (cond i (cond r 0 17) 16) 0 → (i ≡ true) × (r ≡ true)
-neither-of true true e = (refl, refl)
-neither-of true false e = absurd (let z : ⊥ = omega arith in z)
-neither-of false r e = absurd (let z : ⊥ = omega arith in z)
+neither_of : (i r : Bool) → ◌≡◌ {A = ℕ} (cond i (cond r 0 17) 16) 0 → (i ≡ true) × (r ≡ true)
+neither_of true true e = (refl, refl)
+neither_of true false e = absurd (let z : ⊥ = omega arith in z)
+neither_of false r e = absurd (let z : ⊥ = omega arith in z)
 
-pub taken-both : (bs : List ℕ) (room : ℕ) → taken_of bs room ≡ 0 → (isBlock (length bs) room ≡ true) × (allRecords bs (rows bs) 0 ≡ true)
+pub taken_both : (bs : List ℕ) (room : ℕ) → taken_of bs room ≡ 0 → (is_block (length bs) room ≡ true) × (all_records bs (rows bs) 0 ≡ true)
 unfolding taken_of
-taken-both bs room e = neither-of (isBlock (length bs) room) (allRecords bs (rows bs) 0) e
+taken_both bs room e = neither_of (is_block (length bs) room) (all_records bs (rows bs) 0) e
 
-pub answered-none : (s : Sheet) (b bs : List ℕ) (room : ℕ) → answer_of s b bs room ≡ 0
-    → (outside 1 4096 s.n ≡ false) × (stateOk s b ≡ true) × (taken_of bs room ≡ 0)
+pub answered_none : (s : Sheet) (b bs : List ℕ) (room : ℕ) → answer_of s b bs room ≡ 0
+    → (outside 1 4096 s.n ≡ false) × (state_ok s b ≡ true) × (taken_of bs room ≡ 0)
 unfolding answer_of
-answered-none s b bs room e = none_of (outside 1 4096 s.n) (stateOk s b) (taken_of bs room) e
+answered_none s b bs room e = none_of (outside 1 4096 s.n) (state_ok s b) (taken_of bs room) e
 
 either : (h l n : ℕ) → (eqb h 0 || eqb l n) ≡ true → l < n → h ≡ 0
 either h l n e k = by (split (eqb h 0))
@@ -113,15 +113,15 @@ either h l n e k = by (split (eqb h 0))
     by (inr p) = absurd (let q : l ≡ n = eqb-true l n (rw p at e) in let z : ⊥ = omega arith in z)
 
 -- a state that passes the tests
-pub good : (s : Sheet) (b : List ℕ) → outside 1 4096 s.n ≡ false → stateOk s b ≡ true → Good s b
-unfolding stateOk
+pub good : (s : Sheet) (b : List ℕ) → outside 1 4096 s.n ≡ false → state_ok s b ≡ true → Good s b
+unfolding state_ok
 good s b o t =
     let t₁ = and_right (eqb (length b) s.n) _ t in
     let t₂ = and_right (ltb s.head s.n) _ t₁ in
     let t₃ = and_right (leb s.len s.n) _ t₂ in
     record {
       ring = eqb-true (length b) s.n (and_left (eqb (length b) s.n) _ t);
-      most = (not-outside 1 4096 s.n o).1;
+      most = (not_outside 1 4096 s.n o).1;
       inside = ltb-true s.head s.n (and_left (ltb s.head s.n) _ t₁);
       room = leb-true s.len s.n (and_left (leb s.len s.n) _ t₂);
       first = either s.head s.len s.n (and_left (eqb s.head 0 || eqb s.len s.n) _ t₃);
@@ -130,18 +130,18 @@ good s b o t =
 -- ---- the start
 
 module _ (n : ℕ) (b : List ℕ) where
-  pub start-size : (a : ℕ) → a ≡ 12 → outside 1 4096 n ≡ true → (record { sheet = fresh n; refusal = a }, b) ≡ start_of n b
+  pub start_size : (a : ℕ) → a ≡ 12 → outside 1 4096 n ≡ true → (record { sheet = fresh n; refusal = a }, b) ≡ start_of n b
   unfolding start_of
-  start-size a e o = rw (not-true (within 1 4096 n) o, e)
+  start_size a e o = rw (not_true (within 1 4096 n) o, e)
 
   module _ (o : outside 1 4096 n ≡ false) where
-    pub start-ring : (a : ℕ) → a ≡ 12 → (length b ≡ n → ⊥) → (record { sheet = fresh n; refusal = a }, b) ≡ start_of n b
+    pub start_ring : (a : ℕ) → a ≡ 12 → (length b ≡ n → ⊥) → (record { sheet = fresh n; refusal = a }, b) ≡ start_of n b
     unfolding start_of
-    start-ring a e h = rw (outside-not 1 4096 n o, ne_eqb (length b) n h, e)
+    start_ring a e h = rw (outside_not 1 4096 n o, ne_eqb (length b) n h, e)
 
     pub started : (b' : List ℕ) → length b ≡ n → b' ≡ replicate (length b) 0 → (record { sheet = fresh n; refusal = 0 }, b') ≡ start_of n b
     unfolding start_of
-    started b' h e = rw (outside-not 1 4096 n o, eq-eqb (length b) n h) (ap (λ (l : List ℕ). (record { sheet = fresh n; refusal = 0 }, l)) (e ∙ ap (λ (k : ℕ). replicate k 0) h))
+    started b' h e = rw (outside_not 1 4096 n o, eq_eqb (length b) n h) (ap (λ (l : List ℕ). (record { sheet = fresh n; refusal = 0 }, l)) (e ∙ ap (λ (k : ℕ). replicate k 0) h))
 
 -- ---- the block
 
@@ -150,16 +150,16 @@ module _ (s : Sheet) (b bs o : List ℕ) (a : ℕ) (e : a ≡ answer_of s b bs (
   unfolding block_of
   block_refused h = rw (← e, ne_eqb a 0 h)
 
-  pub block-done : (s' : Sheet) (b' o' : List ℕ) → a ≡ 0 → (s', b') ≡ pushedAll s b (arrivals bs)
-      → o' ≡ spliced o 0 (sheetBytes s.n (held s b) (arrivals bs))
+  pub block_done : (s' : Sheet) (b' o' : List ℕ) → a ≡ 0 → (s', b') ≡ pushed_all s b (arrivals bs)
+      → o' ≡ spliced o 0 (sheet_bytes s.n (held s b) (arrivals bs))
       → (record { sheet = s'; refusal = 0 }, b', o') ≡ block_of s b bs o
   unfolding block_of
-  block-done s' b' o' h p q = rw (← e, eq-eqb a 0 h, ← p, ← q)
+  block_done s' b' o' h p q = rw (← e, eq_eqb a 0 h, ← p, ← q)
 
-  pub done-good : a ≡ 0 → Good s b
-  done-good h =
-      let k = answered-none s b bs (length o) (sym e ∙ h) in
+  pub done_good : a ≡ 0 → Good s b
+  done_good h =
+      let k = answered_none s b bs (length o) (sym e ∙ h) in
       good s b k.0 k.1
 
-  pub done-block : a ≡ 0 → isBlock (length bs) (length o) ≡ true
-  done-block h = (taken-both bs (length o) (answered-none s b bs (length o) (sym e ∙ h)).2).0
+  pub done_block : a ≡ 0 → is_block (length bs) (length o) ≡ true
+  done_block h = (taken_both bs (length o) (answered_none s b bs (length o) (sym e ∙ h)).2).0

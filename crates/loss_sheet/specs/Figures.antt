@@ -17,8 +17,8 @@ losses (w ∷ ws) = w % 65536 + losses ws
 unfoldable pub figures : List ℕ → Figures
 figures ws = record { new = classes 0 ws; late = classes 1 ws; duplicate = classes 2 ws; lost = losses ws }
 
-unfoldable pub figureBytes : Figures → List ℕ
-figureBytes f = word_bytes f.new (word_bytes f.late (word_bytes f.duplicate (word_bytes f.lost [])))
+unfoldable pub figure_bytes : Figures → List ℕ
+figure_bytes f = word_bytes f.new (word_bytes f.late (word_bytes f.duplicate (word_bytes f.lost [])))
 
 -- ---- one word more, and one less
 

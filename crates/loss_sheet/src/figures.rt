@@ -1,7 +1,7 @@
 // Figures over words of class * 65,536 + loss count.
 ghost use Rattle.std.specs.Prelude.{◌≡◌, cond, ℕ, ◌*◌, ◌+◌, ◌≤◌, ◌<◌, length};
 ghost use Rattle.sheet_blocks.specs.Bytes.{spliced};
-ghost use Rattle.loss_sheet.specs.Figures.{figures, plus, minus, figureBytes};
+ghost use Rattle.loss_sheet.specs.Figures.{figures, plus, minus, figure_bytes};
 ghost use Rattle.loss_sheet.specs.inner.Fits.{Few, Within};
 
 use sheet_blocks::bytes::put_word;
@@ -72,7 +72,7 @@ pub fn of(words: &[u32]) -> Figures
 // Stores the four figures from index `at`.
 pub fn put(out: &mut [u8], at: usize, f: Figures)
     requires { at + 16 ≤ length out.old }
-    ensures { out.new ≡ spliced out.old at (figureBytes f) }
+    ensures { out.new ≡ spliced out.old at (figure_bytes f) }
 {
     put_word(out, at, f.new);
     put_word(out, at + 4, f.late);

@@ -4,7 +4,7 @@ ghost use Rattle.sheet_blocks.specs.Bytes.{spliced};
 ghost use Rattle.loss_sheet.specs.Figures.{figures};
 ghost use Rattle.loss_sheet.specs.inner.Fits.{Good};
 ghost use Rattle.sheet_blocks.specs.Records.{entries};
-ghost use Rattle.loss_sheet.specs.Sheet.{all_below, stateOk, answer_of, start_of, block_of, next_of, pushed, pushedAll, held, sheetBytes};
+ghost use Rattle.loss_sheet.specs.Sheet.{all_below, state_ok, answer_of, start_of, block_of, next_of, pushed, pushed_all, held, sheet_bytes};
 
 use super::figures;
 use super::figures::Figures;
@@ -130,8 +130,8 @@ fn push(g: Running, ring: &mut [u32], w: u32) -> Running
 // The figures of a block's `k` records, each over the last `n` arrivals up to it.
 fn run(s: Sheet, ring: &mut [u32], block: &[u8], k: usize, out: &mut [u8]) -> Sheet
     requires { Good s ring.old × (16 * k ≤ length block.now) × (16 * k ≤ length out.old) × (k ≤ 4096) }
-    ensures { ((result, ring.new) ≡ pushedAll s ring.old (entries block.now k 0))
-        × (out.new ≡ spliced out.old 0 (sheetBytes s.n (held s ring.old) (entries block.now k 0))) }
+    ensures { ((result, ring.new) ≡ pushed_all s ring.old (entries block.now k 0))
+        × (out.new ≡ spliced out.old 0 (sheet_bytes s.n (held s ring.old) (entries block.now k 0))) }
 {
     let used = s.len;
     let mut g = Running {
@@ -162,7 +162,7 @@ impl Sheet {
 
     // The state test, over the lent ring.
     fn state_ok(self, ring: &[u32]) -> bool
-        ensures { result ≡ stateOk self ring.now }
+        ensures { result ≡ state_ok self ring.now }
     {
         let len = self.len;
         if ring.len() != self.n {

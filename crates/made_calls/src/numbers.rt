@@ -1,6 +1,6 @@
 // What a C function answers, as an entry of the table of answers: its numbers say which.
 ghost use Rattle.std.specs.Prelude.{◌≡◌};
-ghost use Rattle.made_calls.specs.Numbers.{outcomeEntry, deadlineEntry, deliveryEntry, eventEntry};
+ghost use Rattle.made_calls.specs.Numbers.{outcome_entry, deadline_entry, delivery_entry, event_entry};
 
 use c_answers::answers::{CDeadline, CDelivery, CEvent, COutcome, CRequest, CWants, CWritten};
 use script::answers;
@@ -16,7 +16,7 @@ pub fn written(w: CWritten, len: u64) -> Answer {
 }
 
 pub fn outcome(o: COutcome) -> Answer
-    ensures { result ≡ outcomeEntry o }
+    ensures { result ≡ outcome_entry o }
 {
     made(
         o.refusal,
@@ -34,7 +34,7 @@ pub fn taken(r: CRequest) -> Answer {
 }
 
 pub fn deadline(d: CDeadline) -> Answer
-    ensures { result ≡ deadlineEntry d }
+    ensures { result ≡ deadline_entry d }
 {
     made(
         d.refusal,
@@ -48,7 +48,7 @@ pub fn wants(w: CWants) -> Answer {
 
 // The class, the numbers skipped, and the loss that it brings.
 pub fn delivery(d: CDelivery) -> Answer
-    ensures { result ≡ deliveryEntry d }
+    ensures { result ≡ delivery_entry d }
 {
     made(
         d.refusal,
@@ -73,7 +73,7 @@ pub fn delivery_last(d: CDelivery, seq: u64) -> Answer {
 }
 
 pub fn event(e: CEvent) -> Answer
-    ensures { result ≡ eventEntry e }
+    ensures { result ≡ event_entry e }
 {
     made(
         e.refusal,

@@ -1,10 +1,10 @@
 // A message by its first word.
 ghost use Rattle.std.specs.Prelude.{◌≡◌};
-ghost use Rattle.notes.specs.Notes.{isOurs, isOn, isOff, note_of};
+ghost use Rattle.notes.specs.Notes.{is_ours, is_on, is_off, note_of};
 
 // Whether it is of type 2 and of the group, with note and velocity bytes at most 7F.
 pub fn is_ours(group: u32, first: u32) -> bool
-    ensures { result ≡ isOurs group first }
+    ensures { result ≡ is_ours group first }
 {
     if first / 0x1000_0000 != 2 {
         return false;
@@ -20,7 +20,7 @@ pub fn is_ours(group: u32, first: u32) -> bool
 
 // Status 9 with velocity above 0.
 pub fn is_on(first: u32) -> bool
-    ensures { result ≡ isOn first }
+    ensures { result ≡ is_on first }
 {
     if first / 0x10_0000 % 0x10 != 9 {
         return false;
@@ -30,7 +30,7 @@ pub fn is_on(first: u32) -> bool
 
 // Status 8, or 9 with velocity 0.
 pub fn is_off(first: u32) -> bool
-    ensures { result ≡ isOff first }
+    ensures { result ≡ is_off first }
 {
     if first / 0x10_0000 % 0x10 == 8 {
         return true;

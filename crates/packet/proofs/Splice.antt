@@ -9,52 +9,52 @@ use lib.ListN.{length, set, take, drop, length-append, take-append-drop}
 use lib.Seq.{sets, sets-eq, length-sets, take_at, drop_at, take-append-le, length-take-le, take_all}
 use Rattle.packet.specs.Bytes.{spliced}
 
-sets-append : (b : List ℕ) (i k : ℕ) (xs ys : List ℕ) → i + length xs ≡ k → sets (sets b i xs) k ys ≡ sets b i (xs ++ ys)
-sets-append b i k [] ys e = let here : k ≡ i = omega arith in rw here
-sets-append b i k (x ∷ xs) ys e = sets-append (set b i x) (suc i) k xs ys (omega arith)
+sets_append : (b : List ℕ) (i k : ℕ) (xs ys : List ℕ) → i + length xs ≡ k → sets (sets b i xs) k ys ≡ sets b i (xs ++ ys)
+sets_append b i k [] ys e = let here : k ≡ i = omega arith in rw here
+sets_append b i k (x ∷ xs) ys e = sets_append (set b i x) (suc i) k xs ys (omega arith)
 
 module _ (b : List ℕ) (i : ℕ) (xs : List ℕ) (fits : i + length xs ≤ length b) where
-  pub spliced-sets : spliced b i xs ≡ sets b i xs
+  pub spliced_sets : spliced b i xs ≡ sets b i xs
   unfolding spliced
-  spliced-sets = sym (sets-eq xs b i fits)
+  spliced_sets = sym (sets-eq xs b i fits)
 
-  pub length-spliced : length (spliced b i xs) ≡ length b
-  length-spliced = ap length spliced-sets ∙ length-sets b i xs
+  pub length_spliced : length (spliced b i xs) ≡ length b
+  length_spliced = ap length spliced_sets ∙ length-sets b i xs
 
-  head-length : length (take i b ++ xs) ≡ i + length xs
-  head-length = simp length-append (omega (arith, length-take-le i b (omega arith)))
+  head_length : length (take i b ++ xs) ≡ i + length xs
+  head_length = simp length-append (omega (arith, length-take-le i b (omega arith)))
 
-  pub take-spliced : take (i + length xs) (spliced b i xs) ≡ take i b ++ xs
+  pub take_spliced : take (i + length xs) (spliced b i xs) ≡ take i b ++ xs
   unfolding spliced
-  take-spliced = take_at (take i b ++ xs) (drop (i + length xs) b) (i + length xs) head-length
+  take_spliced = take_at (take i b ++ xs) (drop (i + length xs) b) (i + length xs) head_length
 
-  pub drop-spliced : drop (i + length xs) (spliced b i xs) ≡ drop (i + length xs) b
+  pub drop_spliced : drop (i + length xs) (spliced b i xs) ≡ drop (i + length xs) b
   unfolding spliced
-  drop-spliced = drop_at (take i b ++ xs) (drop (i + length xs) b) (i + length xs) head-length
+  drop_spliced = drop_at (take i b ++ xs) (drop (i + length xs) b) (i + length xs) head_length
 
-  pub take-before-spliced : take i (spliced b i xs) ≡ take i b
+  pub take_before_spliced : take i (spliced b i xs) ≡ take i b
   unfolding spliced
-  take-before-spliced =
+  take_before_spliced =
       let l = length-take-le i b (omega arith) in
-      take-append-le i (take i b ++ xs) (drop (i + length xs) b) (omega (arith, head-length))
+      take-append-le i (take i b ++ xs) (drop (i + length xs) b) (omega (arith, head_length))
       ∙ take-append-le i (take i b) xs (omega arith)
       ∙ take_all i (take i b) (omega arith)
 
 -- a run after a run is one run
-pub spliced-append : (b : List ℕ) (i k : ℕ) (xs ys : List ℕ) → i + length xs ≡ k → k + length ys ≤ length b
+pub spliced_append : (b : List ℕ) (i k : ℕ) (xs ys : List ℕ) → i + length xs ≡ k → k + length ys ≤ length b
     → spliced (spliced b i xs) k ys ≡ spliced b i (xs ++ ys)
-spliced-append b i k xs ys e fits =
+spliced_append b i k xs ys e fits =
     let one : i + length xs ≤ length b = omega arith in
     let both : i + length (xs ++ ys) ≤ length b = simp length-append (omega arith) in
-    spliced-sets (spliced b i xs) k ys (omega (arith, length-spliced b i xs one))
-    ∙ ap (λ (l : List ℕ). sets l k ys) (spliced-sets b i xs one)
-    ∙ sets-append b i k xs ys e
-    ∙ sym (spliced-sets b i (xs ++ ys) both)
+    spliced_sets (spliced b i xs) k ys (omega (arith, length_spliced b i xs one))
+    ∙ ap (λ (l : List ℕ). sets l k ys) (spliced_sets b i xs one)
+    ∙ sets_append b i k xs ys e
+    ∙ sym (spliced_sets b i (xs ++ ys) both)
 
-pub spliced-nil : (b : List ℕ) (i : ℕ) → i ≤ length b → spliced b i [] ≡ b
-spliced-nil b i h = spliced-sets b i [] (omega arith)
+pub spliced_nil : (b : List ℕ) (i : ℕ) → i ≤ length b → spliced b i [] ≡ b
+spliced_nil b i h = spliced_sets b i [] (omega arith)
 
 -- four stores, as code makes them
-pub spliced-four : (b : List ℕ) (i w x y z : ℕ) → i + 4 ≤ length b
+pub spliced_four : (b : List ℕ) (i w x y z : ℕ) → i + 4 ≤ length b
     → set (set (set (set b i w) (i + 1) x) (i + 2) y) (i + 3) z ≡ spliced b i (w ∷ x ∷ y ∷ z ∷ [])
-spliced-four b i w x y z h = rw (add-one, add-two, add-three) (sym (spliced-sets b i (w ∷ x ∷ y ∷ z ∷ []) h))
+spliced_four b i w x y z h = rw (add-one, add-two, add-three) (sym (spliced_sets b i (w ∷ x ∷ y ∷ z ∷ []) h))

@@ -13,122 +13,122 @@ use Rattle.config.specs.declared.refusal.Refusal.TheVariants.{InvalidValue, Inva
 use Rattle.config.specs.inner.Tests.{split, tests, lifts, and_left, and_right}
 use Rattle.packet.specs.Bytes.{bytes_of, spliced}
 use Rattle.packet.specs.Layout.{Packet, packet, signature, encoded, size_of}
-use Rattle.packet.specs.Write.{limitOf, valid_of, start_of, begunOf, noFit, refusedOf, done_of, placed_of, written_of}
+use Rattle.packet.specs.Write.{limit_of, valid_of, start_of, begun_of, no_fit, refused_of, done_of, placed_of, written_of}
 use Rattle.packet.specs.declared.writer.PayloadWriter.{PayloadWriter}
 use Rattle.packet.specs.declared.writer.Wrote.{Wrote}
 use Rattle.config.specs.declared.answer.Outcome.TheVariants.{Done}
-use Rattle.packet.proofs.Splice.{length-spliced, spliced-append}
-use Rattle.packet.proofs.Words.{length-bytesOf, bytesOf-append}
+use Rattle.packet.proofs.Splice.{length_spliced, spliced_append}
+use Rattle.packet.proofs.Words.{length_bytes_of, bytes_of_append}
 
 -- ---- the state test
 module _ (p : PayloadWriter) (room : ℕ) where
-  pub valid-limit-not : outside 8 1400 p.max ≡ true → false ≡ valid_of p room
+  pub valid_limit_not : outside 8 1400 p.max ≡ true → false ≡ valid_of p room
   unfolding valid_of
-  valid-limit-not o = rw (not-true (within 8 1400 p.max) o)
+  valid_limit_not o = rw (not_true (within 8 1400 p.max) o)
 
   module _ (o : outside 8 1400 p.max ≡ false) where
-    pub valid-empty : p.len ≡ 0 → true ≡ valid_of p room
+    pub valid_empty : p.len ≡ 0 → true ≡ valid_of p room
     unfolding valid_of
-    valid-empty z = rw (not-false (within 8 1400 p.max) o, eq-eqb _ _ z)
+    valid_empty z = rw (not-false (within 8 1400 p.max) o, eq_eqb _ _ z)
 
-    module _ (z : p.len ≡ 0 → ⊥) (most : ℕ) (e : most ≡ limitOf p room) where
-      pub valid-length-not : outside 8 most p.len ≡ true → false ≡ valid_of p room
+    module _ (z : p.len ≡ 0 → ⊥) (most : ℕ) (e : most ≡ limit_of p room) where
+      pub valid_length_not : outside 8 most p.len ≡ true → false ≡ valid_of p room
       unfolding valid_of
-      valid-length-not l = rw (not-false (within 8 1400 p.max) o, ne_eqb _ _ z, ← e, not-true (within 8 most p.len) l)
+      valid_length_not l = rw (not-false (within 8 1400 p.max) o, ne_eqb _ _ z, ← e, not_true (within 8 most p.len) l)
 
-      pub valid-length : outside 8 most p.len ≡ false → eqb (p.len % 4) 0 ≡ valid_of p room
+      pub valid_length : outside 8 most p.len ≡ false → eqb (p.len % 4) 0 ≡ valid_of p room
       unfolding valid_of
-      valid-length l = rw (not-false (within 8 1400 p.max) o, ne_eqb _ _ z, ← e, not-false (within 8 most p.len) l)
+      valid_length l = rw (not-false (within 8 1400 p.max) o, ne_eqb _ _ z, ← e, not-false (within 8 most p.len) l)
 
 -- ---- where the next command goes
 module _ (p : PayloadWriter) where
-  pub start-empty : p.len ≡ 0 → 4 ≡ start_of p
-  start-empty z = rw (eq-eqb _ _ z)
+  pub start_empty : p.len ≡ 0 → 4 ≡ start_of p
+  start_empty z = rw (eq_eqb _ _ z)
 
-  pub start-after : (p.len ≡ 0 → ⊥) → p.len ≡ start_of p
-  start-after z = rw (ne_eqb _ _ z)
+  pub start_after : (p.len ≡ 0 → ⊥) → p.len ≡ start_of p
+  start_after z = rw (ne_eqb _ _ z)
 
 module _ (p : PayloadWriter) (b : List ℕ) where
-  pub begun-empty : p.len ≡ 0 → (e : List ℕ) → e ≡ spliced b 0 signature → e ≡ begunOf p b
-  begun-empty z e h = rw (eq-eqb _ _ z) h
+  pub begun_empty : p.len ≡ 0 → (e : List ℕ) → e ≡ spliced b 0 signature → e ≡ begun_of p b
+  begun_empty z e h = rw (eq_eqb _ _ z) h
 
-  pub begun-after : (p.len ≡ 0 → ⊥) → b ≡ begunOf p b
-  begun-after z = rw (ne_eqb _ _ z)
+  pub begun_after : (p.len ≡ 0 → ⊥) → b ≡ begun_of p b
+  begun_after z = rw (ne_eqb _ _ z)
 
 -- ---- the answers
 module _ (p : PayloadWriter) (b : List ℕ) (c : Packet) where
-  pub written-invalid : valid_of p (length b) ≡ false → (refusedOf p InvalidState, b) ≡ written_of p b c
+  pub written_invalid : valid_of p (length b) ≡ false → (refused_of p InvalidState, b) ≡ written_of p b c
   unfolding written_of
-  written-invalid v = rw v
+  written_invalid v = rw v
 
   module _ (v : valid_of p (length b) ≡ true) where
-    pub written-no-fit : (r : Wrote) → r ≡ refusedOf p (noFit p) → limitOf p (length b) < start_of p + size_of c → (r, b) ≡ written_of p b c
+    pub written_no_fit : (r : Wrote) → r ≡ refused_of p (no_fit p) → limit_of p (length b) < start_of p + size_of c → (r, b) ≡ written_of p b c
     unfolding written_of
-    written-no-fit r e f = rw (v, lt-ltb _ _ f, e)
+    written_no_fit r e f = rw (v, lt-ltb _ _ f, e)
 
-    module _ (f : start_of p + size_of c ≤ limitOf p (length b)) where
-      pub written-long : 255 < length c.words → (refusedOf p InvalidValue, b) ≡ written_of p b c
+    module _ (f : start_of p + size_of c ≤ limit_of p (length b)) where
+      pub written_long : 255 < length c.words → (refused_of p InvalidValue, b) ≡ written_of p b c
       unfolding written_of
-      written-long l = rw (v, le-ltb _ _ f, lt-ltb _ _ l)
+      written_long l = rw (v, le-ltb _ _ f, lt-ltb _ _ l)
 
-      pub written-done : (n : ℕ) (e : List ℕ) → length c.words ≤ 255 → n ≡ start_of p + size_of c → e ≡ placed_of p b c
+      pub written_done : (n : ℕ) (e : List ℕ) → length c.words ≤ 255 → n ≡ start_of p + size_of c → e ≡ placed_of p b c
           → (record { payload = record { len = n; max = p.max }; answer = Done }, e) ≡ written_of p b c
       unfolding written_of
-      written-done n e l ne ee = rw (v, le-ltb _ _ f, le-ltb _ _ l, ne, ee)
+      written_done n e l ne ee = rw (v, le-ltb _ _ f, le-ltb _ _ l, ne, ee)
 
 -- ---- the bytes of a command, as the code stores them: what it begins with, the header, the words in one run or two
-header-words : (b : List ℕ) (at code n csd1 csd2 : ℕ) (xs : List ℕ) → at + 4 + 4 * length xs ≤ length b
+header_words : (b : List ℕ) (at code n csd1 csd2 : ℕ) (xs : List ℕ) → at + 4 + 4 * length xs ≤ length b
     → spliced (spliced b at (code ∷ n ∷ csd1 ∷ csd2 ∷ [])) (at + 4) (bytes_of xs) ≡ spliced b at (code ∷ n ∷ csd1 ∷ csd2 ∷ bytes_of xs)
-header-words b at code n csd1 csd2 xs fits =
-    spliced-append b at (at + 4) (code ∷ n ∷ csd1 ∷ csd2 ∷ []) (bytes_of xs) (omega arith) (omega (arith, length-bytesOf xs))
+header_words b at code n csd1 csd2 xs fits =
+    spliced_append b at (at + 4) (code ∷ n ∷ csd1 ∷ csd2 ∷ []) (bytes_of xs) (omega arith) (omega (arith, length_bytes_of xs))
 
-header-runs : (b : List ℕ) (at code n csd1 csd2 : ℕ) (xs ys : List ℕ) → at + 4 + 4 * (length xs + length ys) ≤ length b
+header_runs : (b : List ℕ) (at code n csd1 csd2 : ℕ) (xs ys : List ℕ) → at + 4 + 4 * (length xs + length ys) ≤ length b
     → spliced (spliced (spliced b at (code ∷ n ∷ csd1 ∷ csd2 ∷ [])) (at + 4) (bytes_of xs)) (at + 4 + 4 * length xs) (bytes_of ys)
     ≡ spliced b at (code ∷ n ∷ csd1 ∷ csd2 ∷ bytes_of (xs ++ ys))
-header-runs b at code n csd1 csd2 xs ys fits =
-    let lx = length-bytesOf xs in
-    let ly = length-bytesOf ys in
-    ap (λ (l : List ℕ). spliced l (at + 4 + 4 * length xs) (bytes_of ys)) (header-words b at code n csd1 csd2 xs (omega arith))
-    ∙ spliced-append b at (at + 4 + 4 * length xs) (code ∷ n ∷ csd1 ∷ csd2 ∷ bytes_of xs) (bytes_of ys) (omega arith) (omega arith)
-    ∙ rw (bytesOf-append xs ys)
+header_runs b at code n csd1 csd2 xs ys fits =
+    let lx = length_bytes_of xs in
+    let ly = length_bytes_of ys in
+    ap (λ (l : List ℕ). spliced l (at + 4 + 4 * length xs) (bytes_of ys)) (header_words b at code n csd1 csd2 xs (omega arith))
+    ∙ spliced_append b at (at + 4 + 4 * length xs) (code ∷ n ∷ csd1 ∷ csd2 ∷ bytes_of xs) (bytes_of ys) (omega arith) (omega arith)
+    ∙ rw (bytes_of_append xs ys)
 
-begun-length : (p : PayloadWriter) (b : List ℕ) → start_of p ≤ length b → length (begunOf p b) ≡ length b
-begun-length p b f = elim (split (eqb p.len 0)) [
-  | inl z ↦ rw z (length-spliced b 0 signature (rw z at f))
+begun_length : (p : PayloadWriter) (b : List ℕ) → start_of p ≤ length b → length (begun_of p b) ≡ length b
+begun_length p b f = elim (split (eqb p.len 0)) [
+  | inl z ↦ rw z (length_spliced b 0 signature (rw z at f))
   | inr z ↦ rw z
 ]
 
-begun-encoded : (p : PayloadWriter) (b : List ℕ) (c : Packet) → start_of p + size_of c ≤ length b
-    → spliced (begunOf p b) (start_of p) (encoded c) ≡ placed_of p b c
-begun-encoded p b c fits = elim (split (eqb p.len 0)) [
+begun_encoded : (p : PayloadWriter) (b : List ℕ) (c : Packet) → start_of p + size_of c ≤ length b
+    → spliced (begun_of p b) (start_of p) (encoded c) ≡ placed_of p b c
+begun_encoded p b c fits = elim (split (eqb p.len 0)) [
   | inl z ↦
       let f : 4 + size_of c ≤ length b = rw z at fits in
-      let lw = length-bytesOf c.words in
-      rw z (spliced-append b 0 4 signature (encoded c) refl (omega arith))
+      let lw = length_bytes_of c.words in
+      rw z (spliced_append b 0 4 signature (encoded c) refl (omega arith))
   | inr z ↦ rw z
 ]
 
 module _ (p : PayloadWriter) (b : List ℕ) (code csd1 csd2 at : ℕ) where
-  pub placed-words : (xs b₁ b₂ b₃ : List ℕ) → at ≡ start_of p → b₁ ≡ begunOf p b
+  pub placed_words : (xs b₁ b₂ b₃ : List ℕ) → at ≡ start_of p → b₁ ≡ begun_of p b
       → b₂ ≡ spliced b₁ at (code ∷ length xs ∷ csd1 ∷ csd2 ∷ [])
       → b₃ ≡ spliced b₂ (at + 4) (bytes_of xs)
       → start_of p + (4 + 4 * length xs) ≤ length b
       → b₃ ≡ placed_of p b (packet code csd1 csd2 xs)
-  placed-words xs b₁ b₂ b₃ e₀ e₁ e₂ e₃ fits =
-      let same = begun-length p b (omega arith) in
+  placed_words xs b₁ b₂ b₃ e₀ e₁ e₂ e₃ fits =
+      let same = begun_length p b (omega arith) in
       rw (e₃, e₂, e₁, e₀)
-      (header-words (begunOf p b) (start_of p) code (length xs) csd1 csd2 xs (omega arith)
-      ∙ begun-encoded p b (packet code csd1 csd2 xs) fits)
+      (header_words (begun_of p b) (start_of p) code (length xs) csd1 csd2 xs (omega arith)
+      ∙ begun_encoded p b (packet code csd1 csd2 xs) fits)
 
-  pub placed-runs : (xs ys b₁ b₂ b₃ b₄ : List ℕ) → at ≡ start_of p → b₁ ≡ begunOf p b
+  pub placed_runs : (xs ys b₁ b₂ b₃ b₄ : List ℕ) → at ≡ start_of p → b₁ ≡ begun_of p b
       → b₂ ≡ spliced b₁ at (code ∷ (length xs + length ys) ∷ csd1 ∷ csd2 ∷ [])
       → b₃ ≡ spliced b₂ (at + 4) (bytes_of xs)
       → b₄ ≡ spliced b₃ (at + 4 + 4 * length xs) (bytes_of ys)
       → start_of p + (4 + 4 * (length xs + length ys)) ≤ length b
       → b₄ ≡ placed_of p b (packet code csd1 csd2 (xs ++ ys))
-  placed-runs xs ys b₁ b₂ b₃ b₄ e₀ e₁ e₂ e₃ e₄ fits =
+  placed_runs xs ys b₁ b₂ b₃ b₄ e₀ e₁ e₂ e₃ e₄ fits =
       let long = length-append xs ys in
-      let same = begun-length p b (omega arith) in
+      let same = begun_length p b (omega arith) in
       rw (e₄, e₃, e₂, e₁, e₀, ← long)
-      (header-runs (begunOf p b) (start_of p) code (length (xs ++ ys)) csd1 csd2 xs ys (omega arith)
-      ∙ begun-encoded p b (packet code csd1 csd2 (xs ++ ys)) (omega arith))
+      (header_runs (begun_of p b) (start_of p) code (length (xs ++ ys)) csd1 csd2 xs ys (omega arith)
+      ∙ begun_encoded p b (packet code csd1 csd2 (xs ++ ys)) (omega arith))

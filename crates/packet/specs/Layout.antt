@@ -24,14 +24,14 @@ abbrev pub size_of : Packet → ℕ
 size_of c = 4 + 4 * length c.words
 
 -- commands one after the other
-unfoldable pub encodedAll : List Packet → List ℕ
-encodedAll [] = []
-encodedAll (c ∷ cs) = encoded c ++ encodedAll cs
+unfoldable pub encoded_all : List Packet → List ℕ
+encoded_all [] = []
+encoded_all (c ∷ cs) = encoded c ++ encoded_all cs
 
 -- the whole payload of a list of commands: nothing, or the signature and then the commands
-unfoldable pub payloadOf : List Packet → List ℕ
-payloadOf [] = []
-payloadOf (c ∷ cs) = signature ++ encodedAll (c ∷ cs)
+unfoldable pub payload_of : List Packet → List ℕ
+payload_of [] = []
+payload_of (c ∷ cs) = signature ++ encoded_all (c ∷ cs)
 
 -- the words are 32-bit ones
 unfoldable pub Words32 : List ℕ → Type 0

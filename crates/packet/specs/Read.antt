@@ -15,8 +15,8 @@ use Rattle.packet.specs.declared.cursor.Lookup.TheVariants.{Word, Absent}
 abbrev pub header : ℕ → ℕ → ℕ → ℕ → Header
 header code n a b = record { code = code; len = n; csd1 = a; csd2 = b }
 
-abbrev pub csdOf : Header → ℕ
-csdOf h = h.csd1 * 256 + h.csd2
+abbrev pub csd_of : Header → ℕ
+csd_of h = h.csd1 * 256 + h.csd2
 
 -- the first four bytes are the signature
 unfoldable pub signed : List ℕ → Bool
@@ -27,8 +27,8 @@ signed (a ∷ b ∷ c ∷ []) = false
 signed (a ∷ b ∷ c ∷ d ∷ rest) = eqb a 0x4D && (eqb b 0x49 && (eqb c 0x44 && eqb d 0x49))
 
 -- 1 when they aren't, shorter payloads included
-unfoldable pub openOf : List ℕ → Packets
-openOf b = cond (signed b) (At record { at = 4 }) (Refused BadSignature)
+unfoldable pub open_of : List ℕ → Packets
+open_of b = cond (signed b) (At record { at = 4 }) (Refused BadSignature)
 
 -- what the bytes from place `at` on begin with: a command that isn't longer than the rest, or a cut one; fewer than four bytes are the end
 abbrev pub item_of : ℕ → List ℕ → PacketItem
@@ -55,20 +55,20 @@ pub data Item : Type 0 where
   cut : Header → Item
 
 -- all items from place `at` on, in at most so many steps
-unfoldable pub itemsFrom : ℕ → ℕ → List ℕ → List Item
-itemsFrom zero at b = []
-itemsFrom (suc f) at [] = []
-itemsFrom (suc f) at (a ∷ []) = []
-itemsFrom (suc f) at (a ∷ b ∷ []) = []
-itemsFrom (suc f) at (a ∷ b ∷ c ∷ []) = []
-itemsFrom (suc f) at (code ∷ n ∷ a ∷ b ∷ rest) =
+unfoldable pub items_from : ℕ → ℕ → List ℕ → List Item
+items_from zero at b = []
+items_from (suc f) at [] = []
+items_from (suc f) at (a ∷ []) = []
+items_from (suc f) at (a ∷ b ∷ []) = []
+items_from (suc f) at (a ∷ b ∷ c ∷ []) = []
+items_from (suc f) at (code ∷ n ∷ a ∷ b ∷ rest) =
     cond (leb (4 * n) (length rest))
-    (whole at (packet code a b (words_of (take (4 * n) rest))) ∷ itemsFrom f (at + 4 + 4 * n) (drop (4 * n) rest))
+    (whole at (packet code a b (words_of (take (4 * n) rest))) ∷ items_from f (at + 4 + 4 * n) (drop (4 * n) rest))
     (cut (header code n a b) ∷ [])
 
 -- what reading a payload finds: nothing without the signature, else its items in order
 unfoldable pub items_of : List ℕ → List Item
-items_of b = cond (signed b) (itemsFrom (length b) 4 (drop 4 b)) []
+items_of b = cond (signed b) (items_from (length b) 4 (drop 4 b)) []
 
 -- what a caller of the cursor collects, one step after the other
 abbrev pub follow : PacketItem → List ℕ → (ℕ → List Item) → List Item

@@ -17,33 +17,33 @@ unfoldable pub opened_of : ℕ → Opened
 opened_of max = cond (outside 8 1400 max) (OpenRefused InvalidValue) (Payload record { len = 0; max = max })
 
 -- the smaller of payload limit and buffer length
-abbrev pub limitOf : PayloadWriter → ℕ → ℕ
-limitOf p room = min p.max room
+abbrev pub limit_of : PayloadWriter → ℕ → ℕ
+limit_of p room = min p.max room
 
 -- the state test: the limit is one that opening takes, and a nonempty length is at least 8, at most the limit and a multiple of 4
 unfoldable pub valid_of : PayloadWriter → ℕ → Bool
 valid_of p room =
     within 8 1400 p.max
-    && (eqb p.len 0 || (within 8 (limitOf p room) p.len && eqb (p.len % 4) 0))
+    && (eqb p.len 0 || (within 8 (limit_of p room) p.len && eqb (p.len % 4) 0))
 
 -- where the next header goes
 abbrev pub start_of : PayloadWriter → ℕ
 start_of p = cond (eqb p.len 0) 4 p.len
 
 -- the words that still fit, a header among them
-abbrev pub freeOf : PayloadWriter → ℕ → ℕ
-freeOf p room = (limitOf p room - start_of p) / 4
+abbrev pub free_of : PayloadWriter → ℕ → ℕ
+free_of p room = (limit_of p room - start_of p) / 4
 
 -- the signature goes before the first command
-abbrev pub begunOf : PayloadWriter → List ℕ → List ℕ
-begunOf p b = cond (eqb p.len 0) (spliced b 0 signature) b
+abbrev pub begun_of : PayloadWriter → List ℕ → List ℕ
+begun_of p b = cond (eqb p.len 0) (spliced b 0 signature) b
 
 -- 3 when the payload is empty, 2 otherwise
-abbrev pub noFit : PayloadWriter → Refusal
-noFit p = cond (eqb p.len 0) TooLarge Overflow
+abbrev pub no_fit : PayloadWriter → Refusal
+no_fit p = cond (eqb p.len 0) TooLarge Overflow
 
-abbrev pub refusedOf : PayloadWriter → Refusal → Wrote
-refusedOf p r = record { payload = p; answer = Refused r }
+abbrev pub refused_of : PayloadWriter → Refusal → Wrote
+refused_of p r = record { payload = p; answer = Refused r }
 
 abbrev pub done_of : PayloadWriter → Packet → Wrote
 done_of p c = record { payload = record { len = start_of p + size_of c; max = p.max }; answer = Done }
@@ -55,16 +55,16 @@ placed_of p b c = cond (eqb p.len 0) (spliced b 0 (signature ++ encoded c)) (spl
 -- the answer, the payload and the buffer after one command
 unfoldable pub written_of : PayloadWriter → List ℕ → Packet → Wrote × List ℕ
 written_of p b c =
-    cond (not (valid_of p (length b))) (refusedOf p InvalidState, b)
-    (cond (ltb (limitOf p (length b)) (start_of p + size_of c)) (refusedOf p (noFit p), b)
-    (cond (ltb 255 (length c.words)) (refusedOf p InvalidValue, b)
+    cond (not (valid_of p (length b))) (refused_of p InvalidState, b)
+    (cond (ltb (limit_of p (length b)) (start_of p + size_of c)) (refused_of p (no_fit p), b)
+    (cond (ltb 255 (length c.words)) (refused_of p InvalidValue, b)
     (done_of p c, placed_of p b c)))
 
 -- the bytes that a payload holds
-abbrev pub bytesIn : PayloadWriter → List ℕ → List ℕ
-bytesIn p b = take p.len b
+abbrev pub bytes_in : PayloadWriter → List ℕ → List ℕ
+bytes_in p b = take p.len b
 
 -- what a write can come to: a refusal, which changes nothing, or the command written
 pub data WriteEnds (p : PayloadWriter) (b : List ℕ) (c : Packet) : Wrote × List ℕ → Type 0 where
-  refused : (r : Refusal) → WriteEnds p b c (refusedOf p r, b)
-  done : start_of p + size_of c ≤ limitOf p (length b) → length c.words ≤ 255 → WriteEnds p b c (done_of p c, placed_of p b c)
+  refused : (r : Refusal) → WriteEnds p b c (refused_of p r, b)
+  done : start_of p + size_of c ≤ limit_of p (length b) → length c.words ≤ 255 → WriteEnds p b c (done_of p c, placed_of p b c)

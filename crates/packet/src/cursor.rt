@@ -6,7 +6,7 @@
 // A `Cursor` is the place of the next header. A command that is longer than the rest is reported
 // cut, and ends the reading. Reading ends on every input, since each step passes 4 bytes or more.
 ghost use Rattle.std.specs.Prelude.{◌≡◌, ◌*◌, ◌≤◌};
-ghost use Rattle.packet.specs.Read.{csdOf, signed, openOf, next_of, body_of, word_at};
+ghost use Rattle.packet.specs.Read.{csd_of, signed, open_of, next_of, body_of, word_at};
 
 use super::bytes::get_word;
 use config::refusal::Refusal;
@@ -25,7 +25,7 @@ pub struct Header {
 impl Header {
     // The command specific data as one number.
     pub fn csd(self) -> u16
-        ensures { result ≡ csdOf self }
+        ensures { result ≡ csd_of self }
     {
         (self.csd1 as u16) * 0x100 + (self.csd2 as u16)
     }
@@ -83,7 +83,7 @@ fn is_signed(payload: &[u8]) -> bool
 
 // The place of the first command; 1 when the first four bytes are not the signature.
 pub fn command_packets(payload: &[u8]) -> Packets
-    ensures { result ≡ openOf payload.now }
+    ensures { result ≡ open_of payload.now }
 {
     if is_signed(payload) {
         return Packets::At(Cursor { at: 4 });

@@ -3,7 +3,7 @@
 ghost use Rattle.std.specs.Prelude.{◌≡◌, true, ◌++◌, [], ◌∷◌, ◌+◌, ◌*◌, ◌≤◌, min, length};
 ghost use Rattle.packet.specs.Bytes.{spliced};
 ghost use Rattle.packet.specs.Layout.{packet, size_of};
-ghost use Rattle.packet.specs.Write.{valid_of, limitOf, start_of, freeOf, begunOf, placed_of, refusedOf, written_of, noFit};
+ghost use Rattle.packet.specs.Write.{valid_of, limit_of, start_of, free_of, begun_of, placed_of, refused_of, written_of, no_fit};
 
 use super::bytes::{put_word, put_words};
 use super::writer::{MAX_PAYLOAD, MIN_PAYLOAD, PayloadWriter, Wrote};
@@ -32,7 +32,7 @@ pub fn is_valid(p: PayloadWriter, room: usize) -> bool
 
 // The limit in a buffer of `room` bytes.
 fn limit(p: PayloadWriter, room: usize) -> usize
-    ensures { result ≡ limitOf p room }
+    ensures { result ≡ limit_of p room }
 {
     least(p.max, room)
 }
@@ -46,7 +46,7 @@ fn start(p: PayloadWriter) -> usize
 
 // The words that still fit, a header among them.
 pub fn free_words(p: PayloadWriter, room: usize) -> usize
-    ensures { result ≡ freeOf p room }
+    ensures { result ≡ free_of p room }
 {
     let end = limit(p, room);
     let from = start(p);
@@ -59,7 +59,7 @@ pub fn free_words(p: PayloadWriter, room: usize) -> usize
 // Stores the signature where the payload is empty, and gives the next header's place.
 fn begin(p: PayloadWriter, buf: &mut [u8]) -> usize
     requires { start_of p ≤ length buf.old }
-    ensures { (result ≡ start_of p) × (buf.new ≡ begunOf p buf.old) }
+    ensures { (result ≡ start_of p) × (buf.new ≡ begun_of p buf.old) }
 {
     let so_far = p.len;
     if so_far == 0 {
@@ -81,7 +81,7 @@ fn put_header(buf: &mut [u8], at: usize, code: u8, len: u8, csd1: u8, csd2: u8)
 
 // The answer to a command that does not fit.
 fn refuse_fit(p: PayloadWriter) -> Wrote
-    ensures { result ≡ refusedOf p (noFit p) }
+    ensures { result ≡ refused_of p (no_fit p) }
 {
     if p.len == 0 {
         return Wrote {
@@ -97,7 +97,7 @@ fn refuse_fit(p: PayloadWriter) -> Wrote
 
 // Puts a command that fits behind what the payload holds, and gives the new length.
 fn put(p: PayloadWriter, buf: &mut [u8], code: u8, csd1: u8, csd2: u8, words: &[u32]) -> usize
-    requires { (start_of p + size_of (packet code csd1 csd2 words.now) ≤ limitOf p (length buf.old)) × (length words.now ≤ 255) }
+    requires { (start_of p + size_of (packet code csd1 csd2 words.now) ≤ limit_of p (length buf.old)) × (length words.now ≤ 255) }
     ensures { (result ≡ start_of p + size_of (packet code csd1 csd2 words.now)) × (buf.new ≡ placed_of p buf.old (packet code csd1 csd2 words.now)) }
 {
     let at = begin(p, buf);
@@ -118,7 +118,7 @@ fn put_runs(
     first: &[u32],
     second: &[u32],
 ) -> usize
-    requires { (start_of p + (4 + 4 * (length first.now + length second.now)) ≤ limitOf p (length buf.old)) × (length first.now + length second.now ≤ 255) }
+    requires { (start_of p + (4 + 4 * (length first.now + length second.now)) ≤ limit_of p (length buf.old)) × (length first.now + length second.now ≤ 255) }
     ensures { (result ≡ start_of p + size_of (packet code csd1 csd2 (first.now ++ second.now))) × (buf.new ≡ placed_of p buf.old (packet code csd1 csd2 (first.now ++ second.now))) }
 {
     let at = begin(p, buf);

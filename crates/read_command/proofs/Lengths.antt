@@ -8,38 +8,38 @@ use native.Mathlib.Omega.{arith}
 use lib.ListN.{length, drop, length-drop, drop_of_length-le}
 use lib.Dec.{leb}
 use Rattle.config.specs.inner.Tests.{split}
-use Rattle.command.specs.Messages.{messageWords, divided, messagesOf, messageAt, itemWords}
-use Rattle.command.specs.inner.Messages.{typeWords-range, messages-nil, step-last, step-next, step-length}
-use Rattle.read_command.specs.Words.{eachLength, lengthsOf}
+use Rattle.command.specs.Messages.{message_words, divided, messages_of, message_at, item_words}
+use Rattle.command.specs.inner.Messages.{type_words_range, messages_nil, step_last, step_next, step_length}
+use Rattle.read_command.specs.Words.{each_length, lengths_of}
 
 -- a message has a word at least
-each-few : (f : ℕ) (ws : List ℕ) → length (eachLength (divided f ws).whole) ≤ length ws
+each_few : (f : ℕ) (ws : List ℕ) → length (each_length (divided f ws).whole) ≤ length ws
 unfolding divided
-each-few zero ws = omega arith
-each-few (suc f) [] = omega arith
-each-few (suc f) (w ∷ ws) =
+each_few zero ws = omega arith
+each_few (suc f) [] = omega arith
+each_few (suc f) (w ∷ ws) =
     ⊎_elim
-    (λ (e : leb (messageWords w) (length (w ∷ ws)) ≡ true).
-    let n = typeWords-range (w / 0x10000000) in
-    let l = length-drop (messageWords w) (w ∷ ws) in
-    let r = each-few f (drop (messageWords w) (w ∷ ws)) in
+    (λ (e : leb (message_words w) (length (w ∷ ws)) ≡ true).
+    let n = type_words_range (w / 0x10000000) in
+    let l = length-drop (message_words w) (w ∷ ws) in
+    let r = each_few f (drop (message_words w) (w ∷ ws)) in
     rw e (omega arith))
-    (λ (e : leb (messageWords w) (length (w ∷ ws)) ≡ false). rw e (omega arith))
-    (split (leb (messageWords w) (length (w ∷ ws))))
+    (λ (e : leb (message_words w) (length (w ∷ ws)) ≡ false). rw e (omega arith))
+    (split (leb (message_words w) (length (w ∷ ws))))
 
-pub lengths-few : (ws : List ℕ) → length (lengthsOf ws) ≤ length ws
-unfolding lengthsOf messagesOf
-lengths-few ws = each-few (length ws) ws
+pub lengths_few : (ws : List ℕ) → length (lengths_of ws) ≤ length ws
+unfolding lengths_of messages_of
+lengths_few ws = each_few (length ws) ws
 
-module _ (ws : List ℕ) (i n : ℕ) (e : n ≡ itemWords (messageAt ws i)) where
-  pub lengths-turn : 1 ≤ n → lengthsOf (drop i ws) ≡ n ∷ lengthsOf (drop (i + n) ws)
-  unfolding lengthsOf
-  lengths-turn l = rw (step-next ws i n e l, step-length ws i n e)
+module _ (ws : List ℕ) (i n : ℕ) (e : n ≡ item_words (message_at ws i)) where
+  pub lengths_turn : 1 ≤ n → lengths_of (drop i ws) ≡ n ∷ lengths_of (drop (i + n) ws)
+  unfolding lengths_of
+  lengths_turn l = rw (step_next ws i n e l, step_length ws i n e)
 
-  pub lengths-stop : n ≡ 0 → lengthsOf (drop i ws) ≡ []
-  unfolding lengthsOf
-  lengths-stop z = rw (step-last ws i n e z)
+  pub lengths_stop : n ≡ 0 → lengths_of (drop i ws) ≡ []
+  unfolding lengths_of
+  lengths_stop z = rw (step_last ws i n e z)
 
-pub lengths-end : (ws : List ℕ) (i : ℕ) → length ws ≤ i → lengthsOf (drop i ws) ≡ []
-unfolding lengthsOf
-lengths-end ws i h = rw (drop_of_length-le ws h, messages-nil)
+pub lengths_end : (ws : List ℕ) (i : ℕ) → length ws ≤ i → lengths_of (drop i ws) ≡ []
+unfolding lengths_of
+lengths_end ws i h = rw (drop_of_length-le ws h, messages_nil)

@@ -1,15 +1,15 @@
 -- 01, "Numbers of each operation", Read: data ending inside a message gives its whole messages.
 use Rattle.std.specs.Prelude.{ℕ, List, [], ◌∷◌, length}
-use Rattle.command.specs.Messages.{messagesOf, wholeWords}
+use Rattle.command.specs.Messages.{messages_of, whole_words}
 
 -- how many words the whole messages at the front have
-abbrev pub wholeCount : List ℕ → ℕ
-wholeCount ws = length (wholeWords ws)
+abbrev pub whole_count : List ℕ → ℕ
+whole_count ws = length (whole_words ws)
 
-abbrev pub eachLength : List (List ℕ) → List ℕ
-eachLength [] = []
-eachLength (m ∷ ms) = length m ∷ eachLength ms
+abbrev pub each_length : List (List ℕ) → List ℕ
+each_length [] = []
+each_length (m ∷ ms) = length m ∷ each_length ms
 
 -- how many words each of them has
-unfoldable pub lengthsOf : List ℕ → List ℕ
-lengthsOf ws = eachLength (messagesOf ws).whole
+unfoldable pub lengths_of : List ℕ → List ℕ
+lengths_of ws = each_length (messages_of ws).whole

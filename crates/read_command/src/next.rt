@@ -1,10 +1,10 @@
 // The next command of a payload, as numbers.
 ghost use Rattle.std.specs.Prelude.{◌≡◌, not, ◌||◌, length, eqb, ◌≤◌};
 ghost use Rattle.packet.specs.Bytes.{words_of, spliced};
-ghost use Rattle.packet.specs.Read.{csdOf, signed, next_of};
-ghost use Rattle.command.specs.Parse.{parsedOf};
-ghost use Rattle.read_command.specs.Next.{read_of, refusedRead, first_of, commandRead, wholeRead, itemRead, readAt};
-ghost use Rattle.read_command.specs.Words.{wholeCount, lengthsOf};
+ghost use Rattle.packet.specs.Read.{csd_of, signed, next_of};
+ghost use Rattle.command.specs.Parse.{parsed_of};
+ghost use Rattle.read_command.specs.Next.{read_of, refused_read, first_of, command_read, whole_read, item_read, read_at};
+ghost use Rattle.read_command.specs.Words.{whole_count, lengths_of};
 
 use super::words;
 use command::parse;
@@ -35,7 +35,7 @@ pub struct Read {
 }
 
 fn refused(n: u8) -> Read
-    ensures { result ≡ refusedRead n }
+    ensures { result ≡ refused_read n }
 {
     Read {
         next: 0,
@@ -71,7 +71,7 @@ pub fn first(at: usize) -> usize
 // A whole command that is no data.
 fn other(header: Header, next: u64, body: &[u8]) -> Read
     requires { header.code ≡ 0xFF → ⊥ }
-    ensures { result ≡ commandRead header.len next (wholeCount (words_of body.now)) (parsedOf header (words_of body.now)) }
+    ensures { result ≡ command_read header.len next (whole_count (words_of body.now)) (parsed_of header (words_of body.now)) }
 {
     let len = header.len;
     match parse::parse(header, body) {
@@ -126,7 +126,7 @@ fn other(header: Header, next: u64, body: &[u8]) -> Read
 // A data command with these words.
 fn data(header: Header, next: u64, words: &[u32], lens: &mut [u8]) -> Read
     requires { (length words.now ≤ 255) × (255 ≤ length lens.old) }
-    ensures { (result ≡ read_of next 3 0 header.len (csdOf header) (wholeCount words.now)) × (lens.new ≡ spliced lens.old 0 (lengthsOf words.now)) }
+    ensures { (result ≡ read_of next 3 0 header.len (csd_of header) (whole_count words.now)) × (lens.new ≡ spliced lens.old 0 (lengths_of words.now)) }
 {
     let count = words::lengths(words, lens);
     Read {
@@ -143,7 +143,7 @@ fn data(header: Header, next: u64, words: &[u32], lens: &mut [u8]) -> Read
 // A whole command with these bytes of words.
 fn whole(header: Header, next: u64, body: &[u8], words: &mut [u32], lens: &mut [u8]) -> Read
     requires { (length body.now ≤ 1020) × (255 ≤ length words.old) × (255 ≤ length lens.old) }
-    ensures { (result, words.new, lens.new) ≡ wholeRead header next (words_of body.now) words.old lens.old }
+    ensures { (result, words.new, lens.new) ≡ whole_read header next (words_of body.now) words.old lens.old }
 {
     let n = words::put(body, words);
     if header.code == 0xFF {
@@ -155,7 +155,7 @@ fn whole(header: Header, next: u64, body: &[u8], words: &mut [u32], lens: &mut [
 // What stands at a place.
 fn item(payload: &[u8], at: usize, words: &mut [u32], lens: &mut [u8]) -> Read
     requires { (255 ≤ length words.old) × (255 ≤ length lens.old) }
-    ensures { (result, words.new, lens.new) ≡ itemRead (next_of payload.now at) payload.now words.old lens.old }
+    ensures { (result, words.new, lens.new) ≡ item_read (next_of payload.now at) payload.now words.old lens.old }
 {
     let cursor = Cursor { at };
     match cursor.next(payload) {
@@ -180,7 +180,7 @@ fn item(payload: &[u8], at: usize, words: &mut [u32], lens: &mut [u8]) -> Read
 // What stands at a place; the first command for 0. A whole command's words stand in `words` then, and
 // the lengths of a data command's whole messages in `lens`.
 pub fn next(payload: &[u8], at: usize, words: &mut [u32], lens: &mut [u8]) -> Read
-    ensures { (result, words.new, lens.new) ≡ readAt payload.now at words.old lens.old }
+    ensures { (result, words.new, lens.new) ≡ read_at payload.now at words.old lens.old }
 {
     if words.len() < MOST {
         return refused(13);

@@ -1,7 +1,7 @@
 // The words of a command's bytes, and how they divide into messages.
 ghost use Rattle.std.specs.Prelude.{◌≡◌, ◌≤◌, length};
 ghost use Rattle.packet.specs.Bytes.{words_of, spliced};
-ghost use Rattle.read_command.specs.Words.{wholeCount, lengthsOf};
+ghost use Rattle.read_command.specs.Words.{whole_count, lengths_of};
 
 use command::message::{message_at, word_at};
 
@@ -22,7 +22,7 @@ pub fn put(body: &[u8], out: &mut [u32]) -> usize
 // Stores the lengths of the whole messages at the front of `out`, and tells how many words these have.
 pub fn lengths(words: &[u32], out: &mut [u8]) -> usize
     requires { length words.now ≤ length out.old }
-    ensures { (result ≡ wholeCount words.now) × (result ≤ length words.now) × (out.new ≡ spliced out.old 0 (lengthsOf words.now)) }
+    ensures { (result ≡ whole_count words.now) × (result ≤ length words.now) × (out.new ≡ spliced out.old 0 (lengths_of words.now)) }
 {
     let mut i = 0;
     let mut k = 0;

@@ -10,11 +10,11 @@ use Rattle.config.specs.declared.answer.Outcome.{Outcome}
 use Rattle.config.specs.declared.answer.Outcome.TheVariants.{Done, Refused as OutcomeRefused}
 use Rattle.config.specs.declared.answer.Deadline.{Deadline}
 use Rattle.config.specs.declared.answer.Deadline.TheVariants.{Nothing as DeadlineNothing, At}
-use Rattle.command.specs.Write.{requestPacket}
+use Rattle.command.specs.Write.{request_packet}
 use Rattle.command.specs.declared.retransmit.RetransmitRequest.{RetransmitRequest}
 use Rattle.command.specs.declared.retransmit.RetransmitError.{RetransmitError}
-use Rattle.window.specs.Window.{valid_of as windowValid, fresh, fresh_of as allProcessed, missingOf, missingSpan, requestOf}
-use Rattle.window.specs.Arrival.{acceptOf}
+use Rattle.window.specs.Window.{valid_of as window_valid, fresh, fresh_of as all_processed, missing_of, missing_span, request_of}
+use Rattle.window.specs.Arrival.{accept_of}
 use Rattle.window.specs.Marking.{mark_of}
 use Rattle.window.specs.declared.window.ReceiveWindow.{ReceiveWindow}
 use Rattle.window.specs.declared.window.Class.{Class}
@@ -37,7 +37,7 @@ use Rattle.receiver.specs.declared.receiver.RequestWritten.{RequestWritten}
 
 -- ---- the state
 unfoldable pub valid_of : Receiver → Bool
-valid_of r = windowValid r.window
+valid_of r = window_valid r.window
 
 -- all but the window as at the start
 abbrev pub rest_of : Bool → ReceiveWindow → Receiver
@@ -47,16 +47,16 @@ abbrev pub fresh_of : ℕ → Receiver
 fresh_of size = rest_of false (fresh size)
 
 -- requests are enabled: by the settings, and no NAK since the start
-abbrev pub enabledOf : Receiver → StreamConfig → Bool
-enabledOf r s = s.retransmit && not r.refused
+abbrev pub enabled_of : Receiver → StreamConfig → Bool
+enabled_of r s = s.retransmit && not r.refused
 
-abbrev pub nothingMissing : ReceiveWindow → Bool
-nothingMissing w = eqb (missingOf w) 0
+abbrev pub nothing_missing : ReceiveWindow → Bool
+nothing_missing w = eqb (missing_of w) 0
 
 -- ---- times
 -- the due time: D, 2D, 4D and on after so many requests, the power capped at 2^32
-unfoldable pub dueAfter : ℕ → ℕ → ℕ → ℕ
-dueAfter delay sent time = later time (delay * 2 ^ min sent 32)
+unfoldable pub due_after : ℕ → ℕ → ℕ → ℕ
+due_after delay sent time = later time (delay * 2 ^ min sent 32)
 
 -- ---- a data command
 -- the skipped numbers, from the one after the old highest on
@@ -65,10 +65,10 @@ gap_of highest (New gap) = cond (eqb gap 0) NoSpan (Of record { first = after hi
 gap_of highest Late = NoSpan
 gap_of highest Duplicate = NoSpan
 
-abbrev pub isGap : Class → Bool
-isGap (New gap) = ltb 0 gap
-isGap Late = false
-isGap Duplicate = false
+abbrev pub is_gap : Class → Bool
+is_gap (New gap) = ltb 0 gap
+is_gap Late = false
+is_gap Duplicate = false
 
 -- a new gap starts the timer when none runs or when the running one has made a request due
 abbrev pub restarts : Timer → Bool
@@ -78,109 +78,109 @@ restarts (Running t) = ltb 0 t.sent
 -- The timer stops when nothing is missing, and what it asked for is done with. If requests are enabled, a new gap starts it.
 unfoldable pub settled_of : Receiver → StreamConfig → ℕ → ReceiveWindow → Class → Receiver
 settled_of r s time w class =
-    cond (nothingMissing w) (rest_of r.refused w)
-    (cond (isGap class && (enabledOf r s && restarts r.timer))
-    (record { window = w; timer = Running record { due = dueAfter s.request_delay_ms 0 time; sent = 0 }; request_due = r.request_due; refused = r.refused; asked = r.asked })
+    cond (nothing_missing w) (rest_of r.refused w)
+    (cond (is_gap class && (enabled_of r s && restarts r.timer))
+    (record { window = w; timer = Running record { due = due_after s.request_delay_ms 0 time; sent = 0 }; request_due = r.request_due; refused = r.refused; asked = r.asked })
     (record { window = w; timer = r.timer; request_due = r.request_due; refused = r.refused; asked = r.asked }))
 
-unfoldable pub heardOf : Receiver → StreamConfig → ℕ → ℕ → Heard
-heardOf r s time seq =
-    let taken = acceptOf r.window seq in
+unfoldable pub heard_of : Receiver → StreamConfig → ℕ → ℕ → Heard
+heard_of r s time seq =
+    let taken = accept_of r.window seq in
     record {
       receiver = settled_of r s time taken.window taken.class;
       answer = Delivered record { seq = seq; class = taken.class; gap = gap_of r.window.highest taken.class; lost = taken.lost };
     }
 
 -- ---- losses
-abbrev pub quietOf : Receiver → Told
-quietOf r = record { receiver = r; event = Nothing }
+abbrev pub quiet_of : Receiver → Told
+quiet_of r = record { receiver = r; event = Nothing }
 
-abbrev pub lossOf : Span → StreamEvent
-lossOf NoSpan = Nothing
-lossOf (Of range) = DataLoss range
+abbrev pub loss_of : Span → StreamEvent
+loss_of NoSpan = Nothing
+loss_of (Of range) = DataLoss range
 
 -- the missing span is reported, and all is processed
-unfoldable pub gaveUp : Bool → ReceiveWindow → Told
-gaveUp refused w = record { receiver = rest_of refused (allProcessed w.size w.highest); event = lossOf (missingSpan w) }
+unfoldable pub gave_up : Bool → ReceiveWindow → Told
+gave_up refused w = record { receiver = rest_of refused (all_processed w.size w.highest); event = loss_of (missing_span w) }
 
 -- Each poll at or after the due time makes a request due and sets the next delay; after M requests, or if requests are disabled,
 -- it reports the missing span.
-abbrev pub polledAt : Receiver → StreamConfig → ℕ → Timer → Told
-polledAt r s time Stopped = quietOf r
-polledAt r s time (Running t) =
-    cond (ltb time t.due) (quietOf r)
-    (cond (nothingMissing r.window) (quietOf (rest_of r.refused r.window))
-    (cond (ltb t.sent s.max_requests && enabledOf r s)
-    (quietOf record { window = r.window; timer = Running record { due = dueAfter s.request_delay_ms (t.sent + 1) time; sent = t.sent + 1 }; request_due = true; refused = r.refused; asked = r.asked })
-    (gaveUp r.refused r.window)))
+abbrev pub polled_at : Receiver → StreamConfig → ℕ → Timer → Told
+polled_at r s time Stopped = quiet_of r
+polled_at r s time (Running t) =
+    cond (ltb time t.due) (quiet_of r)
+    (cond (nothing_missing r.window) (quiet_of (rest_of r.refused r.window))
+    (cond (ltb t.sent s.max_requests && enabled_of r s)
+    (quiet_of record { window = r.window; timer = Running record { due = due_after s.request_delay_ms (t.sent + 1) time; sent = t.sent + 1 }; request_due = true; refused = r.refused; asked = r.asked })
+    (gave_up r.refused r.window)))
 
-unfoldable pub polledOf : Receiver → StreamConfig → ℕ → Told
-polledOf r s time = polledAt r s time r.timer
+unfoldable pub polled_of : Receiver → StreamConfig → ℕ → Told
+polled_of r s time = polled_at r s time r.timer
 
 -- A Retransmit Error to an unanswered request marks the missing positions of its span and reports from the oldest to the newest of them.
-abbrev pub errorEvent : RetransmitError → Span → StreamEvent
-errorEvent e NoSpan = ErrorOnly e
-errorEvent e (Of range) = ErrorLoss range e
+abbrev pub error_event : RetransmitError → Span → StreamEvent
+error_event e NoSpan = ErrorOnly e
+error_event e (Of range) = ErrorLoss range e
 
-abbrev pub markedBy : Receiver → ReceiveWindow → Receiver
-markedBy r w =
-    cond (nothingMissing w) (rest_of r.refused w)
+abbrev pub marked_by : Receiver → ReceiveWindow → Receiver
+marked_by r w =
+    cond (nothing_missing w) (rest_of r.refused w)
     (record { window = w; timer = r.timer; request_due = r.request_due; refused = r.refused; asked = Unasked })
 
-abbrev pub errorTo : Receiver → RetransmitError → Asked → Told
-errorTo r e Unasked = record { receiver = r; event = ErrorOnly e }
-errorTo r e (AskedFor q) =
+abbrev pub error_to : Receiver → RetransmitError → Asked → Told
+error_to r e Unasked = record { receiver = r; event = ErrorOnly e }
+error_to r e (AskedFor q) =
     let marked = mark_of r.window record { first = q.seq; count = q.count } in
-    record { receiver = markedBy r marked.window; event = errorEvent e marked.span }
+    record { receiver = marked_by r marked.window; event = error_event e marked.span }
 
-unfoldable pub errorOf : Receiver → RetransmitError → Told
-errorOf r e = errorTo r e r.asked
+unfoldable pub error_of : Receiver → RetransmitError → Told
+error_of r e = error_to r e r.asked
 
 -- A NAK disables requests until a reset, stops the timer and, with a request unanswered, reports and marks all missing.
-abbrev pub nakBy : Receiver → Asked → Told
-nakBy r Unasked = quietOf (rest_of true r.window)
-nakBy r (AskedFor q) = gaveUp true r.window
+abbrev pub nak_by : Receiver → Asked → Told
+nak_by r Unasked = quiet_of (rest_of true r.window)
+nak_by r (AskedFor q) = gave_up true r.window
 
-unfoldable pub nakOf : Receiver → Told
-nakOf r = nakBy r r.asked
+unfoldable pub nak_of : Receiver → Told
+nak_of r = nak_by r r.asked
 
 -- ---- taking a due request
 -- no request due, and this one unanswered
-abbrev pub withAsked : Receiver → Asked → Receiver
-withAsked r asked = record { window = r.window; timer = r.timer; request_due = false; refused = r.refused; asked = asked }
+abbrev pub with_asked : Receiver → Asked → Receiver
+with_asked r asked = record { window = r.window; timer = r.timer; request_due = false; refused = r.refused; asked = asked }
 
-abbrev pub notDue : Receiver → PayloadWriter → RequestWritten
-notDue r p = record { receiver = r; payload = p; answer = NotDue }
+abbrev pub not_due : Receiver → PayloadWriter → RequestWritten
+not_due r p = record { receiver = r; payload = p; answer = NotDue }
 
 -- 3 when the payload is empty; not fitting a nonempty payload is no refusal but "more"
-abbrev pub noFit : PayloadWriter → Request
-noFit p = cond (eqb p.len 0) (Refused TooLarge) More
+abbrev pub no_fit : PayloadWriter → Request
+no_fit p = cond (eqb p.len 0) (Refused TooLarge) More
 
 -- written, and then unanswered; or as before where it doesn't fit
-abbrev pub takenBy : Receiver → RetransmitRequest → PayloadWriter → Outcome → RequestWritten
-takenBy r q p Done = record { receiver = withAsked r (AskedFor q); payload = p; answer = Written }
-takenBy r q p (OutcomeRefused why) = record { receiver = r; payload = p; answer = noFit p }
+abbrev pub taken_by : Receiver → RetransmitRequest → PayloadWriter → Outcome → RequestWritten
+taken_by r q p Done = record { receiver = with_asked r (AskedFor q); payload = p; answer = Written }
+taken_by r q p (OutcomeRefused why) = record { receiver = r; payload = p; answer = no_fit p }
 
-unfoldable pub offeredOf : Receiver → RetransmitRequest → PayloadWriter → List ℕ → RequestWritten × List ℕ
-offeredOf r q p b =
-    let w = written_of p b (requestPacket q) in
-    (takenBy r q w.0.payload w.0.answer, w.1)
+unfoldable pub offered_of : Receiver → RetransmitRequest → PayloadWriter → List ℕ → RequestWritten × List ℕ
+offered_of r q p b =
+    let w = written_of p b (request_packet q) in
+    (taken_by r q w.0.payload w.0.answer, w.1)
 
-abbrev pub takenSpan : Receiver → PayloadWriter → List ℕ → Span → RequestWritten × List ℕ
-takenSpan r p b NoSpan = (notDue (withAsked r r.asked) p, b)
-takenSpan r p b (Of range) = offeredOf r record { seq = range.first; count = range.count } p b
+abbrev pub taken_span : Receiver → PayloadWriter → List ℕ → Span → RequestWritten × List ℕ
+taken_span r p b NoSpan = (not_due (with_asked r r.asked) p, b)
+taken_span r p b (Of range) = offered_of r record { seq = range.first; count = range.count } p b
 
 -- dropped if requests are disabled or nothing is missing
 unfoldable pub taken_of : Receiver → StreamConfig → PayloadWriter → List ℕ → RequestWritten × List ℕ
 taken_of r s p b =
-    cond (not r.request_due) (notDue r p, b)
-    (cond (not (enabledOf r s)) (notDue (withAsked r r.asked) p, b)
-    (takenSpan r p b (requestOf r.window)))
+    cond (not r.request_due) (not_due r p, b)
+    (cond (not (enabled_of r s)) (not_due (with_asked r r.asked) p, b)
+    (taken_span r p b (request_of r.window)))
 
 -- ---- questions
-abbrev pub deadlineAt : Timer → Deadline
-deadlineAt Stopped = DeadlineNothing
-deadlineAt (Running t) = At t.due
+abbrev pub deadline_at : Timer → Deadline
+deadline_at Stopped = DeadlineNothing
+deadline_at (Running t) = At t.due
 
-unfoldable pub deadlineOf : Receiver → Deadline
-deadlineOf r = deadlineAt r.timer
+unfoldable pub deadline_of : Receiver → Deadline
+deadline_of r = deadline_at r.timer

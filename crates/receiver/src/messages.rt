@@ -4,14 +4,14 @@
 //   body:  | message | message | .. | a part of one, or nothing
 //          |<----- handed on ------>|
 ghost use Rattle.std.specs.Prelude.{◌≡◌};
-ghost use Rattle.receiver.specs.Messages.{handsOn, handedBytes, handedCut};
+ghost use Rattle.receiver.specs.Messages.{hands_on, handed_bytes, handed_cut};
 
 use command::message::whole_words_in;
 use window::window::Class;
 
 // Whether a command of this class is handed on; a Duplicate is not.
 pub fn delivers(class: Class) -> bool
-    ensures { result ≡ handsOn class }
+    ensures { result ≡ hands_on class }
 {
     match class {
         Class::New(_) => true,
@@ -23,7 +23,7 @@ pub fn delivers(class: Class) -> bool
 // The part of a data command's bytes that is handed on: its whole messages, or nothing for a
 // Duplicate.
 pub fn handed_on(class: Class, body: &[u8]) -> &[u8]
-    ensures { result.now ≡ handedBytes class body.now }
+    ensures { result.now ≡ handed_bytes class body.now }
 {
     if delivers(class) {
         let end = 4 * whole_words_in(body);
@@ -34,7 +34,7 @@ pub fn handed_on(class: Class, body: &[u8]) -> &[u8]
 
 // The cut mark of what is handed on: the bytes end inside a message.
 pub fn is_cut(class: Class, body: &[u8]) -> bool
-    ensures { result ≡ handedCut class body.now }
+    ensures { result ≡ handed_cut class body.now }
 {
     if delivers(class) {
         return whole_words_in(body) < body.len() / 4;

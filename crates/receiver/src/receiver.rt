@@ -1,6 +1,6 @@
 // The receiver and its calls. Each takes the receiver by value and hands it back with its answer.
 ghost use Rattle.std.specs.Prelude.{◌≡◌};
-ghost use Rattle.receiver.specs.Answers.{newAnswer, resetAnswer, dataAnswer, pollAnswer, errorAnswer, nakAnswer, takeAnswer, deadlineAnswer, dueAnswer};
+ghost use Rattle.receiver.specs.Answers.{new_answer, reset_answer, data_answer, poll_answer, error_answer, nak_answer, take_answer, deadline_answer, due_answer};
 
 use super::tested;
 use command::data::UmpData;
@@ -117,7 +117,7 @@ pub struct WasReset {
 impl Receiver {
     // A fresh receiver; 12 when the window's size is not 1 to 128.
     pub fn new(size: u32) -> Start
-        ensures { result ≡ newAnswer size }
+        ensures { result ≡ new_answer size }
     {
         match ReceiveWindow::new(size) {
             Started::Window(window) => Start::Receiver(Receiver {
@@ -133,7 +133,7 @@ impl Receiver {
 
     // Back to the fresh receiver of the same size.
     pub fn reset(self) -> WasReset
-        ensures { result ≡ resetAnswer self }
+        ensures { result ≡ reset_answer self }
     {
         if tested::is_valid(self) {
             return WasReset {
@@ -149,7 +149,7 @@ impl Receiver {
 
     // A data command arrives.
     pub fn on_ump_data(self, cfg: StreamConfig, time: u64, data: UmpData) -> Heard
-        ensures { result ≡ dataAnswer self cfg time «data».seq }
+        ensures { result ≡ data_answer self cfg time «data».seq }
     {
         match cfg.check() {
             Outcome::Refused(why) => Heard {
@@ -170,7 +170,7 @@ impl Receiver {
 
     // Runs the timer: makes a request due, or gives up and reports what is missing.
     pub fn poll(self, cfg: StreamConfig, time: u64) -> Told
-        ensures { result ≡ pollAnswer self cfg time }
+        ensures { result ≡ poll_answer self cfg time }
     {
         match cfg.check() {
             Outcome::Refused(why) => Told {
@@ -191,7 +191,7 @@ impl Receiver {
 
     // A Retransmit Error arrives: what the unanswered request asked for and is missing is lost.
     pub fn on_retransmit_error(self, err: RetransmitError) -> Told
-        ensures { result ≡ errorAnswer self err }
+        ensures { result ≡ error_answer self err }
     {
         if tested::is_valid(self) {
             return tested::on_retransmit_error(self, err);
@@ -204,7 +204,7 @@ impl Receiver {
 
     // A NAK arrives: no requests until a reset; with one unanswered, all that is missing is lost.
     pub fn on_retransmit_nak(self) -> Told
-        ensures { result ≡ nakAnswer self }
+        ensures { result ≡ nak_answer self }
     {
         if tested::is_valid(self) {
             return tested::on_retransmit_nak(self);
@@ -222,7 +222,7 @@ impl Receiver {
         p: PayloadWriter,
         buf: &mut [u8],
     ) -> RequestWritten
-        ensures { (result, buf.new) ≡ takeAnswer self cfg p buf.old }
+        ensures { (result, buf.new) ≡ take_answer self cfg p buf.old }
     {
         match cfg.check() {
             Outcome::Refused(why) => RequestWritten {
@@ -247,7 +247,7 @@ impl Receiver {
 
     // When the timer's next step is due.
     pub fn next_deadline(self) -> Deadline
-        ensures { result ≡ deadlineAnswer self }
+        ensures { result ≡ deadline_answer self }
     {
         if tested::is_valid(self) {
             return tested::next_deadline(self);
@@ -257,7 +257,7 @@ impl Receiver {
 
     // Whether a request waits to be taken.
     pub fn request_due(self) -> Answered
-        ensures { result ≡ dueAnswer self }
+        ensures { result ≡ due_answer self }
     {
         if tested::is_valid(self) {
             return Answered::Is(self.request_due);

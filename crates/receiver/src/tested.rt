@@ -3,10 +3,10 @@
 ghost use Rattle.std.specs.Prelude.{◌≡◌, true, false, ◌^◌, ◌≤◌, min, length};
 ghost use Rattle.config.specs.Range.{within};
 ghost use Rattle.config.specs.Sequence.{ahead};
-ghost use Rattle.packet.specs.Write.{valid_of as payloadValid};
+ghost use Rattle.packet.specs.Write.{valid_of as payload_valid};
 ghost use Rattle.window.specs.Window.{Valid};
-ghost use Rattle.window.specs.Arrival.{reach, inOrder};
-ghost use Rattle.receiver.specs.Receiver.{valid_of, rest_of, fresh_of, enabledOf, dueAfter, gap_of, isGap, restarts, settled_of, heardOf, quietOf, gaveUp, polledAt, polledOf, errorTo, errorOf, markedBy, nakOf, withAsked, notDue, noFit, offeredOf, taken_of, deadlineOf};
+ghost use Rattle.window.specs.Arrival.{reach, in_order};
+ghost use Rattle.receiver.specs.Receiver.{valid_of, rest_of, fresh_of, enabled_of, due_after, gap_of, is_gap, restarts, settled_of, heard_of, quiet_of, gave_up, polled_at, polled_of, error_to, error_of, marked_by, nak_of, with_asked, not_due, no_fit, offered_of, taken_of, deadline_of};
 
 use super::receiver::{
     Asked, Delivery, Heard, Hearing, Receiver, Request, RequestTimer, RequestWritten, StreamEvent,
@@ -54,7 +54,7 @@ pub fn reset(r: Receiver) -> Receiver
 
 // Whether this side may ask for what is missing.
 pub fn enabled(r: Receiver, cfg: StreamConfig) -> bool
-    ensures { result ≡ enabledOf r cfg }
+    ensures { result ≡ enabled_of r cfg }
 {
     if cfg.retransmit {
         return !r.refused;
@@ -74,7 +74,7 @@ fn doubled(sent: u8) -> u64
 
 // When the step after `sent` requests is due: D, 2D, 4D and on, from now.
 pub fn due_after(delay: u32, sent: u8, time: u64) -> u64
-    ensures { result ≡ dueAfter delay sent time }
+    ensures { result ≡ due_after delay sent time }
 {
     later_by(time, (delay as u64) * doubled(sent))
 }
@@ -99,7 +99,7 @@ pub fn gap(highest: SeqNum, class: Class) -> Span
 }
 
 pub fn is_gap(class: Class) -> bool
-    ensures { result ≡ isGap class }
+    ensures { result ≡ is_gap class }
 {
     match class {
         Class::New(count) => 0 < count,
@@ -157,7 +157,7 @@ fn settled(
 
 pub fn on_ump_data(r: Receiver, cfg: StreamConfig, time: u64, seq: SeqNum) -> Heard
     requires { valid_of r ≡ true }
-    ensures { result ≡ heardOf r cfg time seq }
+    ensures { result ≡ heard_of r cfg time seq }
 {
     let before = r.window;
     if window::arrival::in_order(before, seq) {
@@ -171,8 +171,8 @@ pub fn on_ump_data(r: Receiver, cfg: StreamConfig, time: u64, seq: SeqNum) -> He
 
 // Hears the next number with nothing missing before it: nothing is missing after it.
 fn heard_next(r: Receiver, cfg: StreamConfig, time: u64, seq: SeqNum) -> Heard
-    requires { (valid_of r ≡ true) × (inOrder r.window seq ≡ true) }
-    ensures { result ≡ heardOf r cfg time seq }
+    requires { (valid_of r ≡ true) × (in_order r.window seq ≡ true) }
+    ensures { result ≡ heard_of r cfg time seq }
 {
     let before = r.window;
     let taken = window::arrival::accept_next(before, seq);
@@ -193,7 +193,7 @@ fn heard_next(r: Receiver, cfg: StreamConfig, time: u64, seq: SeqNum) -> Heard
 // Hears a number ahead: the window moves up to it.
 fn heard_ahead(r: Receiver, cfg: StreamConfig, time: u64, seq: SeqNum) -> Heard
     requires { (valid_of r ≡ true) × (within 1 reach (ahead r.window.highest seq) ≡ true) }
-    ensures { result ≡ heardOf r cfg time seq }
+    ensures { result ≡ heard_of r cfg time seq }
 {
     let before = r.window;
     let lost = window::arrival::lost_to(before, seq);
@@ -213,7 +213,7 @@ fn heard_ahead(r: Receiver, cfg: StreamConfig, time: u64, seq: SeqNum) -> Heard
 // Hears a number that is not ahead: nothing leaves the window.
 fn heard_behind(r: Receiver, cfg: StreamConfig, time: u64, seq: SeqNum) -> Heard
     requires { (valid_of r ≡ true) × (within 1 reach (ahead r.window.highest seq) ≡ false) }
-    ensures { result ≡ heardOf r cfg time seq }
+    ensures { result ≡ heard_of r cfg time seq }
 {
     let before = r.window;
     let taken = window::arrival::accept_behind(before, seq);
@@ -232,7 +232,7 @@ fn heard_behind(r: Receiver, cfg: StreamConfig, time: u64, seq: SeqNum) -> Heard
 }
 
 fn quiet(r: Receiver) -> Told
-    ensures { result ≡ quietOf r }
+    ensures { result ≡ quiet_of r }
 {
     Told {
         receiver: r,
@@ -243,7 +243,7 @@ fn quiet(r: Receiver) -> Told
 // Reports what is missing, and marks all as processed.
 fn give_up(refused: bool, window: ReceiveWindow) -> Told
     requires { Valid window }
-    ensures { result ≡ gaveUp refused window }
+    ensures { result ≡ gave_up refused window }
 {
     let receiver = rest(refused, window::tested::mark_all(window));
     match window::tested::missing(window) {
@@ -257,7 +257,7 @@ fn give_up(refused: bool, window: ReceiveWindow) -> Told
 
 pub fn poll(r: Receiver, cfg: StreamConfig, time: u64) -> Told
     requires { valid_of r ≡ true }
-    ensures { result ≡ polledOf r cfg time }
+    ensures { result ≡ polled_of r cfg time }
 {
     let timer = r.timer;
     match timer {
@@ -269,7 +269,7 @@ pub fn poll(r: Receiver, cfg: StreamConfig, time: u64) -> Told
 // A poll while the timer runs.
 fn poll_running(r: Receiver, cfg: StreamConfig, time: u64, t: RequestTimer) -> Told
     requires { valid_of r ≡ true }
-    ensures { result ≡ polledAt r cfg time (Timer.Running t) }
+    ensures { result ≡ polled_at r cfg time (Timer.Running t) }
 {
     if time < t.due {
         return quiet(r);
@@ -299,7 +299,7 @@ fn poll_running(r: Receiver, cfg: StreamConfig, time: u64, t: RequestTimer) -> T
 
 pub fn on_retransmit_error(r: Receiver, err: RetransmitError) -> Told
     requires { valid_of r ≡ true }
-    ensures { result ≡ errorOf r err }
+    ensures { result ≡ error_of r err }
 {
     let asked = r.asked;
     match asked {
@@ -314,7 +314,7 @@ pub fn on_retransmit_error(r: Receiver, err: RetransmitError) -> Told
 // An error while a request is unanswered: what that asked for and is missing is lost.
 fn error_to(r: Receiver, err: RetransmitError, req: RetransmitRequest) -> Told
     requires { valid_of r ≡ true }
-    ensures { result ≡ errorTo r err (Asked.Request req) }
+    ensures { result ≡ error_to r err (Asked.Request req) }
 {
     let before = r.window;
     let marked = window::tested::mark_range(
@@ -342,7 +342,7 @@ fn error_to(r: Receiver, err: RetransmitError, req: RetransmitRequest) -> Told
 // The receiver after an error has marked its window.
 fn marked_by(r: Receiver, window: ReceiveWindow) -> Receiver
     requires { Valid window }
-    ensures { result ≡ markedBy r window }
+    ensures { result ≡ marked_by r window }
 {
     if window::tested::complete(window) {
         return rest(r.refused, window);
@@ -359,7 +359,7 @@ fn marked_by(r: Receiver, window: ReceiveWindow) -> Receiver
 
 pub fn on_retransmit_nak(r: Receiver) -> Told
     requires { valid_of r ≡ true }
-    ensures { result ≡ nakOf r }
+    ensures { result ≡ nak_of r }
 {
     let window = r.window;
     let asked = r.asked;
@@ -371,7 +371,7 @@ pub fn on_retransmit_nak(r: Receiver) -> Told
 
 // The receiver with no request due, and `asked` unanswered.
 fn with_asked(r: Receiver, asked: Asked) -> Receiver
-    ensures { result ≡ withAsked r asked }
+    ensures { result ≡ with_asked r asked }
 {
     let window = r.window;
     let timer = r.timer;
@@ -385,7 +385,7 @@ fn with_asked(r: Receiver, asked: Asked) -> Receiver
 }
 
 fn not_due(r: Receiver, p: PayloadWriter) -> RequestWritten
-    ensures { result ≡ notDue r p }
+    ensures { result ≡ not_due r p }
 {
     RequestWritten {
         receiver: r,
@@ -400,7 +400,7 @@ pub fn write_request(
     p: PayloadWriter,
     buf: &mut [u8],
 ) -> RequestWritten
-    requires { (valid_of r ≡ true) × (payloadValid p (length buf.old) ≡ true) }
+    requires { (valid_of r ≡ true) × (payload_valid p (length buf.old) ≡ true) }
     ensures { (result, buf.new) ≡ taken_of r cfg p buf.old }
 {
     let window = r.window;
@@ -427,8 +427,8 @@ pub fn write_request(
 
 // Writes the request; it stays due where it does not fit.
 fn offer(r: Receiver, req: RetransmitRequest, p: PayloadWriter, buf: &mut [u8]) -> RequestWritten
-    requires { payloadValid p (length buf.old) ≡ true }
-    ensures { (result, buf.new) ≡ offeredOf r req p buf.old }
+    requires { payload_valid p (length buf.old) ≡ true }
+    ensures { (result, buf.new) ≡ offered_of r req p buf.old }
 {
     let wrote = command::tested::write_request(req, p, buf);
     let payload = wrote.payload;
@@ -449,7 +449,7 @@ fn offer(r: Receiver, req: RetransmitRequest, p: PayloadWriter, buf: &mut [u8]) 
 
 // 3 for an empty payload, and "more" for one that holds something.
 fn no_fit(p: PayloadWriter) -> Request
-    ensures { result ≡ noFit p }
+    ensures { result ≡ no_fit p }
 {
     if p.len == 0 {
         return Request::Refused(Refusal::TooLarge);
@@ -458,7 +458,7 @@ fn no_fit(p: PayloadWriter) -> Request
 }
 
 pub fn next_deadline(r: Receiver) -> Deadline
-    ensures { result ≡ deadlineOf r }
+    ensures { result ≡ deadline_of r }
 {
     let timer = r.timer;
     match timer {

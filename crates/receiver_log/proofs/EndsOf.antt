@@ -6,7 +6,7 @@ use mathlib.Core.Bool.{Bool, true, false, cond}
 use native.Mathlib.Omega.{arith}
 use lib.Dec.{eqb}
 use Rattle.config.specs.inner.Tests.{split, tests}
-use Rattle.receiver_log.specs.Spans.{Ends, none, ends, widen, endsOf}
+use Rattle.receiver_log.specs.Spans.{Ends, none, ends, widen, ends_of}
 use Rattle.config.specs.inner.Choices.{never}
 
 abbrev pub EndsOk : (ℕ → Bool) → ℕ → ℕ → Ends → Type 0
@@ -60,7 +60,7 @@ module _ (f : ℕ → Bool) (low n : ℕ) where
     ];
   }
 
-pub ends-ok : (f : ℕ → Bool) (low n : ℕ) → EndsOk f low n (endsOf f low n)
-unfolding endsOf
-ends-ok f low zero = λ b p q. absurd (let z : ⊥ = omega arith in z)
-ends-ok f low (suc n) = one_more f low n (f (low + n)) refl (endsOf f low n) (ends-ok f low n)
+pub ends_ok : (f : ℕ → Bool) (low n : ℕ) → EndsOk f low n (ends_of f low n)
+unfolding ends_of
+ends_ok f low zero = λ b p q. absurd (let z : ⊥ = omega arith in z)
+ends_ok f low (suc n) = one_more f low n (f (low + n)) refl (ends_of f low n) (ends_ok f low n)

@@ -7,11 +7,11 @@ use native.Mathlib.Omega.{arith}
 use lib.Dec.{ltb, leb}
 use Rattle.config.specs.Sequence.{turn}
 use Rattle.config.specs.inner.Tests.{split, tests, lifts, and_left, and_right}
-use Rattle.receiver_log.specs.Log.{inLoss}
-use Rattle.receiver_log.specs.Spans.{Ends, none, ends, endsOf, spanFrom}
-use Rattle.receiver_log.proofs.EndsOf.{EndsOk, ends-ok}
+use Rattle.receiver_log.specs.Log.{in_loss}
+use Rattle.receiver_log.specs.Spans.{Ends, none, ends, ends_of, span_from}
+use Rattle.receiver_log.proofs.EndsOf.{EndsOk, ends_ok}
 use Rattle.config.specs.inner.Choices.{never, unless, and_both}
-use Rattle.receiver_log.proofs.Numbers.{start-at}
+use Rattle.receiver_log.proofs.Numbers.{start_at}
 
 module _ (H low n : ℕ) (f p q : ℕ → Bool)
     (same : (b : ℕ) → b ≤ H → p b ≡ q (H - b))
@@ -20,8 +20,8 @@ module _ (H low n : ℕ) (f p q : ℕ → Bool)
   abbrev chosen : ℕ → Bool
   chosen b = leb low b && f b
 
-  pub loss-holds : (s : Ends) → EndsOk f low n s → (b : ℕ) → b ≤ H → p b ≡ false → inLoss H (spanFrom H s) (H - b) ≡ chosen b
-  loss-holds none h b l e =
+  pub loss_holds : (s : Ends) → EndsOk f low n s → (b : ℕ) → b ≤ H → p b ≡ false → in_loss H (span_from H s) (H - b) ≡ chosen b
+  loss_holds none h b l e =
       sym
       (unless (chosen b)
       (λ k.
@@ -29,9 +29,9 @@ module _ (H low n : ℕ) (f p q : ℕ → Bool)
       let fb : f b ≡ true = and_right (leb low b) (f b) k in
       let i = near b (omega (arith, tests)) fb in
       never fb (h b (omega (arith, tests)) i.0)))
-  loss-holds (ends x y) h b l e =
+  loss_holds (ends x y) h b l e =
       let i = near y (omega (arith, h.from, h.order)) h.oldest in
-      rw (start-at H y i.1 i.2)
+      rw (start_at H y i.1 i.2)
       (elim (split (chosen b)) [
         | inl k ↦
             let lb : leb low b ≡ true = and_left (leb low b) (f b) k in
@@ -56,27 +56,27 @@ module _ (H low n : ℕ) (f p q : ℕ → Bool)
         ]
       ])
 
-  pub loss-marks : (b : ℕ) → b ≤ H → (p b || chosen b) ≡ (inLoss H (spanFrom H (endsOf f low n)) (H - b) || q (H - b))
-  loss-marks b l =
+  pub loss_marks : (b : ℕ) → b ≤ H → (p b || chosen b) ≡ (in_loss H (span_from H (ends_of f low n)) (H - b) || q (H - b))
+  loss_marks b l =
       let s : p b ≡ q (H - b) = same b l in
-      let i : Bool = inLoss H (spanFrom H (endsOf f low n)) (H - b) in
+      let i : Bool = in_loss H (span_from H (ends_of f low n)) (H - b) in
       elim (split (p b)) [
-        | inl e ↦ let g : q (H - b) ≡ true = sym s ∙ e in rw (e, g) (sym (or-true i))
+        | inl e ↦ let g : q (H - b) ≡ true = sym s ∙ e in rw (e, g) (sym (or_true i))
         | inr e ↦
             let g : q (H - b) ≡ false = sym s ∙ e in
-            rw (e, g) (sym (loss-holds (endsOf f low n) (ends-ok f low n) b l e) ∙ sym (or-false i))
+            rw (e, g) (sym (loss_holds (ends_of f low n) (ends_ok f low n) b l e) ∙ sym (or-false i))
       ]
 
-  below-highest : (s : Ends) → EndsOk f low n s → (z : ℕ) → H < z → inLoss H (spanFrom H s) z ≡ false
-  below-highest none h z l = refl
-  below-highest (ends x y) h z l =
+  below_highest : (s : Ends) → EndsOk f low n s → (z : ℕ) → H < z → in_loss H (span_from H s) z ≡ false
+  below_highest none h z l = refl
+  below_highest (ends x y) h z l =
       let i = near y (omega (arith, h.from, h.order)) h.oldest in
       let u : leb (H - y) z ≡ true = omega (arith, lifts) in
       let v : ltb z (H - y + (y - x + 1)) ≡ false = empty i.1 in
-      rw (start-at H y i.1 i.2, u, v)
+      rw (start_at H y i.1 i.2, u, v)
     where
       empty : y ≤ H → ltb z (H - y + (y - x + 1)) ≡ false
       empty k = omega (arith, lifts, h.order)
 
-  pub loss-below : (z : ℕ) → H < z → inLoss H (spanFrom H (endsOf f low n)) z ≡ false
-  loss-below = below-highest (endsOf f low n) (ends-ok f low n)
+  pub loss_below : (z : ℕ) → H < z → in_loss H (span_from H (ends_of f low n)) z ≡ false
+  loss_below = below_highest (ends_of f low n) (ends_ok f low n)

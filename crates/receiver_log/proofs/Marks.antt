@@ -14,15 +14,15 @@ use Rattle.window.specs.Window.{Valid, behind, fresh_of, processed}
 use Rattle.window.specs.Marking.{in_range, mark_of}
 use Rattle.window.specs.declared.window.ReceiveWindow.{ReceiveWindow}
 use Rattle.window.specs.declared.window.SeqRange.{SeqRange}
-use Rattle.config.specs.inner.Ranges.{within-yes}
-use Rattle.window.proofs.Positions.{processed-fresh, unprocessed-in}
-use Rattle.window.proofs.AfterMark.{processed-mark}
-use Rattle.window.proofs.Preserved.{valid-all, valid-mark}
+use Rattle.config.specs.inner.Ranges.{within_yes}
+use Rattle.window.proofs.Positions.{processed_fresh, unprocessed_in}
+use Rattle.window.proofs.AfterMark.{processed_mark}
+use Rattle.window.proofs.Preserved.{valid_all, valid_mark}
 use Rattle.receiver_log.specs.Log.{Report, told, high, unprocessed}
-use Rattle.receiver_log.specs.Spans.{endsOf, spanFrom, missingEnds, missingIn, askedFor}
+use Rattle.receiver_log.specs.Spans.{ends_of, span_from, missing_ends, missing_in, asked_for}
 use Rattle.receiver_log.proofs.Settled.{settled}
-use Rattle.receiver_log.proofs.Numbers.{number_behind, range-convex}
-use Rattle.receiver_log.proofs.Losses.{loss-marks, loss-below}
+use Rattle.receiver_log.proofs.Numbers.{number_behind, range_convex}
+use Rattle.receiver_log.proofs.Losses.{loss_marks, loss_below}
 use Rattle.receiver_log.proofs.Held.{Held, open_at, open_in, near}
 
 module _ {w : ReceiveWindow} {t : List Report} (i : Held w t) where
@@ -39,43 +39,43 @@ module _ {w : ReceiveWindow} {t : List Report} (i : Held w t) where
         let j = open_in i b (only b eb) in
         convex a x b q r j.1 ea eb (open_at i x (omega (arith, j.2)) ∙ ap not ex)
 
-    pub held-told : Held w' (told (spanFrom (high t) (endsOf f 1 w.size)) ∷ t)
-    held-told = record {
+    pub held_told : Held w' (told (span_from (high t) (ends_of f 1 w.size)) ∷ t)
+    held_told = record {
       valid = v;
       highest = h ∙ i.highest;
       low = i.low;
-      same = λ b l. after b l ∙ loss-marks (high t) 1 w.size f (processed w) (settled t) i.same inside between b l;
-      clear = λ x l. rw (loss-below (high t) 1 w.size f (processed w) (settled t) i.same inside between x l) (i.clear x l);
+      same = λ b l. after b l ∙ loss_marks (high t) 1 w.size f (processed w) (settled t) i.same inside between b l;
+      clear = λ x l. rw (loss_below (high t) 1 w.size f (processed w) (settled t) i.same inside between x l) (i.clear x l);
       once = i.once;
       before = i.before;
     }
 
   -- ---- all of them
 
-  pub held_all : Held (fresh_of w.size w.highest) (told (missingIn w.size t) ∷ t)
-  unfolding missingEnds
+  pub held_all : Held (fresh_of w.size w.highest) (told (missing_in w.size t) ∷ t)
+  unfolding missing_ends
   held_all =
-      held-told (fresh_of w.size w.highest) (valid-all w i.valid) refl (λ b. unprocessed t (high t - b)) (λ b e. e) (λ a x b p q r ea eb ex. ex)
-      (λ b l. processed-fresh w.size w.highest b ∙ now-all b l (processed w b) refl)
+      held_told (fresh_of w.size w.highest) (valid_all w i.valid) refl (λ b. unprocessed t (high t - b)) (λ b e. e) (λ a x b p q r ea eb ex. ex)
+      (λ b l. processed_fresh w.size w.highest b ∙ now_all b l (processed w b) refl)
     where
-      now-all : (b : ℕ) → b ≤ high t → (y : Bool) → processed w b ≡ y → true ≡ (processed w b || (leb 1 b && unprocessed t (high t - b)))
-      now-all b l true e = rw e
-      now-all b l false e = let j = unprocessed-in w b e in rw (open_at i b l, e, le-leb 1 b j.0)
+      now_all : (b : ℕ) → b ≤ high t → (y : Bool) → processed w b ≡ y → true ≡ (processed w b || (leb 1 b && unprocessed t (high t - b)))
+      now_all b l true e = rw e
+      now_all b l false e = let j = unprocessed_in w b e in rw (open_at i b l, e, le-leb 1 b j.0)
 
   -- ---- those that a request asks for
 
-  pub held-mark : (q : RetransmitRequest) → q.seq < turn → q.count ≤ w.size
-      → Held (mark_of w (record { first = q.seq; count = q.count })).window (told (askedFor w.size t q) ∷ t)
-  unfolding mark_of askedFor
-  held-mark q p c =
-      held-told (mark_of w range).window (valid-mark w i.valid range) refl f
+  pub held_mark : (q : RetransmitRequest) → q.seq < turn → q.count ≤ w.size
+      → Held (mark_of w (record { first = q.seq; count = q.count })).window (told (asked_for w.size t q) ∷ t)
+  unfolding mark_of asked_for
+  held_mark q p c =
+      held_told (mark_of w range).window (valid_mark w i.valid range) refl f
       (λ b e. and_left _ _ e)
       (λ a x b l m r ea eb ex.
       let n = near i in
       rw ex
-      (range-convex (high t) q.seq q.count w.size (omega (arith, n.0)) (omega (arith, n.0, n.1)) c p a x b l m r
+      (range_convex (high t) q.seq q.count w.size (omega (arith, n.0)) (omega (arith, n.0, n.1)) c p a x b l m r
       (and_right (unprocessed t (high t - a)) _ ea) (and_right (unprocessed t (high t - b)) _ eb)))
-      (λ b l. processed-mark w i.valid range b ∙ now b l (processed w b) refl)
+      (λ b l. processed_mark w i.valid range b ∙ now b l (processed w b) refl)
     where
       range : SeqRange
       range = record { first = q.seq; count = q.count }
@@ -87,7 +87,7 @@ module _ {w : ReceiveWindow} {t : List Report} (i : Held w t) where
           → (processed w b || (within 1 w.size b && in_range range (behind w.highest b))) ≡ (processed w b || (leb 1 b && f b))
       now b l true e = rw e
       now b l false e =
-          let j = unprocessed-in w b e in
+          let j = unprocessed_in w b e in
           let n = near i in
           let at : behind w.highest b ≡ (high t - b) % turn = ap (λ (h : ℕ). behind h b) i.highest ∙ number_behind (high t) b l (omega (arith, j.1, n.0)) in
-          rw (e, within-yes 1 w.size b j.0 j.1, le-leb 1 b j.0, open_at i b l, e) (ap (in_range range) at)
+          rw (e, within_yes 1 w.size b j.0 j.1, le-leb 1 b j.0, open_at i b l, e) (ap (in_range range) at)

@@ -5,14 +5,14 @@ use mathlib.Core.Bool.{Bool, true, false, cond, not, ◌&&◌}
 use mathlib.Core.List.{List}
 use native.Mathlib.Omega.{arith}
 use lib.Dec.{eqb, ltb}
-use Rattle.config.specs.Settings.{checkOf}
+use Rattle.config.specs.Settings.{check_of}
 use Rattle.config.specs.declared.refusal.Refusal.{Refusal}
 use Rattle.config.specs.declared.settings.StreamConfig.{StreamConfig}
 use Rattle.config.specs.declared.answer.Outcome.{Outcome}
 use Rattle.config.specs.declared.answer.Outcome.TheVariants.{Done, Refused}
-use Rattle.window.specs.Window.{missingOf, missingSpan}
-use Rattle.receiver.specs.Receiver.{enabledOf, dueAfter, quietOf, lossOf, gaveUp, polledAt, polledOf}
-use Rattle.receiver.specs.Answers.{pollAnswer, eventRefused}
+use Rattle.window.specs.Window.{missing_of, missing_span}
+use Rattle.receiver.specs.Receiver.{enabled_of, due_after, quiet_of, loss_of, gave_up, polled_at, polled_of}
+use Rattle.receiver.specs.Answers.{poll_answer, event_refused}
 use Rattle.receiver.specs.declared.receiver.Receiver.{Receiver}
 use Rattle.receiver.specs.declared.receiver.RequestTimer.{RequestTimer}
 use Rattle.receiver.specs.declared.receiver.Timer.{Timer}
@@ -20,115 +20,115 @@ use Rattle.receiver.specs.declared.receiver.Timer.TheVariants.{Stopped, Running}
 use Rattle.receiver.specs.declared.receiver.StreamEvent.{StreamEvent}
 use Rattle.receiver.specs.declared.receiver.StreamEvent.TheVariants.{Nothing as NoEvent}
 use Rattle.receiver.specs.declared.receiver.Told.{Told}
-use Rattle.receiver_log.specs.Calls.{poll, Entry, poll-entry, Step, step_of}
+use Rattle.receiver_log.specs.Calls.{poll, Entry, poll_entry, Step, step_of}
 use Rattle.receiver_log.specs.Log.{reports}
-use Rattle.receiver_log.specs.Spans.{is_none, missingIn, nothingMissing}
-use Rattle.receiver_log.specs.Timing.{enabledIn, Tick, waits, asks, gives_up, tickAt, later, ticked, timerIn, duePolled, dueIn}
-use Rattle.receiver_log.specs.Answers.{pollEvent, answer_of}
+use Rattle.receiver_log.specs.Spans.{is_none, missing_in, nothing_missing}
+use Rattle.receiver_log.specs.Timing.{enabled_in, Tick, waits, asks, gives_up, tick_at, later, ticked, timer_in, due_polled, due_in}
+use Rattle.receiver_log.specs.Answers.{poll_event, answer_of}
 use Rattle.config.specs.inner.Choices.{never, unless, by_cond}
-use Rattle.receiver_log.proofs.Held.{held-quiet}
-use Rattle.receiver_log.proofs.SpanIs.{missing-span}
-use Rattle.receiver_log.proofs.Follows.{Follows, StepOk, passes, none-missing, quiet-ends, idle, follows_on, follows_same}
-use Rattle.receiver_log.proofs.GivingUp.{gave-up}
+use Rattle.receiver_log.proofs.Held.{held_quiet}
+use Rattle.receiver_log.proofs.SpanIs.{missing_span_lem}
+use Rattle.receiver_log.proofs.Follows.{Follows, StepOk, passes, none_missing_lem, quiet_ends, idle, follows_on, follows_same}
+use Rattle.receiver_log.proofs.GivingUp.{gave_up_lem}
 
 module _ (r : Receiver) (t : List Entry) (s : StreamConfig) (time : ℕ) (i : Follows r.window.size r t) where
   abbrev W : ℕ
   W = r.window.size
 
-  abbrev stepFrom : Told → Step
-  stepFrom h = record { receiver = h.receiver; entry = poll-entry s time h.event }
+  abbrev step_from : Told → Step
+  step_from h = record { receiver = h.receiver; entry = poll_entry s time h.event }
 
   abbrev Ok : Step → Type 0
   Ok = StepOk W t (poll s time)
 
   abbrev tick : Tick
-  tick = tickAt (enabledIn t s) s time (timerIn W t)
+  tick = tick_at (enabled_in t s) s time (timer_in W t)
 
   -- ---- refused
 
-  refused-answer : (why : Refusal) → checkOf s ≡ Refused why → pollAnswer r s time ≡ eventRefused r why
-  unfolding pollAnswer
-  refused-answer why e = rw e
+  refused_answer : (why : Refusal) → check_of s ≡ Refused why → poll_answer r s time ≡ event_refused r why
+  unfolding poll_answer
+  refused_answer why e = rw e
 
-  refused-ok : (why : Refusal) → checkOf s ≡ Refused why → Ok (stepFrom (eventRefused r why))
+  refused_ok : (why : Refusal) → check_of s ≡ Refused why → Ok (step_from (event_refused r why))
   unfolding answer_of
-  refused-ok why e = record { follows = follows_same W r _ t i refl refl refl refl refl; says = rw e }
+  refused_ok why e = record { follows = follows_same W r _ t i refl refl refl refl refl; says = rw e }
 
   -- ---- polled
 
-  polled-answer : checkOf s ≡ Done → pollAnswer r s time ≡ polledAt r s time r.timer
-  unfolding pollAnswer polledOf
-  polled-answer e = rw (e, passes r i.held.valid)
+  polled_answer : check_of s ≡ Done → poll_answer r s time ≡ polled_at r s time r.timer
+  unfolding poll_answer polled_of
+  polled_answer e = rw (e, passes r i.held.valid)
 
-  module _ (e : checkOf s ≡ Done) where
-    answers : (x : Tick) (event : StreamEvent) → tick ≡ x → event ≡ pollEvent (missingIn W (reports t)) x → poll-entry s time event ≡ answer_of W t (poll s time)
+  module _ (e : check_of s ≡ Done) where
+    answers : (x : Tick) (event : StreamEvent) → tick ≡ x → event ≡ poll_event (missing_in W (reports t)) x → poll_entry s time event ≡ answer_of W t (poll s time)
     unfolding answer_of
-    answers x event k f = ap (poll-entry s time) (f ∙ ap (pollEvent (missingIn W (reports t))) (sym k)) ∙ rw e
+    answers x event k f = ap (poll_entry s time) (f ∙ ap (poll_event (missing_in W (reports t))) (sym k)) ∙ rw e
 
-    waits-ok : tick ≡ waits → Ok (stepFrom (quietOf r))
-    waits-ok k = record {
-      follows = follows_same W r (poll-entry s time NoEvent) t i refl (ap (ticked s time (timerIn W t)) k) (ap (duePolled (dueIn W t)) k) refl refl;
+    waits_ok : tick ≡ waits → Ok (step_from (quiet_of r))
+    waits_ok k = record {
+      follows = follows_same W r (poll_entry s time NoEvent) t i refl (ap (ticked s time (timer_in W t)) k) (ap (due_polled (due_in W t)) k) refl refl;
       says = answers waits NoEvent k refl;
     }
 
     module _ (k : RequestTimer) (at : r.timer ≡ Running k) where
-      running : timerIn W t ≡ Running k
+      running : timer_in W t ≡ Running k
       running = sym i.timer ∙ at
 
-      tick_is : tick ≡ cond (ltb time k.due) waits (cond (ltb k.sent s.max_requests && enabledOf r s) asks gives_up)
+      tick_is : tick ≡ cond (ltb time k.due) waits (cond (ltb k.sent s.max_requests && enabled_of r s) asks gives_up)
       tick_is =
-          ap (tickAt (enabledIn t s) s time) running
+          ap (tick_at (enabled_in t s) s time) running
           ∙ ap (λ (off : Bool). cond (ltb time k.due) waits (cond (ltb k.sent s.max_requests && (s.retransmit && not off)) asks gives_up)) (sym i.refused)
 
       -- a timer runs only while something is missing
-      missing-some : nothingMissing W (reports t) ≡ false
-      missing-some =
-          unless (nothingMissing W (reports t))
+      missing_some : nothing_missing W (reports t) ≡ false
+      missing_some =
+          unless (nothing_missing W (reports t))
           (λ n. let x : Running k ≡ Stopped = sym running ∙ (idle W t n).0 in let y : ◌≡◌ {A = ℕ} 0 1 = cc in omega arith)
 
       abbrev asking : Receiver
       asking = record {
         window = r.window;
-        timer = Running record { due = dueAfter s.request_delay_ms (k.sent + 1) time; sent = k.sent + 1 };
+        timer = Running record { due = due_after s.request_delay_ms (k.sent + 1) time; sent = k.sent + 1 };
         request_due = true;
         refused = r.refused;
         asked = r.asked;
       }
 
-      asks-ok : tick ≡ asks → Ok (stepFrom (quietOf asking))
-      asks-ok a = record {
+      asks_ok : tick ≡ asks → Ok (step_from (quiet_of asking))
+      asks_ok a = record {
         follows =
-            follows_on W r.window (poll-entry s time NoEvent) t (held-quiet i.held) refl _ true r.refused r.asked
-            (ap is_none (quiet-ends W (reports t)) ∙ missing-some)
-            (sym (ap (ticked s time (timerIn W t)) a ∙ ap (later s time) running)) (sym (ap (duePolled (dueIn W t)) a)) i.refused i.asked i.few;
+            follows_on W r.window (poll_entry s time NoEvent) t (held_quiet i.held) refl _ true r.refused r.asked
+            (ap is_none (quiet_ends W (reports t)) ∙ missing_some)
+            (sym (ap (ticked s time (timer_in W t)) a ∙ ap (later s time) running)) (sym (ap (due_polled (due_in W t)) a)) i.refused i.asked i.few;
         says = answers asks NoEvent a refl;
       }
 
-      gives-up-ok : tick ≡ gives_up → Ok (stepFrom (gaveUp r.refused r.window))
-      unfolding gaveUp
-      gives-up-ok a = record {
-        follows = gave-up r t i (poll-entry s time (lossOf (missingSpan r.window))) r.refused refl i.refused;
-        says = answers gives_up (lossOf (missingSpan r.window)) a (ap lossOf (missing-span i.held));
+      gives_up_ok : tick ≡ gives_up → Ok (step_from (gave_up r.refused r.window))
+      unfolding gave_up
+      gives_up_ok a = record {
+        follows = gave_up_lem r t i (poll_entry s time (loss_of (missing_span r.window))) r.refused refl i.refused;
+        says = answers gives_up (loss_of (missing_span r.window)) a (ap loss_of (missing_span_lem i.held));
       }
 
-      running-ok : Ok (stepFrom (polledAt r s time (Running k)))
-      running-ok =
-          by_cond (λ h. Ok (stepFrom h)) (ltb time k.due) _ _ (λ n. waits-ok (tick_is ∙ rw n))
+      running_ok : Ok (step_from (polled_at r s time (Running k)))
+      running_ok =
+          by_cond (λ h. Ok (step_from h)) (ltb time k.due) _ _ (λ n. waits_ok (tick_is ∙ rw n))
           (λ n.
-          by_cond (λ h. Ok (stepFrom h)) (eqb (missingOf r.window) 0) _ _
-          (λ m. absurd (never (sym (none-missing W i.held refl) ∙ m) missing-some))
+          by_cond (λ h. Ok (step_from h)) (eqb (missing_of r.window) 0) _ _
+          (λ m. absurd (never (sym (none_missing_lem W i.held refl) ∙ m) missing_some))
           (λ m.
-          by_cond (λ h. Ok (stepFrom h)) (ltb k.sent s.max_requests && enabledOf r s) _ _ (λ a. asks-ok (tick_is ∙ rw (n, a)))
-          (λ a. gives-up-ok (tick_is ∙ rw (n, a)))))
+          by_cond (λ h. Ok (step_from h)) (ltb k.sent s.max_requests && enabled_of r s) _ _ (λ a. asks_ok (tick_is ∙ rw (n, a)))
+          (λ a. gives_up_ok (tick_is ∙ rw (n, a)))))
 
-    polled-ok : (k : Timer) → r.timer ≡ k → Ok (stepFrom (polledAt r s time k))
-    polled-ok Stopped at = waits-ok (ap (tickAt (enabledIn t s) s time) (sym i.timer ∙ at))
-    polled-ok (Running k) at = running-ok k at
+    polled_ok : (k : Timer) → r.timer ≡ k → Ok (step_from (polled_at r s time k))
+    polled_ok Stopped at = waits_ok (ap (tick_at (enabled_in t s) s time) (sym i.timer ∙ at))
+    polled_ok (Running k) at = running_ok k at
 
-  pub poll-ok : Ok (step_of r (poll s time))
+  pub poll_ok : Ok (step_of r (poll s time))
   unfolding step_of
-  poll-ok = go (checkOf s) refl
+  poll_ok = go (check_of s) refl
     where
-      go : (k : Outcome) → checkOf s ≡ k → Ok (stepFrom (pollAnswer r s time))
-      go (Refused why) e = subst (λ (h : Told). Ok (stepFrom h)) (sym (refused-answer why e)) (refused-ok why e)
-      go Done e = subst (λ (h : Told). Ok (stepFrom h)) (sym (polled-answer e)) (polled-ok e r.timer refl)
+      go : (k : Outcome) → check_of s ≡ k → Ok (step_from (poll_answer r s time))
+      go (Refused why) e = subst (λ (h : Told). Ok (step_from h)) (sym (refused_answer why e)) (refused_ok why e)
+      go Done e = subst (λ (h : Told). Ok (step_from h)) (sym (polled_answer e)) (polled_ok e r.timer refl)

@@ -8,29 +8,29 @@ use lib.Dec.{eqb}
 use Rattle.config.specs.inner.Tests.{split}
 use Rattle.command.specs.declared.retransmit.RetransmitRequest.{RetransmitRequest}
 use Rattle.command.specs.declared.retransmit.RetransmitError.{RetransmitError}
-use Rattle.window.specs.Window.{missingOf, missingSpan}
+use Rattle.window.specs.Window.{missing_of, missing_span}
 use Rattle.window.specs.Marking.{mark_of}
 use Rattle.window.specs.declared.window.Marked.{Marked}
 use Rattle.window.specs.declared.window.Span.{Span}
-use Rattle.receiver.specs.Receiver.{lossOf, gaveUp, errorEvent, errorTo, errorOf, nakBy, nakOf}
-use Rattle.receiver.specs.Answers.{errorAnswer, nakAnswer}
+use Rattle.receiver.specs.Receiver.{loss_of, gave_up, error_event, error_to, error_of, nak_by, nak_of}
+use Rattle.receiver.specs.Answers.{error_answer, nak_answer}
 use Rattle.receiver.specs.declared.receiver.Receiver.{Receiver}
 use Rattle.receiver.specs.declared.receiver.Timer.TheVariants.{Stopped}
 use Rattle.receiver.specs.declared.receiver.Asked.{Asked}
 use Rattle.receiver.specs.declared.receiver.Asked.TheVariants.{Nothing as Unasked, Request as AskedFor}
 use Rattle.receiver.specs.declared.receiver.StreamEvent.TheVariants.{Nothing as NoEvent, RetransmitError as ErrorOnly}
 use Rattle.receiver.specs.declared.receiver.Told.{Told}
-use Rattle.receiver_log.specs.Calls.{retransmit-error, nak, Entry, error-entry, nak-entry, Step, step_of}
+use Rattle.receiver_log.specs.Calls.{retransmit_error, nak, Entry, error_entry, nak_entry, Step, step_of}
 use Rattle.receiver_log.specs.Log.{told, reports}
-use Rattle.receiver_log.specs.Spans.{nothingMissing, missingIn}
-use Rattle.receiver_log.specs.Timing.{askedAfter, askedIn, nakIn}
-use Rattle.receiver_log.specs.Answers.{errorIn, nakEvent, answer_of}
+use Rattle.receiver_log.specs.Spans.{nothing_missing, missing_in}
+use Rattle.receiver_log.specs.Timing.{asked_after, asked_in, nak_in}
+use Rattle.receiver_log.specs.Answers.{error_in, nak_event, answer_of}
 use Rattle.config.specs.inner.Choices.{by_cond}
-use Rattle.receiver_log.proofs.Held.{Held, held-quiet}
-use Rattle.receiver_log.proofs.Marks.{held-mark}
-use Rattle.receiver_log.proofs.SpanIs.{missing-span, marked-span}
-use Rattle.receiver_log.proofs.Follows.{AskedOk, Follows, StepOk, passes, none-missing, follows-rest, follows_on, follows_same}
-use Rattle.receiver_log.proofs.GivingUp.{loss-taken, error-in, error-taken, gave-up}
+use Rattle.receiver_log.proofs.Held.{Held, held_quiet}
+use Rattle.receiver_log.proofs.Marks.{held_mark}
+use Rattle.receiver_log.proofs.SpanIs.{missing_span_lem, marked_span}
+use Rattle.receiver_log.proofs.Follows.{AskedOk, Follows, StepOk, passes, none_missing_lem, follows_rest, follows_on, follows_same}
+use Rattle.receiver_log.proofs.GivingUp.{loss_taken, error_in_lem, error_taken, gave_up_lem}
 
 module _ (r : Receiver) (t : List Entry) (i : Follows r.window.size r t) where
   abbrev W : ℕ
@@ -39,26 +39,26 @@ module _ (r : Receiver) (t : List Entry) (i : Follows r.window.size r t) where
   -- ---- a Retransmit Error
 
   module _ (e : RetransmitError) where
-    abbrev errorStep : Told → Step
-    errorStep h = record { receiver = h.receiver; entry = error-entry e h.event }
+    abbrev error_step : Told → Step
+    error_step h = record { receiver = h.receiver; entry = error_entry e h.event }
 
     abbrev ErrorOk : Step → Type 0
-    ErrorOk = StepOk W t (retransmit-error e)
+    ErrorOk = StepOk W t (retransmit_error e)
 
-    error-answer : errorAnswer r e ≡ errorTo r e r.asked
-    unfolding errorAnswer errorOf
-    error-answer = rw (passes r i.held.valid)
+    error_answer_lem : error_answer r e ≡ error_to r e r.asked
+    unfolding error_answer error_of
+    error_answer_lem = rw (passes r i.held.valid)
 
-    error-says : (a : Asked) → r.asked ≡ a → error-entry e (errorIn W (reports t) e a) ≡ answer_of W t (retransmit-error e)
+    error_says : (a : Asked) → r.asked ≡ a → error_entry e (error_in W (reports t) e a) ≡ answer_of W t (retransmit_error e)
     unfolding answer_of
-    error-says a at = ap (λ (x : Asked). error-entry e (errorIn W (reports t) e x)) (sym at ∙ i.asked)
+    error_says a at = ap (λ (x : Asked). error_entry e (error_in W (reports t) e x)) (sym at ∙ i.asked)
 
-    unasked-ok : r.asked ≡ Unasked → ErrorOk (errorStep (errorTo r e Unasked))
-    unasked-ok at = record {
+    unasked_ok : r.asked ≡ Unasked → ErrorOk (error_step (error_to r e Unasked))
+    unasked_ok at = record {
       follows =
-          follows_same W r (error-entry e (ErrorOnly e)) t i refl refl refl refl
-          (subst (λ (a : Asked). askedAfter W t a (error-entry e (ErrorOnly e)) ≡ a) (sym at ∙ i.asked) refl);
-      says = error-says Unasked at;
+          follows_same W r (error_entry e (ErrorOnly e)) t i refl refl refl refl
+          (subst (λ (a : Asked). asked_after W t a (error_entry e (ErrorOnly e)) ≡ a) (sym at ∙ i.asked) refl);
+      says = error_says Unasked at;
     }
 
     module _ (q : RetransmitRequest) (at : r.asked ≡ AskedFor q) where
@@ -66,72 +66,72 @@ module _ (r : Receiver) (t : List Entry) (i : Follows r.window.size r t) where
       marked = mark_of r.window (record { first = q.seq; count = q.count })
 
       abbrev entry : Entry
-      entry = error-entry e (errorEvent e marked.span)
+      entry = error_entry e (error_event e marked.span)
 
       few : AskedOk W (AskedFor q)
       few = subst (AskedOk W) at i.few
 
-      marked-held : Held marked.window (reports (entry ∷ t))
-      marked-held =
-          subst (λ (x : Span). Held marked.window (told x ∷ reports t)) (sym (error-in e marked.span ∙ marked-span i.held q))
-          (held-mark i.held q few.0 few.1)
+      marked_held : Held marked.window (reports (entry ∷ t))
+      marked_held =
+          subst (λ (x : Span). Held marked.window (told x ∷ reports t)) (sym (error_in_lem e marked.span ∙ marked_span i.held q))
+          (held_mark i.held q few.0 few.1)
 
-      marked-size : marked.window.size ≡ W
+      marked_size : marked.window.size ≡ W
       unfolding mark_of
-      marked-size = refl
+      marked_size = refl
 
-      asked-ok : ErrorOk (errorStep (errorTo r e (AskedFor q)))
-      asked-ok =
-          let nm = none-missing W marked-held marked-size in
+      asked_ok : ErrorOk (error_step (error_to r e (AskedFor q)))
+      asked_ok =
+          let nm = none_missing_lem W marked_held marked_size in
           record {
             follows =
-                by_cond (λ x. Follows W x (entry ∷ t)) (eqb (missingOf marked.window) 0) _ _
-                (λ n. follows-rest W marked.window entry t marked-held marked-size r.refused (sym nm ∙ n) i.refused)
+                by_cond (λ x. Follows W x (entry ∷ t)) (eqb (missing_of marked.window) 0) _ _
+                (λ n. follows_rest W marked.window entry t marked_held marked_size r.refused (sym nm ∙ n) i.refused)
                 (λ n.
-                follows_on W marked.window entry t marked-held marked-size r.timer r.request_due r.refused Unasked (sym nm ∙ n) i.timer i.due
-                i.refused (sym (error-taken e marked.span (askedIn W t) Unasked)) tt);
-            says = ap (λ (x : Span). error-entry e (errorEvent e x)) (marked-span i.held q) ∙ error-says (AskedFor q) at;
+                follows_on W marked.window entry t marked_held marked_size r.timer r.request_due r.refused Unasked (sym nm ∙ n) i.timer i.due
+                i.refused (sym (error_taken e marked.span (asked_in W t) Unasked)) tt);
+            says = ap (λ (x : Span). error_entry e (error_event e x)) (marked_span i.held q) ∙ error_says (AskedFor q) at;
           }
 
-    error-to-ok : (a : Asked) → r.asked ≡ a → ErrorOk (errorStep (errorTo r e a))
-    error-to-ok Unasked at = unasked-ok at
-    error-to-ok (AskedFor q) at = asked-ok q at
+    error_to_ok : (a : Asked) → r.asked ≡ a → ErrorOk (error_step (error_to r e a))
+    error_to_ok Unasked at = unasked_ok at
+    error_to_ok (AskedFor q) at = asked_ok q at
 
-    pub error-ok : ErrorOk (step_of r (retransmit-error e))
+    pub error_ok : ErrorOk (step_of r (retransmit_error e))
     unfolding step_of
-    error-ok = subst (λ (h : Told). ErrorOk (errorStep h)) (sym error-answer) (error-to-ok r.asked refl)
+    error_ok = subst (λ (h : Told). ErrorOk (error_step h)) (sym error_answer_lem) (error_to_ok r.asked refl)
 
   -- ---- a NAK
 
-  abbrev nakStep : Told → Step
-  nakStep h = record { receiver = h.receiver; entry = nak-entry h.event }
+  abbrev nak_step : Told → Step
+  nak_step h = record { receiver = h.receiver; entry = nak_entry h.event }
 
   abbrev NakOk : Step → Type 0
   NakOk = StepOk W t nak
 
-  nak-answer : nakAnswer r ≡ nakBy r r.asked
-  unfolding nakAnswer nakOf
-  nak-answer = rw (passes r i.held.valid)
+  nak_answer_lem : nak_answer r ≡ nak_by r r.asked
+  unfolding nak_answer nak_of
+  nak_answer_lem = rw (passes r i.held.valid)
 
-  nak-says : (a : Asked) → r.asked ≡ a → nak-entry (nakEvent (missingIn W (reports t)) a) ≡ answer_of W t nak
+  nak_says : (a : Asked) → r.asked ≡ a → nak_entry (nak_event (missing_in W (reports t)) a) ≡ answer_of W t nak
   unfolding answer_of
-  nak-says a at = ap (λ (x : Asked). nak-entry (nakEvent (missingIn W (reports t)) x)) (sym at ∙ i.asked)
+  nak_says a at = ap (λ (x : Asked). nak_entry (nak_event (missing_in W (reports t)) x)) (sym at ∙ i.asked)
 
-  nak-by-ok : (a : Asked) → r.asked ≡ a → NakOk (nakStep (nakBy r a))
-  unfolding gaveUp
-  nak-by-ok Unasked at = record {
-    follows = elim (split (nothingMissing W (reports (nak-entry NoEvent ∷ t)))) [
-      | inl n ↦ follows-rest W r.window (nak-entry NoEvent) t (held-quiet i.held) refl true n refl
-      | inr n ↦ follows_on W r.window (nak-entry NoEvent) t (held-quiet i.held) refl Stopped false true Unasked n refl refl refl refl tt
+  nak_by_ok : (a : Asked) → r.asked ≡ a → NakOk (nak_step (nak_by r a))
+  unfolding gave_up
+  nak_by_ok Unasked at = record {
+    follows = elim (split (nothing_missing W (reports (nak_entry NoEvent ∷ t)))) [
+      | inl n ↦ follows_rest W r.window (nak_entry NoEvent) t (held_quiet i.held) refl true n refl
+      | inr n ↦ follows_on W r.window (nak_entry NoEvent) t (held_quiet i.held) refl Stopped false true Unasked n refl refl refl refl tt
     ];
-    says = nak-says Unasked at;
+    says = nak_says Unasked at;
   }
-  nak-by-ok (AskedFor q) at = record {
+  nak_by_ok (AskedFor q) at = record {
     follows =
-        gave-up r t i (nak-entry (lossOf (missingSpan r.window))) true refl (sym (loss-taken (missingSpan r.window) (nakIn t) true));
-    says = ap (λ (x : Span). nak-entry (lossOf x)) (missing-span i.held) ∙ nak-says (AskedFor q) at;
+        gave_up_lem r t i (nak_entry (loss_of (missing_span r.window))) true refl (sym (loss_taken (missing_span r.window) (nak_in t) true));
+    says = ap (λ (x : Span). nak_entry (loss_of x)) (missing_span_lem i.held) ∙ nak_says (AskedFor q) at;
   }
 
-  pub nak-ok : NakOk (step_of r nak)
+  pub nak_ok : NakOk (step_of r nak)
   unfolding step_of
-  nak-ok = subst (λ (h : Told). NakOk (nakStep h)) (sym nak-answer) (nak-by-ok r.asked refl)
+  nak_ok = subst (λ (h : Told). NakOk (nak_step h)) (sym nak_answer_lem) (nak_by_ok r.asked refl)

@@ -10,25 +10,25 @@ use borrow.Author.Tests.{ne_eqb}
 use Rattle.config.specs.Sequence.{turn}
 use Rattle.config.specs.inner.Tests.{split, tests, lifts, and_left}
 use Rattle.command.specs.declared.retransmit.RetransmitRequest.{RetransmitRequest}
-use Rattle.window.specs.Set.{has, top_of, bottomOf}
-use Rattle.window.specs.Window.{behind, processed, missingOf, span_of, missingSpan, requestOf}
-use Rattle.window.specs.Arrival.{reach, lostOf, newOf}
-use Rattle.window.specs.Marking.{in_range, hitsOf, mark_of}
+use Rattle.window.specs.Set.{has, top_of, bottom_of}
+use Rattle.window.specs.Window.{behind, processed, missing_of, span_of, missing_span, request_of}
+use Rattle.window.specs.Arrival.{reach, lost_of, new_of}
+use Rattle.window.specs.Marking.{in_range, hits_of, mark_of}
 use Rattle.window.specs.declared.window.ReceiveWindow.{ReceiveWindow}
 use Rattle.window.specs.declared.window.SeqRange.{SeqRange}
 use Rattle.window.specs.declared.window.Span.TheVariants.{Nothing, Of}
-use Rattle.window.proofs.Digits.{has-pos, has-top, has-bottom, top-most, bottom-least}
-use Rattle.window.proofs.Positions.{has-missing}
-use Rattle.window.proofs.SpanEnds.{span-of, span-nothing}
-use Rattle.window.proofs.AfterNew.{has-lost}
-use Rattle.window.proofs.AfterMark.{has-hits}
+use Rattle.window.proofs.Digits.{has_pos, has_top, has_bottom, top_most, bottom_least}
+use Rattle.window.proofs.Positions.{has_missing}
+use Rattle.window.proofs.SpanEnds.{span_of_lem, span_nothing}
+use Rattle.window.proofs.AfterNew.{has_lost}
+use Rattle.window.proofs.AfterMark.{has_hits}
 use Rattle.receiver_log.specs.Log.{Report, origin, high, unprocessed}
-use Rattle.receiver_log.specs.Spans.{Ends, none, ends, is_none, endsOf, spanFrom, requestFrom, lostAt, missingEnds, missingIn, requestIn, askedFor}
-use Rattle.receiver_log.proofs.EndsOf.{EndsOk, ends-ok}
+use Rattle.receiver_log.specs.Spans.{Ends, none, ends, is_none, ends_of, span_from, request_from, lost_at, missing_ends, missing_in, request_in, asked_for}
+use Rattle.receiver_log.proofs.EndsOf.{EndsOk, ends_ok}
 use Rattle.config.specs.inner.Choices.{never, unless}
 use Rattle.receiver_log.proofs.Numbers.{number_behind}
 use Rattle.receiver_log.proofs.Held.{Held, open_at, near}
-use Rattle.receiver_log.proofs.Arrivals.{shifted-far, open-shifted, lost-near}
+use Rattle.receiver_log.proofs.Arrivals.{shifted_far, open_shifted, lost_near}
 
 range_same : {a b c d : ℕ} → a ≡ b → c ≡ d → Of record { first = a; count = c } ≡ Of record { first = b; count = d }
 range_same p q = λ i. Of record { first = p i; count = q i }
@@ -54,88 +54,88 @@ module _ (H base m n : ℕ) (f : ℕ → Bool)
     at_top : has m (y - (base + 1)) ≡ true
     at_top = digit_at y (omega (arith, h.from, h.order)) h.to h.oldest
 
-    at-bottom : has m (x - (base + 1)) ≡ true
-    at-bottom = digit_at x h.from (omega (arith, h.order, h.to)) h.newest
+    at_bottom : has m (x - (base + 1)) ≡ true
+    at_bottom = digit_at x h.from (omega (arith, h.order, h.to)) h.newest
 
     pub some : 0 < m
-    some = has-pos m _ at_top
+    some = has_pos m _ at_top
 
-    pub top-end : base + top_of m + 1 ≡ y
-    top-end =
-        let j = only (top_of m) (has-top m some) in
-        let k = h.all (base + 1 + top_of m) (omega arith) (omega (arith, j.0)) (sym (agree (top_of m) j.0) ∙ has-top m some) in
-        let up = top-most m (y - (base + 1)) at_top in
+    pub top_end : base + top_of m + 1 ≡ y
+    top_end =
+        let j = only (top_of m) (has_top m some) in
+        let k = h.all (base + 1 + top_of m) (omega arith) (omega (arith, j.0)) (sym (agree (top_of m) j.0) ∙ has_top m some) in
+        let up = top_most m (y - (base + 1)) at_top in
         omega (arith, k.1, up, h.from, h.order)
 
-    pub bottom-end : base + bottomOf m + 1 ≡ x
-    bottom-end =
-        let j = only (bottomOf m) (has-bottom m some) in
-        let k = h.all (base + 1 + bottomOf m) (omega arith) (omega (arith, j.0)) (sym (agree (bottomOf m) j.0) ∙ has-bottom m some) in
-        let down = bottom-least m (x - (base + 1)) at-bottom in
+    pub bottom_end : base + bottom_of m + 1 ≡ x
+    bottom_end =
+        let j = only (bottom_of m) (has_bottom m some) in
+        let k = h.all (base + 1 + bottom_of m) (omega arith) (omega (arith, j.0)) (sym (agree (bottom_of m) j.0) ∙ has_bottom m some) in
+        let down = bottom_least m (x - (base + 1)) at_bottom in
         omega (arith, k.0, down, h.from)
 
-    pub first-is : behind (H % turn) (base + top_of m + 1) ≡ (H - y) % turn
-    first-is =
+    pub first_is : behind (H % turn) (base + top_of m + 1) ≡ (H - y) % turn
+    first_is =
         let j = only (y - (base + 1)) at_top in
-        ap (behind (H % turn)) top-end ∙ number_behind H y (omega (arith, j.1, h.from, h.order)) (omega (arith, j.2, h.from, h.order))
+        ap (behind (H % turn)) top_end ∙ number_behind H y (omega (arith, j.1, h.from, h.order)) (omega (arith, j.2, h.from, h.order))
 
-    pub count-is : top_of m - bottomOf m + 1 ≡ y - x + 1
-    count-is = omega (arith, top-end, bottom-end)
+    pub count_is : top_of m - bottom_of m + 1 ≡ y - x + 1
+    count_is = omega (arith, top_end, bottom_end)
 
-  pub span-is : (s : Ends) → EndsOk f (base + 1) n s → span_of (H % turn) base m ≡ spanFrom H s
-  span-is none h = span-nothing (H % turn) base m (no_digit h)
-  span-is (ends x y) h = span-of (H % turn) base m _ (at_top x y h) ∙ range_same (first-is x y h) (count-is x y h)
+  pub span_is : (s : Ends) → EndsOk f (base + 1) n s → span_of (H % turn) base m ≡ span_from H s
+  span_is none h = span_nothing (H % turn) base m (no_digit h)
+  span_is (ends x y) h = span_of_lem (H % turn) base m _ (at_top x y h) ∙ range_same (first_is x y h) (count_is x y h)
 
   pub none_is : (s : Ends) → EndsOk f (base + 1) n s → eqb m 0 ≡ is_none s
   none_is none h = elim (split (eqb m 0)) [
     | inl e ↦ e
-    | inr e ↦ absurd (never (has-top m (omega (arith, tests))) (no_digit h (top_of m)))
+    | inr e ↦ absurd (never (has_top m (omega (arith, tests))) (no_digit h (top_of m)))
   ]
   none_is (ends x y) h = let p = some x y h in ne_eqb m 0 (λ z. omega arith)
 
 -- ---- missing
 
 module _ {w : ReceiveWindow} {t : List Report} (i : Held w t) where
-  missing-agree : (k : ℕ) → k < w.size → has (missingOf w) k ≡ unprocessed t (high t - (0 + 1 + k))
-  missing-agree k l =
+  missing_agree : (k : ℕ) → k < w.size → has (missing_of w) k ≡ unprocessed t (high t - (0 + 1 + k))
+  missing_agree k l =
       let n = near i in
       let low : ltb k w.size ≡ true = omega (arith, lifts) in
       let at : k + 1 ≡ 0 + 1 + k = omega arith in
-      has-missing w i.valid k ∙ rw low (ap (λ (b : ℕ). not (processed w b)) at ∙ sym (open_at i (0 + 1 + k) (omega (arith, n.0, n.1))))
+      has_missing w i.valid k ∙ rw low (ap (λ (b : ℕ). not (processed w b)) at ∙ sym (open_at i (0 + 1 + k) (omega (arith, n.0, n.1))))
 
-  missing-only : (k : ℕ) → has (missingOf w) k ≡ true → (k < w.size) × (0 + 1 + k ≤ high t) × (0 + 1 + k < turn)
-  missing-only k e =
+  missing_only : (k : ℕ) → has (missing_of w) k ≡ true → (k < w.size) × (0 + 1 + k ≤ high t) × (0 + 1 + k < turn)
+  missing_only k e =
       let n = near i in
-      let low : ltb k w.size ≡ true = and_left _ _ (sym (has-missing w i.valid k) ∙ e) in
+      let low : ltb k w.size ≡ true = and_left _ _ (sym (has_missing w i.valid k) ∙ e) in
       (omega (arith, tests), omega (arith, tests, n.0, n.1), omega (arith, tests, n.0))
 
   abbrev missing_at : ℕ → Bool
   missing_at b = unprocessed t (high t - b)
 
-  pub missing-span : missingSpan w ≡ missingIn w.size t
-  unfolding missingEnds
-  missing-span =
-      ap (λ (h : ℕ). span_of h 0 (missingOf w)) i.highest
-      ∙ span-is (high t) 0 (missingOf w) w.size missing_at missing-agree missing-only (endsOf missing_at 1 w.size) (ends-ok missing_at 1 w.size)
+  pub missing_span_lem : missing_span w ≡ missing_in w.size t
+  unfolding missing_ends
+  missing_span_lem =
+      ap (λ (h : ℕ). span_of h 0 (missing_of w)) i.highest
+      ∙ span_is (high t) 0 (missing_of w) w.size missing_at missing_agree missing_only (ends_of missing_at 1 w.size) (ends_ok missing_at 1 w.size)
 
-  pub missing-none : eqb (missingOf w) 0 ≡ is_none (missingEnds w.size t)
-  unfolding missingEnds
-  missing-none = none_is (high t) 0 (missingOf w) w.size missing_at missing-agree missing-only (endsOf missing_at 1 w.size) (ends-ok missing_at 1 w.size)
+  pub missing_none : eqb (missing_of w) 0 ≡ is_none (missing_ends w.size t)
+  unfolding missing_ends
+  missing_none = none_is (high t) 0 (missing_of w) w.size missing_at missing_agree missing_only (ends_of missing_at 1 w.size) (ends_ok missing_at 1 w.size)
 
-  pub request-is : requestOf w ≡ requestIn w.size t
-  unfolding requestOf missingEnds
-  request-is = go (endsOf missing_at 1 w.size) (ends-ok missing_at 1 w.size)
+  pub request_is : request_of w ≡ request_in w.size t
+  unfolding request_of missing_ends
+  request_is = go (ends_of missing_at 1 w.size) (ends_ok missing_at 1 w.size)
     where
       go : (s : Ends) → EndsOk missing_at 1 w.size s
-          → cond (eqb (missingOf w) 0) Nothing (Of record { first = behind w.highest (top_of (missingOf w) + 1); count = top_of (missingOf w) + 1 }) ≡ requestFrom (high t) s
-      go none h = rw (none_is (high t) 0 (missingOf w) w.size missing_at missing-agree missing-only none h)
+          → cond (eqb (missing_of w) 0) Nothing (Of record { first = behind w.highest (top_of (missing_of w) + 1); count = top_of (missing_of w) + 1 }) ≡ request_from (high t) s
+      go none h = rw (none_is (high t) 0 (missing_of w) w.size missing_at missing_agree missing_only none h)
       go (ends x y) h =
-          let top = top-end (high t) 0 (missingOf w) w.size missing_at missing-agree missing-only x y h in
-          let at : top_of (missingOf w) + 1 ≡ 0 + top_of (missingOf w) + 1 = omega arith in
-          rw (none_is (high t) 0 (missingOf w) w.size missing_at missing-agree missing-only (ends x y) h)
+          let top = top_end (high t) 0 (missing_of w) w.size missing_at missing_agree missing_only x y h in
+          let at : top_of (missing_of w) + 1 ≡ 0 + top_of (missing_of w) + 1 = omega arith in
+          rw (none_is (high t) 0 (missing_of w) w.size missing_at missing_agree missing_only (ends x y) h)
           (range_same
-          (ap (λ (h : ℕ). behind h (top_of (missingOf w) + 1)) i.highest ∙ ap (behind (high t % turn)) at
-          ∙ first-is (high t) 0 (missingOf w) w.size missing_at missing-agree missing-only x y h)
+          (ap (λ (h : ℕ). behind h (top_of (missing_of w) + 1)) i.highest ∙ ap (behind (high t % turn)) at
+          ∙ first_is (high t) 0 (missing_of w) w.size missing_at missing_agree missing_only x y h)
           (omega (arith, top)))
 
   -- ---- those that a request asks for
@@ -144,30 +144,30 @@ module _ {w : ReceiveWindow} {t : List Report} (i : Held w t) where
     abbrev range : SeqRange
     range = record { first = q.seq; count = q.count }
 
-    abbrev asked-at : ℕ → Bool
-    asked-at b = unprocessed t (high t - b) && in_range range ((high t - b) % turn)
+    abbrev asked_at : ℕ → Bool
+    asked_at b = unprocessed t (high t - b) && in_range range ((high t - b) % turn)
 
-    asked-agree : (k : ℕ) → k < w.size → has (hitsOf range w.highest (missingOf w) w.size) k ≡ asked-at (0 + 1 + k)
-    asked-agree k l =
+    asked_agree : (k : ℕ) → k < w.size → has (hits_of range w.highest (missing_of w) w.size) k ≡ asked_at (0 + 1 + k)
+    asked_agree k l =
         let n = near i in
         let low : ltb k w.size ≡ true = omega (arith, lifts) in
         let at : k + 1 ≡ 0 + 1 + k = omega arith in
         let num : behind w.highest (k + 1) ≡ (high t - (0 + 1 + k)) % turn =
         ap (λ (h : ℕ). behind h (k + 1)) i.highest ∙ ap (behind (high t % turn)) at ∙ number_behind (high t) (0 + 1 + k) (omega (arith, n.0, n.1)) (omega (arith, n.0)) in
-        has-hits range w.highest (missingOf w) w.size k ∙ rw (low, missing-agree k l, num)
+        has_hits range w.highest (missing_of w) w.size k ∙ rw (low, missing_agree k l, num)
 
-    asked-only : (k : ℕ) → has (hitsOf range w.highest (missingOf w) w.size) k ≡ true → (k < w.size) × (0 + 1 + k ≤ high t) × (0 + 1 + k < turn)
-    asked-only k e =
+    asked_only : (k : ℕ) → has (hits_of range w.highest (missing_of w) w.size) k ≡ true → (k < w.size) × (0 + 1 + k ≤ high t) × (0 + 1 + k < turn)
+    asked_only k e =
         let n = near i in
-        let low : ltb k w.size ≡ true = and_left _ _ (sym (has-hits range w.highest (missingOf w) w.size k) ∙ e) in
+        let low : ltb k w.size ≡ true = and_left _ _ (sym (has_hits range w.highest (missing_of w) w.size k) ∙ e) in
         (omega (arith, tests), omega (arith, tests, n.0, n.1), omega (arith, tests, n.0))
 
-    pub marked-span : (mark_of w range).span ≡ askedFor w.size t q
-    unfolding mark_of askedFor
-    marked-span =
-        ap (λ (h : ℕ). span_of h 0 (hitsOf range w.highest (missingOf w) w.size)) i.highest
-        ∙ span-is (high t) 0 (hitsOf range w.highest (missingOf w) w.size) w.size asked-at asked-agree asked-only
-        (endsOf asked-at 1 w.size) (ends-ok asked-at 1 w.size)
+    pub marked_span : (mark_of w range).span ≡ asked_for w.size t q
+    unfolding mark_of asked_for
+    marked_span =
+        ap (λ (h : ℕ). span_of h 0 (hits_of range w.highest (missing_of w) w.size)) i.highest
+        ∙ span_is (high t) 0 (hits_of range w.highest (missing_of w) w.size) w.size asked_at asked_agree asked_only
+        (ends_of asked_at 1 w.size) (ends_ok asked_at 1 w.size)
 
   -- ---- what left the window
 
@@ -178,27 +178,27 @@ module _ {w : ReceiveWindow} {t : List Report} (i : Held w t) where
     abbrev older : ℕ
     older = high t + d - origin - w.size
 
-    left-agree : (k : ℕ) → k < older → has (lostOf w.size (missingOf w) d) k ≡ left_at (w.size + 1 + k)
-    left-agree k l = has-lost w i.valid d k p ∙ sym (open-shifted w t d i p r (w.size + 1 + k) (omega arith) (omega arith))
+    left_agree : (k : ℕ) → k < older → has (lost_of w.size (missing_of w) d) k ≡ left_at (w.size + 1 + k)
+    left_agree k l = has_lost w i.valid d k p ∙ sym (open_shifted w t d i p r (w.size + 1 + k) (omega arith) (omega arith))
 
-    left-only : (k : ℕ) → has (lostOf w.size (missingOf w) d) k ≡ true → (k < older) × (w.size + 1 + k ≤ high t + d) × (w.size + 1 + k < turn)
-    left-only k e = elim (split (ltb (high t + d) (w.size + 1 + k))) [
+    left_only : (k : ℕ) → has (lost_of w.size (missing_of w) d) k ≡ true → (k < older) × (w.size + 1 + k ≤ high t + d) × (w.size + 1 + k < turn)
+    left_only k e = elim (split (ltb (high t + d) (w.size + 1 + k))) [
       | inl l ↦
-          let far : has (lostOf w.size (missingOf w) d) k ≡ false =
-          has-lost w i.valid d k p ∙ ap not (shifted-far w t d i p r (w.size + 1 + k) (beyond (near i) (omega (arith, tests)))) in
+          let far : has (lost_of w.size (missing_of w) d) k ≡ false =
+          has_lost w i.valid d k p ∙ ap not (shifted_far w t d i p r (w.size + 1 + k) (beyond (near i) (omega (arith, tests)))) in
           absurd (never e far)
       | inr l ↦
-          let o = open-shifted w t d i p r (w.size + 1 + k) (omega arith) (omega (arith, tests)) in
-          let j = lost-near w t d i p r (w.size + 1 + k) (omega arith) (o ∙ sym (has-lost w i.valid d k p) ∙ e) in
+          let o = open_shifted w t d i p r (w.size + 1 + k) (omega arith) (omega (arith, tests)) in
+          let j = lost_near w t d i p r (w.size + 1 + k) (omega arith) (o ∙ sym (has_lost w i.valid d k p) ∙ e) in
           (omega (arith, j.0), omega (arith, j.0), j.2)
     ]
       where
         beyond : (w.size ≤ 128) × (128 < high t) → high t + d < w.size + 1 + k → w.size + d < w.size + 1 + k
         beyond n l = omega (arith, n.0, n.1)
 
-    pub lost-span : (seq : ℕ) → (high t + d) % turn ≡ seq → (newOf w seq d).lost ≡ lostAt w.size t (high t + d)
-    unfolding newOf lostAt
-    lost-span seq e =
-        ap (λ (h : ℕ). span_of h w.size (lostOf w.size (missingOf w) d)) (sym e)
-        ∙ span-is (high t + d) w.size (lostOf w.size (missingOf w) d) older left_at left-agree left-only (endsOf left_at (w.size + 1) older)
-        (ends-ok left_at (w.size + 1) older)
+    pub lost_span : (seq : ℕ) → (high t + d) % turn ≡ seq → (new_of w seq d).lost ≡ lost_at w.size t (high t + d)
+    unfolding new_of lost_at
+    lost_span seq e =
+        ap (λ (h : ℕ). span_of h w.size (lost_of w.size (missing_of w) d)) (sym e)
+        ∙ span_is (high t + d) w.size (lost_of w.size (missing_of w) d) older left_at left_agree left_only (ends_of left_at (w.size + 1) older)
+        (ends_ok left_at (w.size + 1) older)

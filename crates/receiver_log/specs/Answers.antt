@@ -2,17 +2,17 @@
 use Rattle.std.specs.Prelude.{ℕ, ◌%◌, Bool, cond, ◌&&◌, List, [], ◌∷◌, length}
 use Rattle.config.specs.Entry.{entry}
 use Rattle.config.specs.Sequence.{turn}
-use Rattle.config.specs.Settings.{checkOf, tested}
+use Rattle.config.specs.Settings.{check_of, tested}
 use Rattle.config.specs.declared.settings.StreamConfig.{StreamConfig}
-use Rattle.packet.specs.Write.{written_of, valid_of as payloadValid}
+use Rattle.packet.specs.Write.{written_of, valid_of as payload_valid}
 use Rattle.packet.specs.declared.writer.PayloadWriter.{PayloadWriter}
 use Rattle.config.specs.declared.answer.Outcome.{Outcome}
 use Rattle.config.specs.declared.answer.Outcome.TheVariants.{Done, Refused}
-use Rattle.command.specs.Write.{requestPacket}
+use Rattle.command.specs.Write.{request_packet}
 use Rattle.command.specs.declared.retransmit.RetransmitError.{RetransmitError}
 use Rattle.window.specs.declared.window.Span.{Span}
 use Rattle.window.specs.declared.window.Span.TheVariants.{Nothing as NoSpan, Of}
-use Rattle.receiver.specs.Receiver.{gap_of, lossOf, errorEvent, noFit}
+use Rattle.receiver.specs.Receiver.{gap_of, loss_of, error_event, no_fit}
 use Rattle.receiver.specs.declared.receiver.Asked.{Asked}
 use Rattle.receiver.specs.declared.receiver.Asked.TheVariants.{Nothing as Unasked, Request as AskedFor}
 use Rattle.receiver.specs.declared.receiver.Delivery.{Delivery}
@@ -21,54 +21,54 @@ use Rattle.receiver.specs.declared.receiver.StreamEvent.{StreamEvent}
 use Rattle.receiver.specs.declared.receiver.StreamEvent.TheVariants.{Nothing as NoEvent, RetransmitError as ErrorOnly, Refused as EventRefused}
 use Rattle.receiver.specs.declared.receiver.Request.{Request}
 use Rattle.receiver.specs.declared.receiver.Request.TheVariants.{Nothing as NotDue, Written, Refused as RequestRefused}
-use Rattle.receiver_log.specs.Calls.{Call, data-command, poll, retransmit-error, nak, take-request, Entry, data-entry, poll-entry, error-entry, nak-entry, take-entry}
+use Rattle.receiver_log.specs.Calls.{Call, data_command, poll, retransmit_error, nak, take_request, Entry, data_entry, poll_entry, error_entry, nak_entry, take_entry}
 use Rattle.receiver_log.specs.Log.{Report, reports, high}
-use Rattle.receiver_log.specs.Spans.{classIn, lostIn, missingIn, requestIn, askedFor}
-use Rattle.receiver_log.specs.Timing.{enabledIn, Tick, waits, asks, gives_up, tickAt, timerIn, dueIn, askedIn}
+use Rattle.receiver_log.specs.Spans.{class_in, lost_in, missing_in, request_in, asked_for}
+use Rattle.receiver_log.specs.Timing.{enabled_in, Tick, waits, asks, gives_up, tick_at, timer_in, due_in, asked_in}
 
 -- a data command: its class, the skipped numbers, and its loss
-abbrev pub deliveryIn : ℕ → List Report → ℕ → Delivery
-deliveryIn W t seq = record { seq = seq; class = classIn W t seq; gap = gap_of (high t % turn) (classIn W t seq); lost = lostIn W t seq }
+abbrev pub delivery_in : ℕ → List Report → ℕ → Delivery
+delivery_in W t seq = record { seq = seq; class = class_in W t seq; gap = gap_of (high t % turn) (class_in W t seq); lost = lost_in W t seq }
 
 -- a poll reports the missing span where it gives up
-abbrev pub pollEvent : Span → Tick → StreamEvent
-pollEvent missing waits = NoEvent
-pollEvent missing asks = NoEvent
-pollEvent missing gives_up = lossOf missing
+abbrev pub poll_event : Span → Tick → StreamEvent
+poll_event missing waits = NoEvent
+poll_event missing asks = NoEvent
+poll_event missing gives_up = loss_of missing
 
 -- A Retransmit Error to an unanswered request reports from the oldest to the newest of the missing positions of its span.
-abbrev pub errorIn : ℕ → List Report → RetransmitError → Asked → StreamEvent
-errorIn W t e Unasked = ErrorOnly e
-errorIn W t e (AskedFor q) = errorEvent e (askedFor W t q)
+abbrev pub error_in : ℕ → List Report → RetransmitError → Asked → StreamEvent
+error_in W t e Unasked = ErrorOnly e
+error_in W t e (AskedFor q) = error_event e (asked_for W t q)
 
 -- A NAK with a request unanswered reports all missing.
-abbrev pub nakEvent : Span → Asked → StreamEvent
-nakEvent missing Unasked = NoEvent
-nakEvent missing (AskedFor q) = lossOf missing
+abbrev pub nak_event : Span → Asked → StreamEvent
+nak_event missing Unasked = NoEvent
+nak_event missing (AskedFor q) = loss_of missing
 
 -- a due request is written, or doesn't fit
-abbrev pub writeAnswer : PayloadWriter → Outcome → Request
-writeAnswer p Done = Written
-writeAnswer p (Refused why) = noFit p
+abbrev pub write_answer : PayloadWriter → Outcome → Request
+write_answer p Done = Written
+write_answer p (Refused why) = no_fit p
 
 abbrev pub offered : StreamConfig → PayloadWriter → List ℕ → Span → Entry
-offered s p b NoSpan = take-entry s p b NotDue p b
+offered s p b NoSpan = take_entry s p b NotDue p b
 offered s p b (Of range) =
-    let w = written_of p b (requestPacket record { seq = range.first; count = range.count }) in
-    take-entry s p b (writeAnswer w.0.payload w.0.answer) w.0.payload w.1
+    let w = written_of p b (request_packet record { seq = range.first; count = range.count }) in
+    take_entry s p b (write_answer w.0.payload w.0.answer) w.0.payload w.1
 
 -- nothing due, or dropped since requests are disabled; otherwise offered to the payload
-abbrev pub takeIn : StreamConfig → PayloadWriter → List ℕ → Bool → Span → Entry
-takeIn s p b offers request =
-    entry (checkOf s) (payloadValid p (length b)) (λ why. take-entry s p b (RequestRefused why) p b) (cond offers (offered s p b request) (take-entry s p b NotDue p b))
+abbrev pub take_in : StreamConfig → PayloadWriter → List ℕ → Bool → Span → Entry
+take_in s p b offers request =
+    entry (check_of s) (payload_valid p (length b)) (λ why. take_entry s p b (RequestRefused why) p b) (cond offers (offered s p b request) (take_entry s p b NotDue p b))
 
 unfoldable pub answer_of : ℕ → List Entry → Call → Entry
-answer_of W t (data-command s time seq ws) = data-entry s time seq ws (tested (checkOf s) HearingRefused (Delivered (deliveryIn W (reports t) seq)))
+answer_of W t (data_command s time seq ws) = data_entry s time seq ws (tested (check_of s) HearingRefused (Delivered (delivery_in W (reports t) seq)))
 answer_of W t (poll s time) =
-    poll-entry s time (tested (checkOf s) EventRefused (pollEvent (missingIn W (reports t)) (tickAt (enabledIn t s) s time (timerIn W t))))
-answer_of W t (retransmit-error e) = error-entry e (errorIn W (reports t) e (askedIn W t))
-answer_of W t nak = nak-entry (nakEvent (missingIn W (reports t)) (askedIn W t))
-answer_of W t (take-request s p b) = takeIn s p b (dueIn W t && enabledIn t s) (requestIn W (reports t))
+    poll_entry s time (tested (check_of s) EventRefused (poll_event (missing_in W (reports t)) (tick_at (enabled_in t s) s time (timer_in W t))))
+answer_of W t (retransmit_error e) = error_entry e (error_in W (reports t) e (asked_in W t))
+answer_of W t nak = nak_entry (nak_event (missing_in W (reports t)) (asked_in W t))
+answer_of W t (take_request s p b) = take_in s p b (due_in W t && enabled_in t s) (request_in W (reports t))
 
 -- the log of a list of calls, from the calls alone
 unfoldable pub said_of : ℕ → List Entry → List Call → List Entry

@@ -5,7 +5,7 @@ use Rattle.config.specs.declared.settings.StreamConfig.{StreamConfig}
 use Rattle.packet.specs.declared.writer.PayloadWriter.{PayloadWriter}
 use Rattle.command.specs.declared.retransmit.RetransmitError.{RetransmitError}
 use Rattle.receiver.specs.Receiver.{fresh_of}
-use Rattle.receiver.specs.Answers.{dataAnswer, pollAnswer, errorAnswer, nakAnswer, takeAnswer}
+use Rattle.receiver.specs.Answers.{data_answer, poll_answer, error_answer, nak_answer, take_answer}
 use Rattle.receiver.specs.declared.receiver.Receiver.{Receiver}
 use Rattle.receiver.specs.declared.receiver.Hearing.{Hearing}
 use Rattle.receiver.specs.declared.receiver.StreamEvent.{StreamEvent}
@@ -14,21 +14,21 @@ use Rattle.receiver.specs.declared.receiver.Request.{Request}
 -- a call, each argument free
 pub data Call : Type 0 where
   -- settings, time, number, words
-  data-command : StreamConfig → ℕ → ℕ → List ℕ → Call
+  data_command : StreamConfig → ℕ → ℕ → List ℕ → Call
   -- settings, time
   poll : StreamConfig → ℕ → Call
-  retransmit-error : RetransmitError → Call
+  retransmit_error : RetransmitError → Call
   nak : Call
   -- settings, payload, buffer
-  take-request : StreamConfig → PayloadWriter → List ℕ → Call
+  take_request : StreamConfig → PayloadWriter → List ℕ → Call
 
 -- a call with its answer; of taking a request also the payload and the buffer after it
 pub data Entry : Type 0 where
-  data-entry : StreamConfig → ℕ → ℕ → List ℕ → Hearing → Entry
-  poll-entry : StreamConfig → ℕ → StreamEvent → Entry
-  error-entry : RetransmitError → StreamEvent → Entry
-  nak-entry : StreamEvent → Entry
-  take-entry : StreamConfig → PayloadWriter → List ℕ → Request → PayloadWriter → List ℕ → Entry
+  data_entry : StreamConfig → ℕ → ℕ → List ℕ → Hearing → Entry
+  poll_entry : StreamConfig → ℕ → StreamEvent → Entry
+  error_entry : RetransmitError → StreamEvent → Entry
+  nak_entry : StreamEvent → Entry
+  take_entry : StreamConfig → PayloadWriter → List ℕ → Request → PayloadWriter → List ℕ → Entry
 
 -- the state that a call leaves, and what goes into the log
 pub record Step : Type 0 where
@@ -36,21 +36,21 @@ pub record Step : Type 0 where
   pub entry : Entry
 
 unfoldable pub step_of : Receiver → Call → Step
-step_of r (data-command s time seq ws) =
-    let h = dataAnswer r s time seq in
-    record { receiver = h.receiver; entry = data-entry s time seq ws h.answer }
+step_of r (data_command s time seq ws) =
+    let h = data_answer r s time seq in
+    record { receiver = h.receiver; entry = data_entry s time seq ws h.answer }
 step_of r (poll s time) =
-    let h = pollAnswer r s time in
-    record { receiver = h.receiver; entry = poll-entry s time h.event }
-step_of r (retransmit-error e) =
-    let h = errorAnswer r e in
-    record { receiver = h.receiver; entry = error-entry e h.event }
+    let h = poll_answer r s time in
+    record { receiver = h.receiver; entry = poll_entry s time h.event }
+step_of r (retransmit_error e) =
+    let h = error_answer r e in
+    record { receiver = h.receiver; entry = error_entry e h.event }
 step_of r nak =
-    let h = nakAnswer r in
-    record { receiver = h.receiver; entry = nak-entry h.event }
-step_of r (take-request s p b) =
-    let h = takeAnswer r s p b in
-    record { receiver = h.0.receiver; entry = take-entry s p b h.0.answer h.0.payload h.1 }
+    let h = nak_answer r in
+    record { receiver = h.receiver; entry = nak_entry h.event }
+step_of r (take_request s p b) =
+    let h = take_answer r s p b in
+    record { receiver = h.0.receiver; entry = take_entry s p b h.0.answer h.0.payload h.1 }
 
 -- the state left, and the log, newest first
 pub record Run : Type 0 where
@@ -67,11 +67,11 @@ run W calls = run_from (fresh_of W) [] calls
 
 -- a number has 16 bits
 abbrev pub Typed : Call → Type 0
-Typed (data-command s time seq ws) = seq < turn
+Typed (data_command s time seq ws) = seq < turn
 Typed (poll s time) = Unit {0}
-Typed (retransmit-error e) = Unit {0}
+Typed (retransmit_error e) = Unit {0}
 Typed nak = Unit {0}
-Typed (take-request s p b) = Unit {0}
+Typed (take_request s p b) = Unit {0}
 
 abbrev pub AllTyped : List Call → Type 0
 AllTyped [] = Unit {0}

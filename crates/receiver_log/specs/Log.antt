@@ -12,7 +12,7 @@ use Rattle.window.specs.declared.window.Span.TheVariants.{Nothing, Of}
 use Rattle.receiver.specs.declared.receiver.Hearing.TheVariants.{Delivery as Delivered, Refused as HearingRefused}
 use Rattle.receiver.specs.declared.receiver.StreamEvent.{StreamEvent}
 use Rattle.receiver.specs.declared.receiver.StreamEvent.TheVariants.{Nothing as NoEvent, DataLoss, ErrorLoss, RetransmitError as ErrorOnly, Refused as EventRefused}
-use Rattle.receiver_log.specs.Calls.{Entry, data-entry, poll-entry, error-entry, nak-entry, take-entry}
+use Rattle.receiver_log.specs.Calls.{Entry, data_entry, poll_entry, error_entry, nak_entry, take_entry}
 
 -- ---- what a call says of positions
 
@@ -22,28 +22,28 @@ pub data Report : Type 0 where
   -- any other call, with the loss that it reports
   told : Span → Report
 
-abbrev pub lossOf : Report → Span
-lossOf (heard seq ws c l) = l
-lossOf (told l) = l
+abbrev pub loss_of : Report → Span
+loss_of (heard seq ws c l) = l
+loss_of (told l) = l
 
-abbrev pub lossIn : StreamEvent → Span
-lossIn NoEvent = Nothing
-lossIn (DataLoss range) = Of range
-lossIn (ErrorLoss range e) = Of range
-lossIn (ErrorOnly e) = Nothing
-lossIn (EventRefused why) = Nothing
+abbrev pub loss_in : StreamEvent → Span
+loss_in NoEvent = Nothing
+loss_in (DataLoss range) = Of range
+loss_in (ErrorLoss range e) = Of range
+loss_in (ErrorOnly e) = Nothing
+loss_in (EventRefused why) = Nothing
 
-abbrev pub reportOf : Entry → Report
-reportOf (data-entry s time seq ws (Delivered d)) = heard seq ws d.class d.lost
-reportOf (data-entry s time seq ws (HearingRefused why)) = told Nothing
-reportOf (poll-entry s time e) = told (lossIn e)
-reportOf (error-entry q e) = told (lossIn e)
-reportOf (nak-entry e) = told (lossIn e)
-reportOf (take-entry s p b a q c) = told Nothing
+abbrev pub report_of : Entry → Report
+report_of (data_entry s time seq ws (Delivered d)) = heard seq ws d.class d.lost
+report_of (data_entry s time seq ws (HearingRefused why)) = told Nothing
+report_of (poll_entry s time e) = told (loss_in e)
+report_of (error_entry q e) = told (loss_in e)
+report_of (nak_entry e) = told (loss_in e)
+report_of (take_entry s p b a q c) = told Nothing
 
 abbrev pub reports : List Entry → List Report
 reports [] = []
-reports (e ∷ t) = reportOf e ∷ reports t
+reports (e ∷ t) = report_of e ∷ reports t
 
 -- ---- positions
 
@@ -52,12 +52,12 @@ abbrev pub origin : ℕ
 origin = turn
 
 -- a number is read as ahead of the highest place
-unfoldable pub isAhead : ℕ → ℕ → Bool
-isAhead highest seq = within 1 reach (ahead (highest % turn) seq)
+unfoldable pub is_ahead : ℕ → ℕ → Bool
+is_ahead highest seq = within 1 reach (ahead (highest % turn) seq)
 
 -- the place of a number, read against the highest
 unfoldable pub place : ℕ → ℕ → ℕ
-place highest seq = cond (isAhead highest seq) (highest + ahead (highest % turn) seq) (highest - ahead seq (highest % turn))
+place highest seq = cond (is_ahead highest seq) (highest + ahead (highest % turn) seq) (highest - ahead seq (highest % turn))
 
 -- the highest place after a report
 abbrev pub raised : ℕ → Report → ℕ
@@ -77,14 +77,14 @@ hands Late = true
 hands Duplicate = false
 
 -- a report hands the place x on
-abbrev pub handsOn : ℕ → Report → ℕ → Bool
-handsOn highest (heard seq ws c l) x = hands c && eqb x (place highest seq)
-handsOn highest (told l) x = false
+abbrev pub hands_on : ℕ → Report → ℕ → Bool
+hands_on highest (heard seq ws c l) x = hands c && eqb x (place highest seq)
+hands_on highest (told l) x = false
 
 -- how often the place x was handed on
 abbrev pub times : List Report → ℕ → ℕ
 times [] x = 0
-times (e ∷ t) x = cond (handsOn (high t) e x) (suc (times t x)) (times t x)
+times (e ∷ t) x = cond (hands_on (high t) e x) (suc (times t x)) (times t x)
 
 -- ---- lost
 
@@ -93,14 +93,14 @@ unfoldable pub start : ℕ → ℕ → ℕ
 start highest first = highest - ahead first (highest % turn)
 
 -- a loss holds as many positions as its count, upward from there
-abbrev pub inLoss : ℕ → Span → ℕ → Bool
-inLoss highest Nothing x = false
-inLoss highest (Of range) x = leb (start highest range.first) x && ltb x (start highest range.first + range.count)
+abbrev pub in_loss : ℕ → Span → ℕ → Bool
+in_loss highest Nothing x = false
+in_loss highest (Of range) x = leb (start highest range.first) x && ltb x (start highest range.first + range.count)
 
 -- the place x lies in a reported loss
 abbrev pub lost : List Report → ℕ → Bool
 lost [] x = false
-lost (e ∷ t) x = inLoss (high (e ∷ t)) (lossOf e) x || lost t x
+lost (e ∷ t) x = in_loss (high (e ∷ t)) (loss_of e) x || lost t x
 
 -- ---- missing
 
@@ -110,8 +110,8 @@ unprocessed t x = leb origin x && (eqb (times t x) 0 && not (lost t x))
 
 -- unprocessed, and 1 to W behind the highest
 pub record Missing (W : ℕ) (t : List Report) (x : ℕ) : Type 0 where
-  pub from-0 : origin ≤ x
+  pub from_0 : origin ≤ x
   pub below : x < high t
-  pub within-W : high t ≤ x + W
-  pub not-handed-on : times t x ≡ 0
-  pub not-lost : lost t x ≡ false
+  pub within_W : high t ≤ x + W
+  pub not_handed_on : times t x ≡ 0
+  pub not_lost : lost t x ≡ false

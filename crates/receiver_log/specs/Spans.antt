@@ -8,7 +8,7 @@ use Rattle.window.specs.declared.window.Class.{Class}
 use Rattle.window.specs.declared.window.Class.TheVariants.{New, Late, Duplicate}
 use Rattle.window.specs.declared.window.Span.{Span}
 use Rattle.window.specs.declared.window.Span.TheVariants.{Nothing, Of}
-use Rattle.receiver_log.specs.Log.{Report, origin, isAhead, place, high, unprocessed}
+use Rattle.receiver_log.specs.Log.{Report, origin, is_ahead, place, high, unprocessed}
 
 -- ---- ends
 
@@ -27,59 +27,59 @@ widen b none = ends b b
 widen b (ends newest oldest) = ends newest b
 
 -- of the n positions from `low` behind on, those that f holds of
-unfoldable pub endsOf : (ℕ → Bool) → ℕ → ℕ → Ends
-endsOf f low zero = none
-endsOf f low (suc n) = cond (f (low + n)) (widen (low + n) (endsOf f low n)) (endsOf f low n)
+unfoldable pub ends_of : (ℕ → Bool) → ℕ → ℕ → Ends
+ends_of f low zero = none
+ends_of f low (suc n) = cond (f (low + n)) (widen (low + n) (ends_of f low n)) (ends_of f low n)
 
 -- the numbers from the oldest to the newest
-abbrev pub spanFrom : ℕ → Ends → Span
-spanFrom highest none = Nothing
-spanFrom highest (ends newest oldest) = Of record { first = (highest - oldest) % turn; count = oldest - newest + 1 }
+abbrev pub span_from : ℕ → Ends → Span
+span_from highest none = Nothing
+span_from highest (ends newest oldest) = Of record { first = (highest - oldest) % turn; count = oldest - newest + 1 }
 
 -- the numbers from the oldest to just before the highest
-abbrev pub requestFrom : ℕ → Ends → Span
-requestFrom highest none = Nothing
-requestFrom highest (ends newest oldest) = Of record { first = (highest - oldest) % turn; count = oldest }
+abbrev pub request_from : ℕ → Ends → Span
+request_from highest none = Nothing
+request_from highest (ends newest oldest) = Of record { first = (highest - oldest) % turn; count = oldest }
 
 -- ---- a number arrives
 
 -- New if ahead, its gap one less than the distance; Late if 1 to W behind and not processed; otherwise Duplicate
-unfoldable pub classIn : ℕ → List Report → ℕ → Class
-classIn W t seq =
-    cond (isAhead (high t) seq) (New (ahead (high t % turn) seq - 1))
+unfoldable pub class_in : ℕ → List Report → ℕ → Class
+class_in W t seq =
+    cond (is_ahead (high t) seq) (New (ahead (high t % turn) seq - 1))
     (cond (within 1 W (ahead seq (high t % turn)) && unprocessed t (place (high t) seq)) Late
     Duplicate)
 
 -- the oldest to the newest unprocessed position, skipped ones included, of those from position 0 that are more than W behind the place `to`
-unfoldable pub lostAt : ℕ → List Report → ℕ → Span
-unfolding endsOf
-lostAt W t to = spanFrom to (endsOf (λ b. unprocessed t (to - b)) (W + 1) (to - origin - W))
+unfoldable pub lost_at : ℕ → List Report → ℕ → Span
+unfolding ends_of
+lost_at W t to = span_from to (ends_of (λ b. unprocessed t (to - b)) (W + 1) (to - origin - W))
 
 -- a New number's loss
-unfoldable pub lostIn : ℕ → List Report → ℕ → Span
-unfolding lostAt
-lostIn W t seq = cond (isAhead (high t) seq) (lostAt W t (place (high t) seq)) Nothing
+unfoldable pub lost_in : ℕ → List Report → ℕ → Span
+unfolding lost_at
+lost_in W t seq = cond (is_ahead (high t) seq) (lost_at W t (place (high t) seq)) Nothing
 
 -- ---- missing
 
-unfoldable pub missingEnds : ℕ → List Report → Ends
-unfolding endsOf
-missingEnds W t = endsOf (λ b. unprocessed t (high t - b)) 1 W
+unfoldable pub missing_ends : ℕ → List Report → Ends
+unfolding ends_of
+missing_ends W t = ends_of (λ b. unprocessed t (high t - b)) 1 W
 
-abbrev pub nothingMissing : ℕ → List Report → Bool
-nothingMissing W t = is_none (missingEnds W t)
+abbrev pub nothing_missing : ℕ → List Report → Bool
+nothing_missing W t = is_none (missing_ends W t)
 
 -- from the oldest missing position to the newest
-abbrev pub missingIn : ℕ → List Report → Span
-missingIn W t = spanFrom (high t) (missingEnds W t)
+abbrev pub missing_in : ℕ → List Report → Span
+missing_in W t = span_from (high t) (missing_ends W t)
 
 -- from the oldest missing position to just before the highest
-abbrev pub requestIn : ℕ → List Report → Span
-requestIn W t = requestFrom (high t) (missingEnds W t)
+abbrev pub request_in : ℕ → List Report → Span
+request_in W t = request_from (high t) (missing_ends W t)
 
 -- from the oldest to the newest of the missing positions whose numbers a request asks for
-unfoldable pub askedFor : ℕ → List Report → RetransmitRequest → Span
-unfolding endsOf
-askedFor W t q =
-    spanFrom (high t)
-    (endsOf (λ b. unprocessed t (high t - b) && in_range (record { first = q.seq; count = q.count }) ((high t - b) % turn)) 1 W)
+unfoldable pub asked_for : ℕ → List Report → RetransmitRequest → Span
+unfolding ends_of
+asked_for W t q =
+    span_from (high t)
+    (ends_of (λ b. unprocessed t (high t - b) && in_range (record { first = q.seq; count = q.count }) ((high t - b) % turn)) 1 W)

@@ -3,7 +3,7 @@ use Rattle.std.specs.Prelude.{ℕ, ◌+◌, Bool, true, false, cond, not, ◌&&�
 use Rattle.config.specs.declared.settings.StreamConfig.{StreamConfig}
 use Rattle.window.specs.declared.window.Span.{Span}
 use Rattle.window.specs.declared.window.Span.TheVariants.{Nothing as NoSpan, Of}
-use Rattle.receiver.specs.Receiver.{dueAfter, isGap, restarts}
+use Rattle.receiver.specs.Receiver.{due_after, is_gap, restarts}
 use Rattle.receiver.specs.declared.receiver.Timer.{Timer}
 use Rattle.receiver.specs.declared.receiver.Timer.TheVariants.{Stopped, Running}
 use Rattle.receiver.specs.declared.receiver.Asked.{Asked}
@@ -13,33 +13,33 @@ use Rattle.receiver.specs.declared.receiver.StreamEvent.{StreamEvent}
 use Rattle.receiver.specs.declared.receiver.StreamEvent.TheVariants.{Nothing as NoEvent, DataLoss, ErrorLoss, RetransmitError as ErrorOnly, Refused as EventRefused}
 use Rattle.receiver.specs.declared.receiver.Request.{Request}
 use Rattle.receiver.specs.declared.receiver.Request.TheVariants.{Nothing as NotDue, Written, More, Refused as RequestRefused}
-use Rattle.receiver_log.specs.Calls.{Entry, data-entry, poll-entry, error-entry, nak-entry, take-entry}
+use Rattle.receiver_log.specs.Calls.{Entry, data_entry, poll_entry, error_entry, nak_entry, take_entry}
 use Rattle.receiver_log.specs.Log.{reports}
-use Rattle.receiver_log.specs.Spans.{nothingMissing, requestIn}
+use Rattle.receiver_log.specs.Spans.{nothing_missing, request_in}
 
 -- ---- a NAK disables requests until a reset
 
 -- a call that was refused changes nothing
-abbrev pub unlessRefused : {A : Type 0} → StreamEvent → A → A → A
-unlessRefused NoEvent before next = next
-unlessRefused (DataLoss range) before next = next
-unlessRefused (ErrorLoss range e) before next = next
-unlessRefused (ErrorOnly e) before next = next
-unlessRefused (EventRefused why) before next = before
+abbrev pub unless_refused : {A : Type 0} → StreamEvent → A → A → A
+unless_refused NoEvent before next = next
+unless_refused (DataLoss range) before next = next
+unless_refused (ErrorLoss range e) before next = next
+unless_refused (ErrorOnly e) before next = next
+unless_refused (EventRefused why) before next = before
 
-abbrev pub nakAfter : Bool → Entry → Bool
-nakAfter k (data-entry s time seq ws a) = k
-nakAfter k (poll-entry s time e) = k
-nakAfter k (error-entry q e) = k
-nakAfter k (nak-entry e) = unlessRefused e k true
-nakAfter k (take-entry s p b a q c) = k
+abbrev pub nak_after : Bool → Entry → Bool
+nak_after k (data_entry s time seq ws a) = k
+nak_after k (poll_entry s time e) = k
+nak_after k (error_entry q e) = k
+nak_after k (nak_entry e) = unless_refused e k true
+nak_after k (take_entry s p b a q c) = k
 
-abbrev pub nakIn : List Entry → Bool
-nakIn [] = false
-nakIn (e ∷ t) = nakAfter (nakIn t) e
+abbrev pub nak_in : List Entry → Bool
+nak_in [] = false
+nak_in (e ∷ t) = nak_after (nak_in t) e
 
-abbrev pub enabledIn : List Entry → StreamConfig → Bool
-enabledIn t s = s.retransmit && not (nakIn t)
+abbrev pub enabled_in : List Entry → StreamConfig → Bool
+enabled_in t s = s.retransmit && not (nak_in t)
 
 -- ---- the timer
 
@@ -50,14 +50,14 @@ pub data Tick : Type 0 where
   asks : Tick
   gives_up : Tick
 
-abbrev pub tickAt : Bool → StreamConfig → ℕ → Timer → Tick
-tickAt enabled s time Stopped = waits
-tickAt enabled s time (Running k) = cond (ltb time k.due) waits (cond (ltb k.sent s.max_requests && enabled) asks gives_up)
+abbrev pub tick_at : Bool → StreamConfig → ℕ → Timer → Tick
+tick_at enabled s time Stopped = waits
+tick_at enabled s time (Running k) = cond (ltb time k.due) waits (cond (ltb k.sent s.max_requests && enabled) asks gives_up)
 
 -- the next delay
 abbrev pub later : StreamConfig → ℕ → Timer → Timer
 later s time Stopped = Stopped
-later s time (Running k) = Running record { due = dueAfter s.request_delay_ms (k.sent + 1) time; sent = k.sent + 1 }
+later s time (Running k) = Running record { due = due_after s.request_delay_ms (k.sent + 1) time; sent = k.sent + 1 }
 
 abbrev pub ticked : StreamConfig → ℕ → Timer → Tick → Timer
 ticked s time k waits = k
@@ -65,45 +65,45 @@ ticked s time k asks = later s time k
 ticked s time k gives_up = Stopped
 
 -- If requests are enabled, a new gap starts the timer at D when none runs or when the running one has made a request due.
-abbrev pub timerAfter : List Entry → Timer → Entry → Timer
-timerAfter t k (data-entry s time seq ws (Delivered d)) =
-    cond (isGap d.class && (enabledIn t s && restarts k)) (Running record { due = dueAfter s.request_delay_ms 0 time; sent = 0 }) k
-timerAfter t k (data-entry s time seq ws (HearingRefused why)) = k
-timerAfter t k (poll-entry s time e) = unlessRefused e k (ticked s time k (tickAt (enabledIn t s) s time k))
-timerAfter t k (error-entry q e) = k
-timerAfter t k (nak-entry e) = unlessRefused e k Stopped
-timerAfter t k (take-entry s p b a q c) = k
+abbrev pub timer_after : List Entry → Timer → Entry → Timer
+timer_after t k (data_entry s time seq ws (Delivered d)) =
+    cond (is_gap d.class && (enabled_in t s && restarts k)) (Running record { due = due_after s.request_delay_ms 0 time; sent = 0 }) k
+timer_after t k (data_entry s time seq ws (HearingRefused why)) = k
+timer_after t k (poll_entry s time e) = unless_refused e k (ticked s time k (tick_at (enabled_in t s) s time k))
+timer_after t k (error_entry q e) = k
+timer_after t k (nak_entry e) = unless_refused e k Stopped
+timer_after t k (take_entry s p b a q c) = k
 
 -- The timer stops when nothing is missing.
-abbrev pub timerIn : ℕ → List Entry → Timer
-timerIn W [] = Stopped
-timerIn W (e ∷ t) = cond (nothingMissing W (reports (e ∷ t))) Stopped (timerAfter t (timerIn W t) e)
+abbrev pub timer_in : ℕ → List Entry → Timer
+timer_in W [] = Stopped
+timer_in W (e ∷ t) = cond (nothing_missing W (reports (e ∷ t))) Stopped (timer_after t (timer_in W t) e)
 
 -- ---- the due request
 
-abbrev pub duePolled : Bool → Tick → Bool
-duePolled due waits = due
-duePolled due asks = true
-duePolled due gives_up = false
+abbrev pub due_polled : Bool → Tick → Bool
+due_polled due waits = due
+due_polled due asks = true
+due_polled due gives_up = false
 
 -- a request waits on where it didn't fit; otherwise it was written or dropped
-abbrev pub dueTaken : Bool → Request → Bool
-dueTaken due NotDue = false
-dueTaken due Written = false
-dueTaken due More = due
-dueTaken due (RequestRefused why) = due
+abbrev pub due_taken : Bool → Request → Bool
+due_taken due NotDue = false
+due_taken due Written = false
+due_taken due More = due
+due_taken due (RequestRefused why) = due
 
-abbrev pub dueThen : List Entry → Timer → Bool → Entry → Bool
-dueThen t k due (data-entry s time seq ws a) = due
-dueThen t k due (poll-entry s time e) = unlessRefused e due (duePolled due (tickAt (enabledIn t s) s time k))
-dueThen t k due (error-entry q e) = due
-dueThen t k due (nak-entry e) = unlessRefused e due false
-dueThen t k due (take-entry s p b a q c) = dueTaken due a
+abbrev pub due_then : List Entry → Timer → Bool → Entry → Bool
+due_then t k due (data_entry s time seq ws a) = due
+due_then t k due (poll_entry s time e) = unless_refused e due (due_polled due (tick_at (enabled_in t s) s time k))
+due_then t k due (error_entry q e) = due
+due_then t k due (nak_entry e) = unless_refused e due false
+due_then t k due (take_entry s p b a q c) = due_taken due a
 
 -- with nothing missing, none is due
-abbrev pub dueIn : ℕ → List Entry → Bool
-dueIn W [] = false
-dueIn W (e ∷ t) = cond (nothingMissing W (reports (e ∷ t))) false (dueThen t (timerIn W t) (dueIn W t) e)
+abbrev pub due_in : ℕ → List Entry → Bool
+due_in W [] = false
+due_in W (e ∷ t) = cond (nothing_missing W (reports (e ∷ t))) false (due_then t (timer_in W t) (due_in W t) e)
 
 -- ---- the unanswered request
 
@@ -111,21 +111,21 @@ abbrev pub asking : Span → Asked
 asking NoSpan = Unasked
 asking (Of range) = AskedFor record { seq = range.first; count = range.count }
 
-abbrev pub askedTaken : Asked → Span → Request → Asked
-askedTaken before request NotDue = before
-askedTaken before request Written = asking request
-askedTaken before request More = before
-askedTaken before request (RequestRefused why) = before
+abbrev pub asked_taken : Asked → Span → Request → Asked
+asked_taken before request NotDue = before
+asked_taken before request Written = asking request
+asked_taken before request More = before
+asked_taken before request (RequestRefused why) = before
 
 -- the last request that was written; a Retransmit Error or a NAK uses it up
-abbrev pub askedAfter : ℕ → List Entry → Asked → Entry → Asked
-askedAfter W t k (data-entry s time seq ws a) = k
-askedAfter W t k (poll-entry s time e) = k
-askedAfter W t k (error-entry q e) = unlessRefused e k Unasked
-askedAfter W t k (nak-entry e) = unlessRefused e k Unasked
-askedAfter W t k (take-entry s p b a q c) = askedTaken k (requestIn W (reports t)) a
+abbrev pub asked_after : ℕ → List Entry → Asked → Entry → Asked
+asked_after W t k (data_entry s time seq ws a) = k
+asked_after W t k (poll_entry s time e) = k
+asked_after W t k (error_entry q e) = unless_refused e k Unasked
+asked_after W t k (nak_entry e) = unless_refused e k Unasked
+asked_after W t k (take_entry s p b a q c) = asked_taken k (request_in W (reports t)) a
 
 -- with nothing missing, none is unanswered
-abbrev pub askedIn : ℕ → List Entry → Asked
-askedIn W [] = Unasked
-askedIn W (e ∷ t) = cond (nothingMissing W (reports (e ∷ t))) Unasked (askedAfter W t (askedIn W t) e)
+abbrev pub asked_in : ℕ → List Entry → Asked
+asked_in W [] = Unasked
+asked_in W (e ∷ t) = cond (nothing_missing W (reports (e ∷ t))) Unasked (asked_after W t (asked_in W t) e)

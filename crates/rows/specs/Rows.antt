@@ -1,13 +1,13 @@
 -- 01, "Write the stream": commands one after the other, up to the first that doesn't fit.
 use Rattle.std.specs.Prelude.{ℕ, zero, suc, ◌+◌, ◌≤◌, ◌<◌, Bool, true, false, ◌||◌, List, [], ◌∷◌, length, leb, ltb}
 use Rattle.packet.specs.Layout.{Packet, size_of}
-use Rattle.packet.specs.Write.{limitOf, start_of, written_of}
+use Rattle.packet.specs.Write.{limit_of, start_of, written_of}
 use Rattle.packet.specs.declared.writer.PayloadWriter.{PayloadWriter}
 use Rattle.config.specs.declared.answer.Outcome.{Outcome}
 use Rattle.config.specs.declared.answer.Outcome.TheVariants.{Done, Refused}
-use Rattle.history.specs.Headers.{next_at, entriesFrom}
+use Rattle.history.specs.Headers.{next_at, entries_from}
 use Rattle.history.specs.Entries.{Short}
-use Rattle.history.specs.Written.{entryPacket}
+use Rattle.history.specs.Written.{entry_packet}
 use Rattle.rows.specs.declared.rows.Row.{Row as Left}
 
 -- ---- a row
@@ -22,39 +22,39 @@ pub record Row : Type 0 where
 abbrev pub leaving : Left → List ℕ → Row
 leaving r b = record { payload = r.payload; bytes = b; written = r.written; whole = r.whole }
 
-abbrev pub oneMore : Outcome → PayloadWriter → List ℕ → Row → Row
-oneMore Done p b r = record { payload = r.payload; bytes = r.bytes; written = 1 + r.written; whole = r.whole }
-oneMore (Refused why) p b r = record { payload = p; bytes = b; written = 0; whole = false }
+abbrev pub one_more : Outcome → PayloadWriter → List ℕ → Row → Row
+one_more Done p b r = record { payload = r.payload; bytes = r.bytes; written = 1 + r.written; whole = r.whole }
+one_more (Refused why) p b r = record { payload = p; bytes = b; written = 0; whole = false }
 
 unfoldable pub row_of : PayloadWriter → List ℕ → List Packet → Row
 row_of p b [] = record { payload = p; bytes = b; written = 0; whole = true }
 row_of p b (c ∷ cs) =
     let w = written_of p b c in
-    oneMore w.0.answer w.0.payload w.1 (row_of w.0.payload w.1 cs)
+    one_more w.0.answer w.0.payload w.1 (row_of w.0.payload w.1 cs)
 
 -- ---- commands
-unfoldable pub sizesOf : List Packet → ℕ
-sizesOf [] = 0
-sizesOf (c ∷ cs) = size_of c + sizesOf cs
+unfoldable pub sizes_of : List Packet → ℕ
+sizes_of [] = 0
+sizes_of (c ∷ cs) = size_of c + sizes_of cs
 
 -- they fit together
-abbrev pub fitAll : PayloadWriter → List ℕ → List Packet → Bool
-fitAll p b cs = leb (start_of p + sizesOf cs) (limitOf p (length b))
+abbrev pub fit_all : PayloadWriter → List ℕ → List Packet → Bool
+fit_all p b cs = leb (start_of p + sizes_of cs) (limit_of p (length b))
 
 -- one with words is among them
-unfoldable pub anyWords : List Packet → Bool
-anyWords [] = false
-anyWords (c ∷ cs) = ltb 0 (length c.words) || anyWords cs
+unfoldable pub any_words : List Packet → Bool
+any_words [] = false
+any_words (c ∷ cs) = ltb 0 (length c.words) || any_words cs
 
 -- ---- entries of the history
 -- k entries from the header at place i on, as data commands
-unfoldable pub packetsFrom : ℕ → List ℕ → ℕ → List Packet
-packetsFrom zero ring i = []
-packetsFrom (suc k) ring i = entryPacket ring i ∷ packetsFrom k ring (next_at ring i)
+unfoldable pub packets_from : ℕ → List ℕ → ℕ → List Packet
+packets_from zero ring i = []
+packets_from (suc k) ring i = entry_packet ring i ∷ packets_from k ring (next_at ring i)
 
 -- their place is one of a history's words, and none of them is long
 pub record Standing (k : ℕ) (ring : List ℕ) (i : ℕ) : Type 0 where
   pub inside : i < length ring
   pub least : 65 ≤ length ring
   pub most : length ring ≤ 32768
-  pub short : Short (entriesFrom k ring i)
+  pub short : Short (entries_from k ring i)

@@ -1,10 +1,10 @@
 // Rows of entries, the row of an error, and the entries that are repeated, over a payload and entries
 // that were tested.
 ghost use Rattle.std.specs.Prelude.{◌≡◌, true, [], ◌∷◌, ◌≤◌, ◌<◌, length};
-ghost use Rattle.packet.specs.Write.{valid_of, freeOf};
-ghost use Rattle.command.specs.Write.{errorPacket};
-ghost use Rattle.history.specs.Headers.{length_at, header_at, wordsFrom};
-ghost use Rattle.rows.specs.Rows.{row_of, leaving, packetsFrom, Standing};
+ghost use Rattle.packet.specs.Write.{valid_of, free_of};
+ghost use Rattle.command.specs.Write.{error_packet};
+ghost use Rattle.history.specs.Headers.{length_at, header_at, words_from};
+ghost use Rattle.rows.specs.Rows.{row_of, leaving, packets_from, Standing};
 ghost use Rattle.rows.specs.Choice.{Chosen};
 
 use super::rows::{Repeated, Row, Walked};
@@ -15,7 +15,7 @@ use packet::writer::PayloadWriter;
 // Writes `k` entries of the history from the header at `at` on.
 pub fn write_entries(p: PayloadWriter, buf: &mut [u8], ring: &[u32], at: usize, k: usize) -> Row
     requires { (valid_of p (length buf.old) ≡ true) × Standing k ring.now at }
-    ensures { row_of p buf.old (packetsFrom k ring.now at) ≡ leaving result buf.new }
+    ensures { row_of p buf.old (packets_from k ring.now at) ≡ leaving result buf.new }
 {
     let mut q = p;
     let mut i = at;
@@ -48,7 +48,7 @@ pub fn write_entries(p: PayloadWriter, buf: &mut [u8], ring: &[u32], at: usize, 
 // Writes an error as the only command of a row.
 pub fn write_error(err: RetransmitError, p: PayloadWriter, buf: &mut [u8]) -> Row
     requires { (valid_of p (length buf.old) ≡ true) × (err.reason ≤ 1) }
-    ensures { row_of p buf.old (errorPacket err ∷ []) ≡ leaving result buf.new }
+    ensures { row_of p buf.old (error_packet err ∷ []) ≡ leaving result buf.new }
 {
     let wrote = command::tested::write_error(err, p, buf);
     let payload = wrote.payload;
@@ -69,8 +69,8 @@ pub fn write_error(err: RetransmitError, p: PayloadWriter, buf: &mut [u8]) -> Ro
 
 // Walks over `k` entries from the header at `at` on.
 pub fn walk(ring: &[u32], at: usize, k: usize) -> Walked
-    requires { Standing k ring.now at × (wordsFrom k ring.now at ≤ 32768) }
-    ensures { (result.at ≡ header_at k ring.now at) × (result.at < length ring.now) × (result.words ≡ wordsFrom k ring.now at) }
+    requires { Standing k ring.now at × (words_from k ring.now at ≤ 32768) }
+    ensures { (result.at ≡ header_at k ring.now at) × (result.at < length ring.now) × (result.words ≡ words_from k ring.now at) }
 {
     let mut i = at;
     let mut words = 0;
@@ -94,7 +94,7 @@ pub fn repeats(
     words: usize,
     first: usize,
 ) -> Repeated
-    requires { Standing k ring.now at × (words ≡ wordsFrom k ring.now at) × (first < length ring.now) × (length_at ring.now first < freeOf p (length buf.now)) }
+    requires { Standing k ring.now at × (words ≡ words_from k ring.now at) × (first < length ring.now) × (length_at ring.now first < free_of p (length buf.now)) }
     ensures { Chosen p buf.now ring.now at k first result }
 {
     let free = packet::tested::free_words(p, buf.len());

@@ -5,8 +5,8 @@ use Rattle.text.specs.declared.forms.Answer.{Answer}
 abbrev pub entry_of : ℕ → ℕ → ℕ → ℕ → Answer
 entry_of form a b c = record { form = form; a = a; b = b; c = c; d = 0 }
 
-abbrev pub refusedBy : ℕ → Answer
-refusedBy n = entry_of 2 n 0 0
+abbrev pub refused_by : ℕ → Answer
+refused_by n = entry_of 2 n 0 0
 
-unfoldable pub unlessRefused : ℕ → Answer → Answer
-unlessRefused n answer = cond (eqb n 0) answer (refusedBy n)
+unfoldable pub unless_refused : ℕ → Answer → Answer
+unless_refused n answer = cond (eqb n 0) answer (refused_by n)

@@ -1,7 +1,7 @@
 // What a call answers, as an entry of a table of answers and its figures. Answers of one kind of call stand in
 // the table in the order of the numbers that C has for them.
 ghost use Rattle.std.specs.Prelude.{◌≡◌};
-ghost use Rattle.script.specs.Answers.{entry_of, refusedBy, unlessRefused};
+ghost use Rattle.script.specs.Answers.{entry_of, refused_by, unless_refused};
 
 use text::forms;
 use text::forms::Answer;
@@ -78,14 +78,14 @@ pub fn of(form: usize, a: u64, b: u64, c: u64) -> Answer
 }
 
 pub fn refused(number: u8) -> Answer
-    ensures { result ≡ refusedBy number }
+    ensures { result ≡ refused_by number }
 {
     of(REFUSED, number as u64, 0, 0)
 }
 
 // The answer, where the call was not refused.
 pub fn made(refusal: u8, answer: Answer) -> Answer
-    ensures { result ≡ unlessRefused refusal answer }
+    ensures { result ≡ unless_refused refusal answer }
 {
     if refusal == 0 {
         return answer;
@@ -95,13 +95,13 @@ pub fn made(refusal: u8, answer: Answer) -> Answer
 
 // Of a call that answers its refusal alone.
 pub fn done(refusal: u8) -> Answer
-    ensures { result ≡ unlessRefused refusal (entry_of 1 0 0 0) }
+    ensures { result ≡ unless_refused refusal (entry_of 1 0 0 0) }
 {
     made(refusal, plain(DONE))
 }
 
 pub fn figure(refusal: u8, n: u64) -> Answer
-    ensures { result ≡ unlessRefused refusal (entry_of 4 n 0 0) }
+    ensures { result ≡ unless_refused refusal (entry_of 4 n 0 0) }
 {
     made(refusal, of(FIGURE, n, 0, 0))
 }

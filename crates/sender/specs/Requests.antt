@@ -4,12 +4,12 @@ use Rattle.config.specs.Sequence.{after, ahead}
 use Rattle.config.specs.declared.settings.StreamConfig.{StreamConfig}
 use Rattle.command.specs.declared.retransmit.RetransmitRequest.{RetransmitRequest}
 use Rattle.command.specs.declared.retransmit.RetransmitError.{RetransmitError}
-use Rattle.history.specs.Queue.{pushAnswer}
+use Rattle.history.specs.Queue.{push_answer}
 use Rattle.history.specs.declared.queue.RetransmitQueue.{RetransmitQueue}
 use Rattle.history.specs.declared.queue.Push.{Push}
 use Rattle.history.specs.declared.queue.Push.TheVariants.{Queued as PushQueued, Ignored as PushIgnored}
 use Rattle.history.specs.declared.queue.Pushed.{Pushed}
-use Rattle.idle.specs.Schedule.{isDue}
+use Rattle.idle.specs.Schedule.{is_due}
 use Rattle.idle.specs.declared.idle.IdleTimer.{IdleTimer}
 use Rattle.idle.specs.declared.idle.IdleTimer.TheVariants.{Off, Waiting}
 use Rattle.sender.specs.declared.sender.Sender.{Sender}
@@ -20,40 +20,40 @@ use Rattle.config.specs.declared.answer.Deadline.{Deadline}
 use Rattle.config.specs.declared.answer.Deadline.TheVariants.{Nothing, At}
 
 -- how many commands are written: the oldest of those held
-abbrev pub writtenCount : Sender → ℕ
-writtenCount s = s.history.count - s.unsent
+abbrev pub written_count : Sender → ℕ
+written_count s = s.history.count - s.unsent
 
 -- how far a number is ahead of the oldest held
 abbrev pub index_of : Sender → ℕ → ℕ
 index_of s seq = ahead s.history.oldest seq
 
 -- the number isn't that of a written command
-abbrev pub notWritten : Sender → ℕ → Bool
-notWritten s seq = leb (writtenCount s) (index_of s seq)
+abbrev pub not_written : Sender → ℕ → Bool
+not_written s seq = leb (written_count s) (index_of s seq)
 
 -- NOT_IN_BUFFER with the oldest number; the next number when none is held
-abbrev pub notInBuffer : Sender → RetransmitError
-notInBuffer s = record { reason = 1; seq = s.history.oldest }
+abbrev pub not_in_buffer : Sender → RetransmitError
+not_in_buffer s = record { reason = 1; seq = s.history.oldest }
 
-abbrev pub withQueue : Sender → RetransmitQueue → Sender
-withQueue s q = record { history = s.history; queue = q; unsent = s.unsent; unsent_words = s.unsent_words; idle = s.idle }
+abbrev pub with_queue : Sender → RetransmitQueue → Sender
+with_queue s q = record { history = s.history; queue = q; unsent = s.unsent; unsent_words = s.unsent_words; idle = s.idle }
 
 abbrev pub told : Sender → RequestOutcome → RequestHeard
 told s o = record { sender = s; outcome = o }
 
-abbrev pub outcomeOf : Push → RequestOutcome
-outcomeOf PushQueued = Queued
-outcomeOf (PushIgnored why) = Ignored why
+abbrev pub outcome_of : Push → RequestOutcome
+outcome_of PushQueued = Queued
+outcome_of (PushIgnored why) = Ignored why
 
-abbrev pub queuedBy : Sender → Pushed → RequestHeard
-queuedBy s p = told (withQueue s p.queue) (outcomeOf p.answer)
+abbrev pub queued_by : Sender → Pushed → RequestHeard
+queued_by s p = told (with_queue s p.queue) (outcome_of p.answer)
 
 -- First NotSupported if retransmits are off; the error for a number outside the written history; then Pending before Full, or queued.
-unfoldable pub requestedOf : Sender → StreamConfig → RetransmitRequest → RequestHeard
-requestedOf s cfg r =
+unfoldable pub requested_of : Sender → StreamConfig → RetransmitRequest → RequestHeard
+requested_of s cfg r =
     cond (not cfg.retransmit) (told s NotSupported)
-    (cond (notWritten s r.seq) (told s (Error (notInBuffer s)))
-    (queuedBy s (pushAnswer s.queue r)))
+    (cond (not_written s r.seq) (told s (Error (not_in_buffer s)))
+    (queued_by s (push_answer s.queue r)))
 
 -- ---- questions
 abbrev pub due_at : IdleTimer → Deadline
@@ -61,13 +61,13 @@ due_at Off = Nothing
 due_at (Waiting i) = At i.due
 
 -- no idle command is queued while a command is unwritten
-unfoldable pub deadlineOf : Sender → Deadline
-deadlineOf s = cond (eqb s.unsent 0) (due_at s.idle) Nothing
+unfoldable pub deadline_of : Sender → Deadline
+deadline_of s = cond (eqb s.unsent 0) (due_at s.idle) Nothing
 
 -- an unwritten command, a request that waits, or an idle command that is due
-unfoldable pub wantsOf : Sender → ℕ → Bool
-wantsOf s time = ltb 0 s.unsent || (ltb 0 s.queue.len || isDue s.idle time)
+unfoldable pub wants_of : Sender → ℕ → Bool
+wants_of s time = ltb 0 s.unsent || (ltb 0 s.queue.len || is_due s.idle time)
 
 -- the number of the oldest unwritten command, or of the next one
 unfoldable pub next_of : Sender → ℕ
-next_of s = after s.history.oldest (writtenCount s)
+next_of s = after s.history.oldest (written_count s)

@@ -1,7 +1,7 @@
 // The sender and its calls. Each takes the sender by value and hands it back with its answer; the
 // history's words lie in the lent slice `ring`.
 ghost use Rattle.std.specs.Prelude.{◌≡◌};
-ghost use Rattle.sender.specs.Answers.{newAnswer, resetAnswer, sendAnswer, requestAnswer, deadlineAnswer, wantsAnswer, nextAnswer};
+ghost use Rattle.sender.specs.Answers.{new_answer, reset_answer, send_answer, request_answer, deadline_answer, wants_answer, next_answer};
 
 use super::tested;
 use command::retransmit::{RetransmitError, RetransmitRequest};
@@ -72,7 +72,7 @@ impl Sender {
     // A fresh sender over a lent history of `words` words, which is zeroed, with a request queue of
     // `places` places; 12 for sizes that are not taken.
     pub fn new(words: usize, places: usize, ring: &mut [u32]) -> Started
-        ensures { (result, ring.new) ≡ newAnswer words places ring.old }
+        ensures { (result, ring.new) ≡ new_answer words places ring.old }
     {
         if outside(MIN_WORDS, MAX_WORDS, words) {
             return tested::not_started();
@@ -91,7 +91,7 @@ impl Sender {
 
     // Back to the fresh sender of the same sizes; the lent history is zeroed.
     pub fn reset(self, ring: &mut [u32]) -> WasReset
-        ensures { (result, ring.new) ≡ resetAnswer self ring.old }
+        ensures { (result, ring.new) ≡ reset_answer self ring.old }
     {
         if tested::is_valid(self, &ring[..]) {
             return WasReset {
@@ -107,7 +107,7 @@ impl Sender {
 
     // Queues whole messages; 5, 3 and 6 for words that are not queued.
     pub fn send_ump(self, cfg: StreamConfig, ring: &mut [u32], words: &[u32]) -> Sent
-        ensures { (result, ring.new) ≡ sendAnswer self cfg ring.old words.now }
+        ensures { (result, ring.new) ≡ send_answer self cfg ring.old words.now }
     {
         match cfg.check() {
             Outcome::Refused(why) => Sent {
@@ -133,7 +133,7 @@ impl Sender {
         ring: &[u32],
         req: RetransmitRequest,
     ) -> RequestHeard
-        ensures { result ≡ requestAnswer self cfg ring.now req }
+        ensures { result ≡ request_answer self cfg ring.now req }
     {
         match cfg.check() {
             Outcome::Refused(why) => RequestHeard {
@@ -154,7 +154,7 @@ impl Sender {
 
     // When the next idle command is due.
     pub fn next_deadline(self, ring: &[u32]) -> Deadline
-        ensures { result ≡ deadlineAnswer self ring.now }
+        ensures { result ≡ deadline_answer self ring.now }
     {
         if tested::is_valid(self, ring) {
             return tested::next_deadline(self);
@@ -164,7 +164,7 @@ impl Sender {
 
     // Whether a write at this time has something to write.
     pub fn wants_write(self, ring: &[u32], time: u64) -> Answered
-        ensures { result ≡ wantsAnswer self ring.now time }
+        ensures { result ≡ wants_answer self ring.now time }
     {
         if tested::is_valid(self, ring) {
             return Answered::Is(tested::wants_write(self, time));
@@ -174,7 +174,7 @@ impl Sender {
 
     // The number that the next written command gets.
     pub fn next_seq(self, ring: &[u32]) -> Next
-        ensures { result ≡ nextAnswer self ring.now }
+        ensures { result ≡ next_answer self ring.now }
     {
         if tested::is_valid(self, ring) {
             return Next::Number(tested::next_seq(self));

@@ -1,18 +1,18 @@
 // The calls over settings and a state that were tested: `is_valid` is the test of the state, and the
 // others require what it says.
 ghost use Rattle.std.specs.Prelude.{◌≡◌, true, false, ◌+◌, ◌≤◌, ◌<◌, length};
-ghost use Rattle.config.specs.Settings.{checkOf};
+ghost use Rattle.config.specs.Settings.{check_of};
 ghost use Rattle.config.specs.declared.answer.Outcome.TheVariants.{Done};
 ghost use Rattle.config.specs.Sequence.{turn};
 ghost use Rattle.command.specs.Messages.{whole_of};
-ghost use Rattle.fronts.specs.Commands.{commandsOf, above};
+ghost use Rattle.fronts.specs.Commands.{commands_of, above};
 ghost use Rattle.history.specs.State.{Good};
 ghost use Rattle.history.specs.Headers.{length_at};
 ghost use Rattle.history.specs.Queue.{Fit};
-ghost use Rattle.sender.specs.State.{valid_of, start_of, resetOf};
-ghost use Rattle.sender.specs.Queueing.{roomOf, joinedTo, pushedAll, wordsCheck, placed_of, sentOf};
-ghost use Rattle.sender.specs.Requests.{outcomeOf, requestedOf, due_at, deadlineOf, wantsOf, next_of};
-ghost use Rattle.sender.specs.Answers.{notStarted};
+ghost use Rattle.sender.specs.State.{valid_of, start_of, reset_of};
+ghost use Rattle.sender.specs.Queueing.{room_of, joined_to, pushed_all, words_check, placed_of, sent_of};
+ghost use Rattle.sender.specs.Requests.{outcome_of, requested_of, due_at, deadline_of, wants_of, next_of};
+ghost use Rattle.sender.specs.Answers.{not_started};
 
 use super::sender::{RequestHeard, RequestOutcome, Sender, Sent, Started};
 use command::message::whole_messages;
@@ -44,7 +44,7 @@ pub fn is_valid(s: Sender, ring: &[u32]) -> bool
 
 // A sender of sizes 0, which the state test refuses.
 pub fn not_started() -> Started
-    ensures { result ≡ notStarted }
+    ensures { result ≡ not_started }
 {
     Started {
         sender: Sender {
@@ -86,7 +86,7 @@ pub fn start(words: usize, places: usize, ring: &mut [u32]) -> Sender
 
 pub fn reset(s: Sender, ring: &mut [u32]) -> Sender
     requires { valid_of s ring.old ≡ true }
-    ensures { (result, ring.new) ≡ resetOf s ring.old }
+    ensures { (result, ring.new) ≡ reset_of s ring.old }
 {
     let history = s.history;
     let queue = s.queue;
@@ -95,7 +95,7 @@ pub fn reset(s: Sender, ring: &mut [u32]) -> Sender
 
 // 5 not whole messages; 3 a message above the set size.
 fn check(words: &[u32], max: usize) -> Outcome
-    ensures { result ≡ wordsCheck max words.now }
+    ensures { result ≡ words_check max words.now }
 {
     if whole_messages(words) {
         if fronts::tested::fit(words, max) {
@@ -109,7 +109,7 @@ fn check(words: &[u32], max: usize) -> Outcome
 // The words that the newest unwritten command still takes; none when nothing is unwritten.
 fn room(s: Sender, ring: &[u32], max: usize) -> usize
     requires { valid_of s ring.now ≡ true }
-    ensures { result ≡ roomOf s ring.now max }
+    ensures { result ≡ room_of s ring.now max }
 {
     if s.unsent == 0 {
         return 0;
@@ -126,7 +126,7 @@ fn room(s: Sender, ring: &[u32], max: usize) -> usize
 // Words join the newest command.
 fn join(h: SendHistory, ring: &mut [u32], words: &[u32]) -> SendHistory
     requires { Good h ring.old × (0 < length words.now → (0 < h.count) × (length_at ring.old h.last + length words.now ≤ 64)) }
-    ensures { (result, ring.new) ≡ joinedTo h ring.old words.now }
+    ensures { (result, ring.new) ≡ joined_to h ring.old words.now }
 {
     if words.len() == 0 {
         return h;
@@ -137,7 +137,7 @@ fn join(h: SendHistory, ring: &mut [u32], words: &[u32]) -> SendHistory
 // The words open further commands of at most `max` words.
 fn push_all(h: SendHistory, ring: &mut [u32], max: usize, words: &[u32]) -> SendHistory
     requires { Good h ring.old × (h.oldest < turn) × (max ≤ 64) × (whole_of words.now ≡ true) × (above max words.now ≡ false) }
-    ensures { (result, ring.new) ≡ pushedAll h ring.old (commandsOf max words.now) }
+    ensures { (result, ring.new) ≡ pushed_all h ring.old (commands_of max words.now) }
 {
     let mut g = h;
     let mut at = 0;
@@ -152,7 +152,7 @@ fn push_all(h: SendHistory, ring: &mut [u32], max: usize, words: &[u32]) -> Send
 // Queues messages that passed `check`; 6 when words and new headers exceed the history less what is
 // unwritten.
 fn queue_words(s: Sender, ring: &mut [u32], max: usize, words: &[u32]) -> Sent
-    requires { (valid_of s ring.old ≡ true) × (max ≤ 64) × (wordsCheck max words.now ≡ Done) }
+    requires { (valid_of s ring.old ≡ true) × (max ≤ 64) × (words_check max words.now ≡ Done) }
     ensures { (result, ring.new) ≡ placed_of s ring.old max words.now }
 {
     let history = s.history;
@@ -182,8 +182,8 @@ fn queue_words(s: Sender, ring: &mut [u32], max: usize, words: &[u32]) -> Sent
 }
 
 pub fn send_ump(s: Sender, cfg: StreamConfig, ring: &mut [u32], words: &[u32]) -> Sent
-    requires { (valid_of s ring.old ≡ true) × (checkOf cfg ≡ Done) }
-    ensures { (result, ring.new) ≡ sentOf s ring.old cfg.max_command_words words.now }
+    requires { (valid_of s ring.old ≡ true) × (check_of cfg ≡ Done) }
+    ensures { (result, ring.new) ≡ sent_of s ring.old cfg.max_command_words words.now }
 {
     if words.len() == 0 {
         return Sent {
@@ -202,7 +202,7 @@ pub fn send_ump(s: Sender, cfg: StreamConfig, ring: &mut [u32], words: &[u32]) -
 }
 
 fn outcome(answer: Push) -> RequestOutcome
-    ensures { result ≡ outcomeOf answer }
+    ensures { result ≡ outcome_of answer }
 {
     match answer {
         Push::Queued => RequestOutcome::Queued,
@@ -213,7 +213,7 @@ fn outcome(answer: Push) -> RequestOutcome
 // A request for a written command waits behind the others; any other is answered at once.
 pub fn on_retransmit_request(s: Sender, cfg: StreamConfig, req: RetransmitRequest) -> RequestHeard
     requires { (s.unsent ≤ s.history.count) × Fit s.queue }
-    ensures { result ≡ requestedOf s cfg req }
+    ensures { result ≡ requested_of s cfg req }
 {
     if cfg.retransmit {
         let history = s.history;
@@ -252,7 +252,7 @@ pub fn on_retransmit_request(s: Sender, cfg: StreamConfig, req: RetransmitReques
 
 // No idle command is queued while a command is unwritten.
 pub fn next_deadline(s: Sender) -> Deadline
-    ensures { result ≡ deadlineOf s }
+    ensures { result ≡ deadline_of s }
 {
     if s.unsent == 0 {
         let idle = s.idle;
@@ -272,7 +272,7 @@ fn due_at(idle: IdleTimer) -> Deadline
 
 // An unwritten command, a request that waits, or an idle command that is due.
 pub fn wants_write(s: Sender, time: u64) -> bool
-    ensures { result ≡ wantsOf s time }
+    ensures { result ≡ wants_of s time }
 {
     if 0 < s.unsent {
         return true;

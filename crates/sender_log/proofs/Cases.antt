@@ -4,36 +4,36 @@ use mathlib.Core.Bool.{true, false}
 use mathlib.Core.List.{List, [], ◌∷◌}
 use Prim.Native.Nat.{ℕ}
 use lib.ListN.{take, replicate}
-use Rattle.config.specs.Settings.{checkOf}
+use Rattle.config.specs.Settings.{check_of}
 use Rattle.config.specs.declared.settings.StreamConfig.{StreamConfig}
 use Rattle.packet.specs.Bytes.{bytes_of, words_of, spliced}
-use Rattle.packet.specs.Read.{itemsFrom}
+use Rattle.packet.specs.Read.{items_from}
 use Rattle.packet.specs.Write.{valid_of, written_of}
 use Rattle.packet.specs.declared.writer.PayloadWriter.{PayloadWriter}
-use Rattle.command.specs.Messages.{typeWords, divided, messagesOf, whole_of, words_in}
-use Rattle.command.specs.Write.{errorPacket}
+use Rattle.command.specs.Messages.{type_words, divided, messages_of, whole_of, words_in}
+use Rattle.command.specs.Write.{error_packet}
 use Rattle.command.specs.declared.retransmit.RetransmitRequest.{RetransmitRequest}
 use Rattle.history.specs.Entries.{size, kept}
 use Rattle.history.specs.Queue.{asks}
-use Rattle.history.specs.Written.{dataPacket}
+use Rattle.history.specs.Written.{data_packet}
 use Rattle.idle.specs.declared.idle.IdleTimer.TheVariants.{Off, Waiting}
-use Rattle.rows.specs.Rows.{row_of, sizesOf, anyWords}
-use Rattle.rows.specs.Choice.{repeatsOf}
-use Rattle.fronts.specs.Commands.{fitting, front, behind, commandsIn, commandsOf, longer, above}
-use Rattle.sender.specs.Queueing.{wordsCheck}
+use Rattle.rows.specs.Rows.{row_of, sizes_of, any_words}
+use Rattle.rows.specs.Choice.{repeats_of}
+use Rattle.fronts.specs.Commands.{fitting, front, behind, commands_in, commands_of, longer, above}
+use Rattle.sender.specs.Queueing.{words_check}
 use Rattle.sender.specs.declared.sender.RequestOutcome.TheVariants.{Queued as Waits, Error}
 use Rattle.writing.specs.declared.writing.Writing.{Writing}
 use Rattle.writing.specs.declared.writing.Writing.TheVariants.{Written}
-use Rattle.sender_log.specs.Book.{Book, nothing, freed, pushedIn, pushedAllIn, joinedLast, joinedIn, roomIn, queuedIn, sentIn, requestedIn}
-use Rattle.sender_log.specs.Writes.{dataFrom, answer_in, restIn, servedIn, idledIn, writtenOn, WriteIn, newWritten, writtenIn, writeIn}
-use Rattle.sender_log.specs.Calls.{Call, queue-words, retransmit-request, write, Entry}
-use Rattle.sender_log.specs.Answers.{toldOf, saidFrom}
-use Rattle.sender_log.specs.Added.{itemsAdded, wholesIn, addedIn, opensIn}
-use Rattle.sender_log.specs.Schedule.{Schedule, none, since, Queued, stepAfter, timerOf}
-use Rattle.sender_log.specs.Opened.{Past, longestEnd, held, oldestAt, dataAt}
-use Rattle.sender_log.specs.Requests.{answerTo, answersTo, in_turn, leftAfter}
-use Rattle.sender_log.specs.Past.{pastAfter, pastIn}
-use Rattle.sender_log.specs.Counted.{wantedIn}
+use Rattle.sender_log.specs.Book.{Book, nothing, freed, pushed_in, pushed_all_in, joined_last, joined_in, room_in, queued_in, sent_in, requested_in}
+use Rattle.sender_log.specs.Writes.{data_from, answer_in, rest_in, served_in, idled_in, written_on, WriteIn, new_written, written_in, write_in}
+use Rattle.sender_log.specs.Calls.{Call, queue_words, retransmit_request, write, Entry}
+use Rattle.sender_log.specs.Answers.{told_of, said_from}
+use Rattle.sender_log.specs.Added.{items_added, wholes_in, added_in, opens_in}
+use Rattle.sender_log.specs.Schedule.{Schedule, none, since, Queued, step_after, timer_of}
+use Rattle.sender_log.specs.Opened.{Past, longest_end, held, oldest_at, data_at}
+use Rattle.sender_log.specs.Requests.{answer_to, answers_to, in_turn, left_after}
+use Rattle.sender_log.specs.Past.{past_after, past_in}
+use Rattle.sender_log.specs.Counted.{wanted_in}
 
 -- R repeats
 abbrev settings : ℕ → StreamConfig
@@ -48,7 +48,7 @@ three = (0x20903C40 ∷ []) ∷ (0x20803C00 ∷ []) ∷ (0x20903D40 ∷ []) ∷ 
 
 -- written at 1000 into an empty payload of at most `max` bytes
 abbrev written : ℕ → Book → ℕ → WriteIn
-written R b max = writeIn 65 (settings R) 1000 b record { len = 0; max = max } (replicate 32 0)
+written R b max = write_in 65 (settings R) 1000 b record { len = 0; max = max } (replicate 32 0)
 
 abbrev bytes : WriteIn → List ℕ
 bytes w = take w.payload.len w.bytes
@@ -64,47 +64,47 @@ cut n = Written record { commands = n; more = true }
 abbrev asked : WriteIn
 asked = written 0 (holding 65535 three [] (record { seq = 65535; count = 0 } ∷ [])) 20
 
-pub two-payloads : (asked.answer ≡ cut 2) × (bytes asked ≡ bytes_of (0x4D494449 ∷ 0xFF01FFFF ∷ 0x20903C40 ∷ 0xFF010000 ∷ 0x20803C00 ∷ []))
+pub two_payloads : (asked.answer ≡ cut 2) × (bytes asked ≡ bytes_of (0x4D494449 ∷ 0xFF01FFFF ∷ 0x20903C40 ∷ 0xFF010000 ∷ 0x20803C00 ∷ []))
     × (asked.book ≡ holding 65535 three [] (record { seq = 1; count = 1 } ∷ []))
-unfolding checkOf valid_of written_of bytes_of spliced row_of dataFrom answer_in restIn servedIn writtenIn writeIn
-two-payloads = (refl, refl, refl)
+unfolding check_of valid_of written_of bytes_of spliced row_of data_from answer_in rest_in served_in written_in write_in
+two_payloads = (refl, refl, refl)
 
-pub second-payload : ((written 0 asked.book 20).answer ≡ answer 1) × (bytes (written 0 asked.book 20) ≡ bytes_of (0x4D494449 ∷ 0xFF010001 ∷ 0x20903D40 ∷ []))
+pub second_payload : ((written 0 asked.book 20).answer ≡ answer 1) × (bytes (written 0 asked.book 20) ≡ bytes_of (0x4D494449 ∷ 0xFF010001 ∷ 0x20903D40 ∷ []))
     × ((written 0 asked.book 20).book ≡ holding 65535 three [] [])
-unfolding checkOf valid_of written_of bytes_of spliced row_of dataFrom answer_in restIn servedIn idledIn newWritten writtenIn writeIn
-second-payload = (refl, refl, refl)
+unfolding check_of valid_of written_of bytes_of spliced row_of data_from answer_in rest_in served_in idled_in new_written written_in write_in
+second_payload = (refl, refl, refl)
 
 -- ---- a number that has left
 
-pub error-for-left : ((requestedIn 4 (holding 65536 three [] []) (settings 0) record { seq = 65535; count = 1 }).outcome ≡ Error record { reason = 1; seq = 0 })
-    × ((requestedIn 4 (holding 65536 three [] []) (settings 0) record { seq = 2; count = 1 }).outcome ≡ Waits)
-    × ((requestedIn 4 (holding 65536 three [] []) (settings 0) record { seq = 3; count = 1 }).outcome ≡ Error record { reason = 1; seq = 0 })
-unfolding checkOf asks requestedIn
-error-for-left = (refl, refl, refl)
+pub error_for_left : ((requested_in 4 (holding 65536 three [] []) (settings 0) record { seq = 65535; count = 1 }).outcome ≡ Error record { reason = 1; seq = 0 })
+    × ((requested_in 4 (holding 65536 three [] []) (settings 0) record { seq = 2; count = 1 }).outcome ≡ Waits)
+    × ((requested_in 4 (holding 65536 three [] []) (settings 0) record { seq = 3; count = 1 }).outcome ≡ Error record { reason = 1; seq = 0 })
+unfolding check_of asks requested_in
+error_for_left = (refl, refl, refl)
 
 -- it left while its request waited
-pub error-in-turn : bytes (written 0 (holding 65536 three [] (record { seq = 65535; count = 1 } ∷ [])) 20) ≡ bytes_of (0x4D494449 ∷ 0x81010100 ∷ 0 ∷ [])
-unfolding checkOf valid_of written_of bytes_of spliced row_of dataFrom answer_in restIn servedIn idledIn newWritten writtenIn writeIn
-error-in-turn = refl
+pub error_in_turn : bytes (written 0 (holding 65536 three [] (record { seq = 65535; count = 1 } ∷ [])) 20) ≡ bytes_of (0x4D494449 ∷ 0x81010100 ∷ 0 ∷ [])
+unfolding check_of valid_of written_of bytes_of spliced row_of data_from answer_in rest_in served_in idled_in new_written written_in write_in
+error_in_turn = refl
 
 -- ---- two repeats and room for one: the oldest is dropped
 
 abbrev repeated : WriteIn
 repeated = written 2 (holding 0 ((0x20903C40 ∷ []) ∷ (0x20803C00 ∷ []) ∷ []) ((0x20903D40 ∷ []) ∷ []) []) 20
 
-pub oldest-dropped : (repeated.answer ≡ answer 2) × (bytes repeated ≡ bytes_of (0x4D494449 ∷ 0xFF010001 ∷ 0x20803C00 ∷ 0xFF010002 ∷ 0x20903D40 ∷ []))
+pub oldest_dropped : (repeated.answer ≡ answer 2) × (bytes repeated ≡ bytes_of (0x4D494449 ∷ 0xFF010001 ∷ 0x20803C00 ∷ 0xFF010002 ∷ 0x20903D40 ∷ []))
     × (repeated.book.written ≡ three) × (repeated.book.unwritten ≡ []) × (repeated.book.idle ≡ Waiting record { due = 1100; step = 0; interval = 100 })
-unfolding checkOf valid_of written_of bytes_of spliced row_of dataFrom sizesOf repeatsOf anyWords servedIn idledIn writtenOn newWritten writtenIn writeIn
-oldest-dropped = (refl, refl, refl, refl, refl)
+unfolding check_of valid_of written_of bytes_of spliced row_of data_from sizes_of repeats_of any_words served_in idled_in written_on new_written written_in write_in
+oldest_dropped = (refl, refl, refl, refl, refl)
 
 -- ---- a command of 20 words comes into a history of 65: the oldest written one leaves, and the unwritten one stays
 
 abbrev of : ℕ → List ℕ
 of n = replicate n 0x20903C40
 
-pub oldest-leaves : pushedIn 65 (of 20) (holding 7 (of 30 ∷ of 2 ∷ []) (of 10 ∷ []) []) ≡ holding 8 (of 2 ∷ []) (of 10 ∷ of 20 ∷ []) []
-unfolding size kept freed pushedIn
-oldest-leaves = refl
+pub oldest_leaves : pushed_in 65 (of 20) (holding 7 (of 30 ∷ of 2 ∷ []) (of 10 ∷ []) []) ≡ holding 8 (of 2 ∷ []) (of 10 ∷ of 20 ∷ []) []
+unfolding size kept freed pushed_in
+oldest_leaves = refl
 
 -- ---- over past calls: 31, 31 and 2 words in a history of 65, the first two written; the first has left
 
@@ -120,62 +120,62 @@ leaving = past (of 31 ∷ of 31 ∷ []) (of 2 ∷ []) [] (since 1000 100 [])
 abbrev payload : ℕ → PayloadWriter
 payload max = record { len = 0; max = max }
 
-pub first-left : (held 65 leaving ≡ of 31 ∷ of 2 ∷ []) × (oldestAt 65 leaving ≡ 1)
-unfolding longestEnd size
-first-left = (refl, refl)
+pub first_left_lem : (held 65 leaving ≡ of 31 ∷ of 2 ∷ []) × (oldest_at 65 leaving ≡ 1)
+unfolding longest_end size
+first_left_lem = (refl, refl)
 
-pub left-answered : (answerTo 65 leaving (request 0 1) ≡ errorPacket record { reason = 1; seq = 1 } ∷ []) × (answerTo 65 leaving (request 1 0) ≡ dataPacket 1 (of 31) ∷ [])
-    × (answerTo 65 leaving (request 2 1) ≡ errorPacket record { reason = 1; seq = 1 } ∷ [])
-unfolding longestEnd size answerTo dataAt
-left-answered = (refl, refl, refl)
+pub left_answered : (answer_to 65 leaving (request 0 1) ≡ error_packet record { reason = 1; seq = 1 } ∷ []) × (answer_to 65 leaving (request 1 0) ≡ data_packet 1 (of 31) ∷ [])
+    × (answer_to 65 leaving (request 2 1) ≡ error_packet record { reason = 1; seq = 1 } ∷ [])
+unfolding longest_end size answer_to data_at
+left_answered = (refl, refl, refl)
 
 -- by a log of calls, one refused with 5 among them, in a history of 7 words: a start takes no fewer than 65, the definitions any
 abbrev queue : List ℕ → Call
-queue ws = queue-words (settings 0) ws
+queue ws = queue_words (settings 0) ws
 
 abbrev writing : ℕ → ℕ → Call
 writing time max = write (settings 0) time (payload max) (replicate max 0)
 
-abbrev leaving-log : List Entry
-leaving-log = saidFrom 7 4 nothing [] (queue (of 2) ∷ writing 10 16 ∷ queue (0x40903C40 ∷ []) ∷ queue (of 2) ∷ writing 1000 16 ∷ queue (of 2) ∷ [])
+abbrev leaving_log : List Entry
+leaving_log = said_from 7 4 nothing [] (queue (of 2) ∷ writing 10 16 ∷ queue (0x40903C40 ∷ []) ∷ queue (of 2) ∷ writing 1000 16 ∷ queue (of 2) ∷ [])
 
-pub left-by-log : (pastIn 7 leaving-log ≡ past (of 2 ∷ of 2 ∷ []) (of 2 ∷ []) [] (since 1000 100 [])) × (held 7 (pastIn 7 leaving-log) ≡ of 2 ∷ of 2 ∷ []) × (oldestAt 7 (pastIn 7 leaving-log) ≡ 1)
-unfolding pastIn pastAfter saidFrom toldOf sentIn queuedIn pushedAllIn pushedIn joinedIn joinedLast roomIn freed kept size wordsCheck above longer whole_of messagesOf divided typeWords fitting front behind commandsOf commandsIn requestedIn asks writeIn writtenIn servedIn idledIn newWritten writtenOn dataFrom answer_in restIn checkOf valid_of written_of bytes_of words_of spliced row_of sizesOf repeatsOf anyWords longestEnd dataAt answerTo in_turn leftAfter itemsAdded itemsFrom wholesIn opensIn words_in timerOf stepAfter
-left-by-log = (refl, refl, refl)
+pub left_by_log : (past_in 7 leaving_log ≡ past (of 2 ∷ of 2 ∷ []) (of 2 ∷ []) [] (since 1000 100 [])) × (held 7 (past_in 7 leaving_log) ≡ of 2 ∷ of 2 ∷ []) × (oldest_at 7 (past_in 7 leaving_log) ≡ 1)
+unfolding past_in past_after said_from told_of sent_in queued_in pushed_all_in pushed_in joined_in joined_last room_in freed kept size words_check above longer whole_of messages_of divided type_words fitting front behind commands_of commands_in requested_in asks write_in written_in served_in idled_in new_written written_on data_from answer_in rest_in check_of valid_of written_of bytes_of words_of spliced row_of sizes_of repeats_of any_words longest_end data_at answer_to in_turn left_after items_added items_from wholes_in opens_in words_in timer_of step_after
+left_by_log = (refl, refl, refl)
 
 -- a request that takes the payload, so that the new command is left
-pub left-unwritten : pastIn 65 (saidFrom 65 4 nothing [] (queue (of 1) ∷ writing 10 12 ∷ retransmit-request (settings 0) (request 0 1) ∷ queue (of 2) ∷ writing 1000 12 ∷ []))
+pub left_unwritten : past_in 65 (said_from 65 4 nothing [] (queue (of 1) ∷ writing 10 12 ∷ retransmit_request (settings 0) (request 0 1) ∷ queue (of 2) ∷ writing 1000 12 ∷ []))
     ≡ past (of 1 ∷ []) (of 2 ∷ []) [] (since 10 100 [])
-unfolding pastIn pastAfter saidFrom toldOf sentIn queuedIn pushedAllIn pushedIn joinedIn joinedLast roomIn freed kept size wordsCheck above longer whole_of messagesOf divided typeWords fitting front behind commandsOf commandsIn requestedIn asks writeIn writtenIn servedIn idledIn newWritten writtenOn dataFrom answer_in restIn checkOf valid_of written_of bytes_of words_of spliced row_of sizesOf repeatsOf anyWords longestEnd dataAt answerTo in_turn leftAfter itemsAdded itemsFrom wholesIn opensIn words_in timerOf stepAfter
-left-unwritten = refl
+unfolding past_in past_after said_from told_of sent_in queued_in pushed_all_in pushed_in joined_in joined_last room_in freed kept size words_check above longer whole_of messages_of divided type_words fitting front behind commands_of commands_in requested_in asks write_in written_in served_in idled_in new_written written_on data_from answer_in rest_in check_of valid_of written_of bytes_of words_of spliced row_of sizes_of repeats_of any_words longest_end data_at answer_to in_turn left_after items_added items_from wholes_in opens_in words_in timer_of step_after
+left_unwritten = refl
 
 -- ---- what a write has to write: a retransmit, one repeat and two new ones; the last doesn't fit in 28 bytes
 
 abbrev wishing : Past
 wishing = past three ((0x20803D00 ∷ []) ∷ (0x20903E40 ∷ []) ∷ []) (request 0 1 ∷ []) none
 
-pub wanted-in-order : wantedIn 65 (settings 1) 1000 wishing (payload 28) (replicate 32 0)
-    ≡ dataPacket 0 (0x20903C40 ∷ []) ∷ dataPacket 2 (0x20903D40 ∷ []) ∷ dataPacket 3 (0x20803D00 ∷ []) ∷ dataPacket 4 (0x20903E40 ∷ []) ∷ []
-unfolding wantedIn longestEnd size answersTo answerTo in_turn dataAt sizesOf timerOf
-wanted-in-order = refl
+pub wanted_in_order : wanted_in 65 (settings 1) 1000 wishing (payload 28) (replicate 32 0)
+    ≡ data_packet 0 (0x20903C40 ∷ []) ∷ data_packet 2 (0x20903D40 ∷ []) ∷ data_packet 3 (0x20803D00 ∷ []) ∷ data_packet 4 (0x20903E40 ∷ []) ∷ []
+unfolding wanted_in longest_end size answers_to answer_to in_turn data_at sizes_of timer_of
+wanted_in_order = refl
 
 abbrev wished : WriteIn
 wished = written 1 (holding 0 three ((0x20803D00 ∷ []) ∷ (0x20903E40 ∷ []) ∷ []) (request 0 1 ∷ [])) 28
 
-pub cut-at-fourth : (wished.answer ≡ cut 3) × (bytes wished ≡ bytes_of (0x4D494449 ∷ 0xFF010000 ∷ 0x20903C40 ∷ 0xFF010002 ∷ 0x20903D40 ∷ 0xFF010003 ∷ 0x20803D00 ∷ []))
-unfolding checkOf valid_of written_of bytes_of spliced row_of dataFrom answer_in restIn sizesOf repeatsOf anyWords servedIn idledIn writtenOn newWritten writtenIn writeIn
-cut-at-fourth = (refl, refl)
+pub cut_at_fourth : (wished.answer ≡ cut 3) × (bytes wished ≡ bytes_of (0x4D494449 ∷ 0xFF010000 ∷ 0x20903C40 ∷ 0xFF010002 ∷ 0x20903D40 ∷ 0xFF010003 ∷ 0x20803D00 ∷ []))
+unfolding check_of valid_of written_of bytes_of spliced row_of data_from answer_in rest_in sizes_of repeats_of any_words served_in idled_in written_on new_written written_in write_in
+cut_at_fourth = (refl, refl)
 
 -- reading finds the three, one of which opens a position
-pub three-found : (addedIn (payload 28) wished.payload wished.bytes ≡ dataPacket 0 (0x20903C40 ∷ []) ∷ dataPacket 2 (0x20903D40 ∷ []) ∷ dataPacket 3 (0x20803D00 ∷ []) ∷ [])
-    × (opensIn 3 (addedIn (payload 28) wished.payload wished.bytes) ≡ 1)
-unfolding checkOf valid_of written_of bytes_of spliced row_of dataFrom answer_in restIn sizesOf repeatsOf anyWords servedIn idledIn writtenOn newWritten writtenIn writeIn itemsAdded itemsFrom wholesIn words_of opensIn
-three-found = (refl, refl)
+pub three_found : (added_in (payload 28) wished.payload wished.bytes ≡ data_packet 0 (0x20903C40 ∷ []) ∷ data_packet 2 (0x20903D40 ∷ []) ∷ data_packet 3 (0x20803D00 ∷ []) ∷ [])
+    × (opens_in 3 (added_in (payload 28) wished.payload wished.bytes) ≡ 1)
+unfolding check_of valid_of written_of bytes_of spliced row_of data_from answer_in rest_in sizes_of repeats_of any_words served_in idled_in written_on new_written written_in write_in items_added items_from wholes_in words_of opens_in
+three_found = (refl, refl)
 
 -- a request for all from 0 on, of which two were written
-pub one-waits : leftAfter 65 (past three [] [] none) (request 0 0 ∷ []) 2 ≡ request 2 1 ∷ []
-unfolding leftAfter longestEnd size answerTo dataAt
-one-waits = refl
+pub one_waits : left_after 65 (past three [] [] none) (request 0 0 ∷ []) 2 ≡ request 2 1 ∷ []
+unfolding left_after longest_end size answer_to data_at
+one_waits = refl
 
 -- ---- T1 100, G 2, K 5, R 2, data written at 0: the timer before the first idle command, after three, after seven, and after all eight
 
@@ -185,11 +185,11 @@ at time = record { time = time; settings = settings 2 }
 abbrev first_three : List Queued
 first_three = at 300 ∷ at 200 ∷ at 100 ∷ []
 
-abbrev first-seven : List Queued
-first-seven = at 3300 ∷ at 1700 ∷ at 900 ∷ at 500 ∷ first_three
+abbrev first_seven : List Queued
+first_seven = at 3300 ∷ at 1700 ∷ at 900 ∷ at 500 ∷ first_three
 
-pub idle-steps : (timerOf (since 0 100 []) ≡ Waiting record { due = 100; step = 0; interval = 100 })
-    × (timerOf (since 0 100 first_three) ≡ Waiting record { due = 500; step = 3; interval = 200 })
-    × (timerOf (since 0 100 first-seven) ≡ Waiting record { due = 6500; step = 7; interval = 3200 }) × (timerOf (since 0 100 (at 6500 ∷ first-seven)) ≡ Off)
-unfolding timerOf stepAfter
-idle-steps = (refl, refl, refl, refl)
+pub idle_steps : (timer_of (since 0 100 []) ≡ Waiting record { due = 100; step = 0; interval = 100 })
+    × (timer_of (since 0 100 first_three) ≡ Waiting record { due = 500; step = 3; interval = 200 })
+    × (timer_of (since 0 100 first_seven) ≡ Waiting record { due = 6500; step = 7; interval = 3200 }) × (timer_of (since 0 100 (at 6500 ∷ first_seven)) ≡ Off)
+unfolding timer_of step_after
+idle_steps = (refl, refl, refl, refl)

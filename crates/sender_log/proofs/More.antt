@@ -9,41 +9,41 @@ use borrow.Author.Tests.{leb-true, leb-false, lt-leb, ne_eqb}
 use lib.Dec.{ltb, eqb}
 use lib.ListN.{length, take, drop, length-append, length-take, drop_of_length-le}
 use lib.Seq.{drop-drop, drop-append-add, length-take-le}
-use Rattle.command.specs.inner.Lists.{drop-take}
+use Rattle.command.specs.inner.Lists.{drop_take}
 use Rattle.config.specs.Entry.{entry}
 use Rattle.config.specs.Sequence.{turn, after, ahead}
 use Rattle.config.specs.declared.refusal.Refusal.{Refusal}
 use Rattle.config.specs.declared.refusal.Refusal.TheVariants.{TooLarge, InvalidState}
-use Rattle.config.specs.Settings.{checkOf}
+use Rattle.config.specs.Settings.{check_of}
 use Rattle.config.specs.declared.answer.Outcome.{Outcome}
 use Rattle.config.specs.declared.answer.Outcome.TheVariants.{Done, Refused}
 use Rattle.config.specs.declared.settings.StreamConfig.{StreamConfig}
 use Rattle.config.specs.inner.Tests.{split}
 use Rattle.config.specs.inner.Choices.{or_left}
 use Rattle.packet.specs.Layout.{Packet}
-use Rattle.packet.specs.Write.{limitOf, start_of, valid_of}
+use Rattle.packet.specs.Write.{limit_of, start_of, valid_of}
 use Rattle.packet.specs.declared.writer.PayloadWriter.{PayloadWriter}
-use Rattle.command.specs.Write.{errorPacket}
+use Rattle.command.specs.Write.{error_packet}
 use Rattle.command.specs.declared.retransmit.RetransmitRequest.{RetransmitRequest}
 use Rattle.history.specs.Entries.{size, Short}
-use Rattle.history.proofs.Entries.{holds-good}
-use Rattle.history.proofs.Room.{good-few}
-use Rattle.history.proofs.Flat.{kept-short, short-append, short-left, short-one}
-use Rattle.idle.specs.Schedule.{idleNext}
+use Rattle.history.proofs.Entries.{holds_good}
+use Rattle.history.proofs.Room.{good_few}
+use Rattle.history.proofs.Flat.{kept_short, short_append, short_left, short_one}
+use Rattle.idle.specs.Schedule.{idle_next}
 use Rattle.idle.specs.declared.idle.IdleTimer.{IdleTimer}
 use Rattle.idle.specs.declared.idle.IdleTimer.TheVariants.{Off, Waiting}
-use Rattle.rows.specs.Rows.{Row, row_of, sizesOf, fitAll}
+use Rattle.rows.specs.Rows.{Row, row_of, sizes_of, fit_all}
 use Rattle.sender.specs.declared.sender.Sender.{Sender}
-use Rattle.sender_log.specs.Book.{Book, oldestIn, freed, pushedIn, indexIn, absentIn, errorIn, withWaiting}
+use Rattle.sender_log.specs.Book.{Book, oldest_in, freed, pushed_in, index_in, absent_in, error_in, with_waiting}
 use Rattle.writing.specs.declared.writing.Written.{Written as Amount}
 use Rattle.writing.specs.declared.writing.Writing.TheVariants.{Written}
-use Rattle.sender_log.specs.Writes.{dataFrom, writtenFrom, newIn, reachIn, answer_in, restIn, ServedIn, servedAlso, servedIn, is_empty, withIdle, idledBy, idledIn, againIn, writtenOn, WriteIn, wrote, refused, newBy, newWritten, writtenIn, writeIn}
+use Rattle.sender_log.specs.Writes.{data_from, written_from, new_in, reach_in, answer_in, rest_in, ServedIn, served_also, served_in, is_empty, with_idle, idled_by, idled_in, again_in, written_on, WriteIn, wrote, refused, new_by, new_written, written_in, write_in}
 use Rattle.sender_log.specs.Calls.{run}
-use Rattle.sender_log.specs.Answers.{bookOf}
-use Rattle.sender_log.specs.Promise.{nextBy, nextIn, NoRoom, More}
-use Rattle.sender_log.proofs.Packets.{length-data, drop-data}
+use Rattle.sender_log.specs.Answers.{book_of}
+use Rattle.sender_log.specs.Promise.{next_by, next_in, NoRoom, More}
+use Rattle.sender_log.proofs.Packets.{length_data, drop_data}
 use Rattle.sender_log.proofs.Serving.{reach_few}
-use Rattle.sender_log.proofs.Rows.{Few, few-take, few-append, RowRight, row-right, row-enough, repeats-fit, repeats-few}
+use Rattle.sender_log.proofs.Rows.{Few, few_take, few_append, RowRight, row_right, row_enough, repeats_fit, repeats_few}
 use Rattle.sender_log.proofs.Follows.{Follows}
 use Rattle.sender_log.proofs.Runs.{run_ok}
 
@@ -55,66 +55,66 @@ pub record Small (b : Book) : Type 0 where
 
 -- ---- commands held
 
-pub few-data : (n : ℕ) (es : List (List ℕ)) → Short es → Few (dataFrom n es)
-unfolding dataFrom Few Short
-few-data n [] s = tt
-few-data n (e ∷ es) s = (omega (arith, s.0), few-data (after n 1) es s.1)
+pub few_data : (n : ℕ) (es : List (List ℕ)) → Short es → Few (data_from n es)
+unfolding data_from Few Short
+few_data n [] s = tt
+few_data n (e ∷ es) s = (omega (arith, s.0), few_data (after n 1) es s.1)
 
-pub short-drop : (k : ℕ) (es : List (List ℕ)) → Short es → Short (drop k es)
+pub short_drop : (k : ℕ) (es : List (List ℕ)) → Short es → Short (drop k es)
 unfolding Short
-short-drop zero es s = s
-short-drop (suc k) [] s = tt
-short-drop (suc k) (e ∷ es) s = short-drop k es s.1
+short_drop zero es s = s
+short_drop (suc k) [] s = tt
+short_drop (suc k) (e ∷ es) s = short_drop k es s.1
 
 -- ---- the answer to a request, and to what is left of it
 
 -- the number n after one that is held is n further on
-index-after : (o seq n : ℕ) → o < turn → ahead o seq + n < turn → ahead o (after seq n) ≡ ahead o seq + n
-index-after o seq n l k = omega arith
+index_after : (o seq n : ℕ) → o < turn → ahead o seq + n < turn → ahead o (after seq n) ≡ ahead o seq + n
+index_after o seq n l k = omega arith
 
-answer_at : (b : Book) (r : RetransmitRequest) (x k : ℕ) → indexIn b r.seq ≡ x → reachIn b r ≡ k → x < length b.written → answer_in b r ≡ take k (writtenFrom b x)
+answer_at : (b : Book) (r : RetransmitRequest) (x k : ℕ) → index_in b r.seq ≡ x → reach_in b r ≡ k → x < length b.written → answer_in b r ≡ take k (written_from b x)
 unfolding answer_in
 answer_at b r x k e f l =
-    let t : absentIn b r.seq ≡ false = lt-leb (length b.written) (indexIn b r.seq) (omega arith) in
-    rw t (ap (λ (j : ℕ). take j (writtenFrom b (indexIn b r.seq))) f ∙ ap (λ (j : ℕ). take k (writtenFrom b j)) e)
+    let t : absent_in b r.seq ≡ false = lt-leb (length b.written) (index_in b r.seq) (omega arith) in
+    rw t (ap (λ (j : ℕ). take j (written_from b (index_in b r.seq))) f ∙ ap (λ (j : ℕ). take k (written_from b j)) e)
 
-further-written : (b : Book) (x k n : ℕ) → n ≤ k → take (k - n) (writtenFrom b (x + n)) ≡ drop n (take k (writtenFrom b x))
-further-written b x k n l =
-    let o : ℕ = oldestIn b in
+further_written : (b : Book) (x k n : ℕ) → n ≤ k → take (k - n) (written_from b (x + n)) ≡ drop n (take k (written_from b x))
+further_written b x k n l =
+    let o : ℕ = oldest_in b in
     let e : n + (k - n) ≡ k = omega arith in
     let m : ((b.first % 65536 + x) % 65536 + n) % 65536 ≡ (b.first % 65536 + (x + n)) % 65536 = omega arith in
-    let d : drop n (writtenFrom b x) ≡ writtenFrom b (x + n) =
-    drop-data n (after o x) (drop x b.written) (omega arith) ∙ ap (λ (y : ℕ). dataFrom y (drop n (drop x b.written))) m ∙ ap (dataFrom (after o (x + n))) (drop-drop n x b.written) in
-    sym (ap (λ (j : ℕ). drop n (take j (writtenFrom b x))) (sym e) ∙ drop-take n (k - n) (writtenFrom b x) ∙ ap (take (k - n)) d)
+    let d : drop n (written_from b x) ≡ written_from b (x + n) =
+    drop_data n (after o x) (drop x b.written) (omega arith) ∙ ap (λ (y : ℕ). data_from y (drop n (drop x b.written))) m ∙ ap (data_from (after o (x + n))) (drop-drop n x b.written) in
+    sym (ap (λ (j : ℕ). drop n (take j (written_from b x))) (sym e) ∙ drop_take n (k - n) (written_from b x) ∙ ap (take (k - n)) d)
 
-further-answer : (b : Book) → Small b → (r : RetransmitRequest) (n : ℕ) → indexIn b r.seq < length b.written → n < reachIn b r
-    → answer_in b record { seq = after r.seq n; count = reachIn b r - n } ≡ drop n (take (reachIn b r) (writtenFrom b (indexIn b r.seq)))
-further-answer b small r n l k =
-    let x : ℕ = indexIn b r.seq in
+further_answer : (b : Book) → Small b → (r : RetransmitRequest) (n : ℕ) → index_in b r.seq < length b.written → n < reach_in b r
+    → answer_in b record { seq = after r.seq n; count = reach_in b r - n } ≡ drop n (take (reach_in b r) (written_from b (index_in b r.seq)))
+further_answer b small r n l k =
+    let x : ℕ = index_in b r.seq in
     let m = reach_few b r in
-    let i : indexIn b (after r.seq n) ≡ x + n = index-after (oldestIn b) r.seq n (omega arith) (omega (arith, small.few)) in
-    let t : eqb (reachIn b r - n) 0 ≡ false = ne_eqb (reachIn b r - n) 0 (λ e. omega arith) in
-    answer_at b record { seq = after r.seq n; count = reachIn b r - n } (x + n) (reachIn b r - n) i (rw t (omega arith)) (omega arith)
-    ∙ further-written b x (reachIn b r) n (omega arith)
+    let i : index_in b (after r.seq n) ≡ x + n = index_after (oldest_in b) r.seq n (omega arith) (omega (arith, small.few)) in
+    let t : eqb (reach_in b r - n) 0 ≡ false = ne_eqb (reach_in b r - n) 0 (λ e. omega arith) in
+    answer_at b record { seq = after r.seq n; count = reach_in b r - n } (x + n) (reach_in b r - n) i (rw t (omega arith)) (omega arith)
+    ∙ further_written b x (reach_in b r) n (omega arith)
 
 module _ (b : Book) (small : Small b) (r : RetransmitRequest) where
-  answer-few : Few (answer_in b r)
+  answer_few : Few (answer_in b r)
   unfolding answer_in Few
-  answer-few = on (absentIn b r.seq)
+  answer_few = on (absent_in b r.seq)
     where
-      on : (t : Bool) → Few (cond t (errorPacket (errorIn b) ∷ []) (take (reachIn b r) (writtenFrom b (indexIn b r.seq))))
+      on : (t : Bool) → Few (cond t (error_packet (error_in b) ∷ []) (take (reach_in b r) (written_from b (index_in b r.seq))))
       on true = (omega arith, tt)
-      on false = few-take (reachIn b r) _ (few-data _ _ (short-drop (indexIn b r.seq) b.written small.written))
+      on false = few_take (reach_in b r) _ (few_data _ _ (short_drop (index_in b r.seq) b.written small.written))
 
   -- what is left after n of its commands is answered with the others
-  rest-answer : (n : ℕ) → n < length (answer_in b r) → answer_in b (restIn b r n) ≡ drop n (answer_in b r)
-  unfolding answer_in restIn
-  rest-answer n l = on (absentIn b r.seq) refl l
+  rest_answer : (n : ℕ) → n < length (answer_in b r) → answer_in b (rest_in b r n) ≡ drop n (answer_in b r)
+  unfolding answer_in rest_in
+  rest_answer n l = on (absent_in b r.seq) refl l
     where
-      on : (t : Bool) → absentIn b r.seq ≡ t → n < length (cond t (errorPacket (errorIn b) ∷ []) (take (reachIn b r) (writtenFrom b (indexIn b r.seq))))
-          → answer_in b (cond t r record { seq = after r.seq n; count = reachIn b r - n }) ≡ drop n (cond t (errorPacket (errorIn b) ∷ []) (take (reachIn b r) (writtenFrom b (indexIn b r.seq))))
+      on : (t : Bool) → absent_in b r.seq ≡ t → n < length (cond t (error_packet (error_in b) ∷ []) (take (reach_in b r) (written_from b (index_in b r.seq))))
+          → answer_in b (cond t r record { seq = after r.seq n; count = reach_in b r - n }) ≡ drop n (cond t (error_packet (error_in b) ∷ []) (take (reach_in b r) (written_from b (index_in b r.seq))))
       on true e k = let z : n ≡ 0 = omega arith in rw (z, e)
-      on false e k = further-answer b small r n (leb-false (length b.written) (indexIn b r.seq) e) (omega (arith, length-take (reachIn b r) (writtenFrom b (indexIn b r.seq))))
+      on false e k = further_answer b small r n (leb-false (length b.written) (index_in b r.seq) e) (omega (arith, length-take (reach_in b r) (written_from b (index_in b r.seq))))
 
 -- ---- all requests
 
@@ -122,35 +122,35 @@ module _ (b : Book) (small : Small b) (r : RetransmitRequest) where
 record ServedRight (b : Book) (y : ServedIn) : Type 0 where
   valid : valid_of y.payload (length y.bytes) ≡ true
   none : y.more ≡ false → y.waiting ≡ []
-  left : y.more ≡ true → NoRoom y.payload y.bytes (nextBy b y.waiting)
+  left : y.more ≡ true → NoRoom y.payload y.bytes (next_by b y.waiting)
 
-served-one : (b : Book) → Small b → (r : RetransmitRequest) (rs : List RetransmitRequest) (out : Row) → RowRight (answer_in b r) out → (t : Bool) → (t ≡ false → out.whole ≡ false) → (y : ServedIn) → ServedRight b y
-    → ServedRight b (cond t (servedAlso out.written y) (record { waiting = restIn b r out.written ∷ rs; payload = out.payload; bytes = out.bytes; commands = out.written; more = true }))
-served-one b small r rs out i true e y j = record { valid = j.valid; none = j.none; left = j.left }
-served-one b small r rs out i false e y j =
+served_one : (b : Book) → Small b → (r : RetransmitRequest) (rs : List RetransmitRequest) (out : Row) → RowRight (answer_in b r) out → (t : Bool) → (t ≡ false → out.whole ≡ false) → (y : ServedIn) → ServedRight b y
+    → ServedRight b (cond t (served_also out.written y) (record { waiting = rest_in b r out.written ∷ rs; payload = out.payload; bytes = out.bytes; commands = out.written; more = true }))
+served_one b small r rs out i true e y j = record { valid = j.valid; none = j.none; left = j.left }
+served_one b small r rs out i false e y j =
     let l = i.left (e refl) in
     record {
       valid = i.valid;
       none = λ z. absurd (let w : ◌≡◌ {A = ℕ} 0 1 = cc in omega arith);
-      left = λ z. rw (rest-answer b small r out.written l.0) l.1;
+      left = λ z. rw (rest_answer b small r out.written l.0) l.1;
     }
 
-served-right : (rs : List RetransmitRequest) (b : Book) → Small b → (p : PayloadWriter) (by : List ℕ) → valid_of p (length by) ≡ true → ServedRight b (servedIn b rs p by)
-unfolding servedIn
-served-right [] b small p by v = record { valid = v; none = λ z. refl; left = λ z. absurd (let w : ◌≡◌ {A = ℕ} 0 1 = cc in omega arith) }
-served-right (r ∷ rs) b small p by v =
-    let i = row-right (answer_in b r) p by (answer-few b small r) v in
-    served-one b small r rs (row_of p by (answer_in b r)) i ((row_of p by (answer_in b r)).whole || eqb (row_of p by (answer_in b r)).payload.len 0) (or_left _ _) _
-    (served-right rs b small (row_of p by (answer_in b r)).payload (row_of p by (answer_in b r)).bytes i.valid)
+served_right : (rs : List RetransmitRequest) (b : Book) → Small b → (p : PayloadWriter) (by : List ℕ) → valid_of p (length by) ≡ true → ServedRight b (served_in b rs p by)
+unfolding served_in
+served_right [] b small p by v = record { valid = v; none = λ z. refl; left = λ z. absurd (let w : ◌≡◌ {A = ℕ} 0 1 = cc in omega arith) }
+served_right (r ∷ rs) b small p by v =
+    let i = row_right (answer_in b r) p by (answer_few b small r) v in
+    served_one b small r rs (row_of p by (answer_in b r)) i ((row_of p by (answer_in b r)).whole || eqb (row_of p by (answer_in b r)).payload.len 0) (or_left _ _) _
+    (served_right rs b small (row_of p by (answer_in b r)).payload (row_of p by (answer_in b r)).bytes i.valid)
 
 -- ---- new commands
 
 record WriteRight (a : WriteIn) : Type 0 where
-  more : (n : ℕ) → a.answer ≡ Written record { commands = n; more = true } → NoRoom a.payload a.bytes (nextIn a.book)
+  more : (n : ℕ) → a.answer ≡ Written record { commands = n; more = true } → NoRoom a.payload a.bytes (next_in a.book)
   no_more : (n : ℕ) → a.answer ≡ Written record { commands = n; more = false } → (a.book.waiting ≡ []) × (a.book.unwritten ≡ [])
 
-refused-right : (b : Book) (p : PayloadWriter) (by : List ℕ) (why : Refusal) → WriteRight (refused b p by why)
-refused-right b p by why = record {
+refused_right : (b : Book) (p : PayloadWriter) (by : List ℕ) (why : Refusal) → WriteRight (refused b p by why)
+refused_right b p by why = record {
   more = λ n e. absurd (let z : ◌≡◌ {A = ℕ} 0 1 = cc in omega arith);
   no_more = λ n e. absurd (let z : ◌≡◌ {A = ℕ} 0 1 = cc in omega arith);
 }
@@ -160,161 +160,161 @@ same_more n m x y e =
     let f : ◌≡◌ {A = Amount} record { commands = n; more = x } record { commands = m; more = y } = cc in
     ap (λ (a : Amount). a.more) f
 
-wrote-more : (b : Book) (p : PayloadWriter) (by : List ℕ) (n : ℕ) → NoRoom p by (nextIn b) → WriteRight (wrote b p by n true)
-wrote-more b p by n l = record { more = λ m e. l; no_more = λ m e. absurd (let z : ◌≡◌ {A = ℕ} 0 1 = cc (same_more n m true false e) in omega arith) }
+wrote_more : (b : Book) (p : PayloadWriter) (by : List ℕ) (n : ℕ) → NoRoom p by (next_in b) → WriteRight (wrote b p by n true)
+wrote_more b p by n l = record { more = λ m e. l; no_more = λ m e. absurd (let z : ◌≡◌ {A = ℕ} 0 1 = cc (same_more n m true false e) in omega arith) }
 
-wrote-all : (b : Book) (p : PayloadWriter) (by : List ℕ) (n : ℕ) → b.waiting ≡ [] → b.unwritten ≡ [] → WriteRight (wrote b p by n false)
-wrote-all b p by n e f = record { more = λ m g. absurd (let z : ◌≡◌ {A = ℕ} 0 1 = cc (same_more n m false true g) in omega arith); no_more = λ m g. (e, f) }
+wrote_all : (b : Book) (p : PayloadWriter) (by : List ℕ) (n : ℕ) → b.waiting ≡ [] → b.unwritten ≡ [] → WriteRight (wrote b p by n false)
+wrote_all b p by n e f = record { more = λ m g. absurd (let z : ◌≡◌ {A = ℕ} 0 1 = cc (same_more n m false true g) in omega arith); no_more = λ m g. (e, f) }
 
-next-new : (b : Book) → b.waiting ≡ [] → nextIn b ≡ newIn b
-unfolding nextIn
-next-new b e = ap (nextBy b) e
+next_new : (b : Book) → b.waiting ≡ [] → next_in b ≡ new_in b
+unfolding next_in
+next_new b e = ap (next_by b) e
 
-none-new : (b : Book) → newIn b ≡ [] → b.unwritten ≡ []
-none-new b e = on b.unwritten (sym (length-data (after (oldestIn b) (length b.written)) b.unwritten) ∙ ap length e)
+none_new : (b : Book) → new_in b ≡ [] → b.unwritten ≡ []
+none_new b e = on b.unwritten (sym (length_data (after (oldest_in b) (length b.written)) b.unwritten) ∙ ap length e)
   where
     on : (us : List (List ℕ)) → length us ≡ 0 → us ≡ []
     on [] z = refl
     on (u ∷ us) z = absurd (let y : ⊥ = omega arith in y)
 
 -- the unwritten commands after m of them were written
-new-left : (cfg : StreamConfig) (time m : ℕ) (b : Book) → m ≤ length b.unwritten → newIn (writtenOn cfg time m b) ≡ drop m (newIn b)
-unfolding writtenOn
-new-left cfg time m b l =
-    let o : ℕ = oldestIn b in
+new_left : (cfg : StreamConfig) (time m : ℕ) (b : Book) → m ≤ length b.unwritten → new_in (written_on cfg time m b) ≡ drop m (new_in b)
+unfolding written_on
+new_left cfg time m b l =
+    let o : ℕ = oldest_in b in
     let w : ℕ = length b.written in
     let n : length (b.written ++ take m b.unwritten) ≡ w + m = length-append b.written (take m b.unwritten) ∙ ap (λ (k : ℕ). w + k) (length-take-le m b.unwritten l) in
     let e : ((b.first % 65536 + w) % 65536 + m) % 65536 ≡ (b.first % 65536 + (w + m)) % 65536 = omega arith in
-    ap (λ (k : ℕ). dataFrom (after o k) (drop m b.unwritten)) n
-    ∙ sym (drop-data m (after o w) b.unwritten (omega arith) ∙ ap (λ (k : ℕ). dataFrom k (drop m b.unwritten)) e)
+    ap (λ (k : ℕ). data_from (after o k) (drop m b.unwritten)) n
+    ∙ sym (drop_data m (after o w) b.unwritten (omega arith) ∙ ap (λ (k : ℕ). data_from k (drop m b.unwritten)) e)
 
 module _ (cfg : StreamConfig) (time n : ℕ) (b : Book) (p : PayloadWriter) (by : List ℕ) (none : b.waiting ≡ []) where
   -- the first doesn't fit, or is written with those that do
-  row-left : (first : Packet) (others again : List Packet) (out : Row) → newIn b ≡ first ∷ others → RowRight (again ++ (first ∷ others)) out → length again ≤ out.written
-      → WriteRight (wrote (writtenOn cfg time (out.written - length again) b) out.payload out.bytes (n + out.written) (not out.whole))
-  unfolding writtenOn
-  row-left first others again out e i l =
+  row_left : (first : Packet) (others again : List Packet) (out : Row) → new_in b ≡ first ∷ others → RowRight (again ++ (first ∷ others)) out → length again ≤ out.written
+      → WriteRight (wrote (written_on cfg time (out.written - length again) b) out.payload out.bytes (n + out.written) (not out.whole))
+  unfolding written_on
+  row_left first others again out e i l =
       let cs : List Packet = first ∷ others in
       let m : ℕ = out.written - length again in
-      let after-row : Book = writtenOn cfg time m b in
-      let u : length b.unwritten ≡ length cs = sym (length-data (after (oldestIn b) (length b.written)) b.unwritten) ∙ ap length e in
+      let after-row : Book = written_on cfg time m b in
+      let u : length b.unwritten ≡ length cs = sym (length_data (after (oldest_in b) (length b.written)) b.unwritten) ∙ ap length e in
       let k = length-append again cs in
       elim (split out.whole) [
-        | inl w ↦ rw w (wrote-all after-row out.payload out.bytes (n + out.written) none (drop_of_length-le b.unwritten {i = m} (omega (arith, i.all w))))
+        | inl w ↦ rw w (wrote_all after-row out.payload out.bytes (n + out.written) none (drop_of_length-le b.unwritten {i = m} (omega (arith, i.all w))))
         | inr w ↦
             let z : length again + m ≡ out.written = omega arith in
-            let d : drop out.written (again ++ cs) ≡ nextIn after-row =
+            let d : drop out.written (again ++ cs) ≡ next_in after-row =
             ap (λ (j : ℕ). drop j (again ++ cs)) (sym z) ∙ drop-append-add again cs m ∙ ap (drop m) (sym e)
-            ∙ sym (next-new after-row none ∙ new-left cfg time m b (omega (arith, (i.left w).0))) in
-            rw w (wrote-more after-row out.payload out.bytes (n + out.written) (subst (NoRoom out.payload out.bytes) d (i.left w).1))
+            ∙ sym (next_new after-row none ∙ new_left cfg time m b (omega (arith, (i.left w).0))) in
+            rw w (wrote_more after-row out.payload out.bytes (n + out.written) (subst (NoRoom out.payload out.bytes) d (i.left w).1))
       ]
 
-  module _ (first : Packet) (others : List Packet) (e : newIn b ≡ first ∷ others) (v : valid_of p (length by) ≡ true) where
+  module _ (first : Packet) (others : List Packet) (e : new_in b ≡ first ∷ others) (v : valid_of p (length by) ≡ true) where
     -- the first doesn't fit
-    first-left : fitAll p by (first ∷ []) ≡ false → NoRoom p by (nextIn b)
-    unfolding sizesOf
-    first-left t = subst (NoRoom p by) (sym (next-new b none ∙ e)) (omega (arith, leb-false (start_of p + sizesOf (first ∷ [])) (limitOf p (length by)) t))
+    first_left_lem : fit_all p by (first ∷ []) ≡ false → NoRoom p by (next_in b)
+    unfolding sizes_of
+    first_left_lem t = subst (NoRoom p by) (sym (next_new b none ∙ e)) (omega (arith, leb-false (start_of p + sizes_of (first ∷ [])) (limit_of p (length by)) t))
 
     -- the repeats are written before it
-    again-enough : (again : List Packet) → Few again → fitAll p by (first ∷ again) ≡ true → length again ≤ (row_of p by (again ++ (first ∷ others))).written
-    unfolding sizesOf
-    again-enough again f t = row-enough again (first ∷ others) p by f v (omega (arith, leb-true (start_of p + sizesOf (first ∷ again)) (limitOf p (length by)) t))
+    again_enough : (again : List Packet) → Few again → fit_all p by (first ∷ again) ≡ true → length again ≤ (row_of p by (again ++ (first ∷ others))).written
+    unfolding sizes_of
+    again_enough again f t = row_enough again (first ∷ others) p by f v (omega (arith, leb-true (start_of p + sizes_of (first ∷ again)) (limit_of p (length by)) t))
 
-    new-some : Short b.written → Short b.unwritten → WriteRight (newBy cfg time n b p by (first ∷ others))
-    new-some sw su =
-        let again : List Packet = againIn b cfg.fec_repeats p by first in
+    new_some : Short b.written → Short b.unwritten → WriteRight (new_by cfg time n b p by (first ∷ others))
+    new_some sw su =
+        let again : List Packet = again_in b cfg.fec_repeats p by first in
         let j : ℕ = length b.written - min cfg.fec_repeats (length b.written) in
-        let f : Few again = repeats-few p by first (writtenFrom b j) (few-data (after (oldestIn b) j) (drop j b.written) (short-drop j b.written sw)) in
-        let g : Few (first ∷ others) = subst Few e (few-data (after (oldestIn b) (length b.written)) b.unwritten su) in
-        elim (split (fitAll p by (first ∷ []))) [
+        let f : Few again = repeats_few p by first (written_from b j) (few_data (after (oldest_in b) j) (drop j b.written) (short_drop j b.written sw)) in
+        let g : Few (first ∷ others) = subst Few e (few_data (after (oldest_in b) (length b.written)) b.unwritten su) in
+        elim (split (fit_all p by (first ∷ []))) [
           | inl t ↦
-              rw t (row-left first others again (row_of p by (again ++ (first ∷ others))) e (row-right (again ++ (first ∷ others)) p by (few-append again (first ∷ others) f g) v)
-              (again-enough again f (repeats-fit p by first (writtenFrom b j) t)))
+              rw t (row_left first others again (row_of p by (again ++ (first ∷ others))) e (row_right (again ++ (first ∷ others)) p by (few_append again (first ∷ others) f g) v)
+              (again_enough again f (repeats_fit p by first (written_from b j) t)))
           | inr t ↦ elim (split (eqb p.len 0)) [
-            | inl z ↦ rw (t, z) (refused-right b p by TooLarge)
-            | inr z ↦ rw (t, z) (wrote-more b p by n (first-left t))
+            | inl z ↦ rw (t, z) (refused_right b p by TooLarge)
+            | inr z ↦ rw (t, z) (wrote_more b p by n (first_left_lem t))
           ]
         ]
 
-  new-right : Short b.written → Short b.unwritten → valid_of p (length by) ≡ true → WriteRight (newWritten cfg time n b p by)
-  unfolding newWritten
-  new-right sw su v = on (newIn b) refl
+  new_right : Short b.written → Short b.unwritten → valid_of p (length by) ≡ true → WriteRight (new_written cfg time n b p by)
+  unfolding new_written
+  new_right sw su v = on (new_in b) refl
     where
-      on : (cs : List Packet) → newIn b ≡ cs → WriteRight (newBy cfg time n b p by cs)
-      on [] e = wrote-all b p by n none (none-new b e)
-      on (first ∷ others) e = new-some first others e v sw su
+      on : (cs : List Packet) → new_in b ≡ cs → WriteRight (new_by cfg time n b p by cs)
+      on [] e = wrote_all b p by n none (none_new b e)
+      on (first ∷ others) e = new_some first others e v sw su
 
 -- ---- the whole write
 
-pub idled-waiting : (c : ℕ) (cfg : StreamConfig) (time : ℕ) (b : Book) → (idledIn c cfg time b).waiting ≡ b.waiting
-unfolding idledIn pushedIn freed
-idled-waiting c cfg time b = on b.idle
+pub idled_waiting : (c : ℕ) (cfg : StreamConfig) (time : ℕ) (b : Book) → (idled_in c cfg time b).waiting ≡ b.waiting
+unfolding idled_in pushed_in freed
+idled_waiting c cfg time b = on b.idle
   where
-    on : (i : IdleTimer) → (idledBy c cfg time b i).waiting ≡ b.waiting
+    on : (i : IdleTimer) → (idled_by c cfg time b i).waiting ≡ b.waiting
     on Off = refl
-    on (Waiting i) = by-test (not (is_empty b.unwritten) || ltb time i.due)
+    on (Waiting i) = by_test (not (is_empty b.unwritten) || ltb time i.due)
       where
-        by-test : (t : Bool) → (cond t b (withIdle (pushedIn c [] b) (idleNext cfg time i))).waiting ≡ b.waiting
-        by-test true = refl
-        by-test false = refl
+        by_test : (t : Bool) → (cond t b (with_idle (pushed_in c [] b) (idle_next cfg time i))).waiting ≡ b.waiting
+        by_test true = refl
+        by_test false = refl
 
-pub idled-short : (c : ℕ) (cfg : StreamConfig) (time : ℕ) (b : Book) → Short b.written → Short b.unwritten → Short (idledIn c cfg time b).written × Short (idledIn c cfg time b).unwritten
-unfolding idledIn pushedIn freed
-idled-short c cfg time b sw su = on b.idle
+pub idled_short : (c : ℕ) (cfg : StreamConfig) (time : ℕ) (b : Book) → Short b.written → Short b.unwritten → Short (idled_in c cfg time b).written × Short (idled_in c cfg time b).unwritten
+unfolding idled_in pushed_in freed
+idled_short c cfg time b sw su = on b.idle
   where
-    on : (i : IdleTimer) → Short (idledBy c cfg time b i).written × Short (idledBy c cfg time b i).unwritten
+    on : (i : IdleTimer) → Short (idled_by c cfg time b i).written × Short (idled_by c cfg time b i).unwritten
     on Off = (sw, su)
-    on (Waiting i) = by-test (not (is_empty b.unwritten) || ltb time i.due)
+    on (Waiting i) = by_test (not (is_empty b.unwritten) || ltb time i.due)
       where
-        by-test : (t : Bool) → Short (cond t b (withIdle (pushedIn c [] b) (idleNext cfg time i))).written × Short (cond t b (withIdle (pushedIn c [] b) (idleNext cfg time i))).unwritten
-        by-test true = (sw, su)
-        by-test false = (kept-short (c - size b.unwritten) 1 b.written sw, short-append b.unwritten ([] ∷ []) su (short-one [] (omega arith)))
+        by_test : (t : Bool) → Short (cond t b (with_idle (pushed_in c [] b) (idle_next cfg time i))).written × Short (cond t b (with_idle (pushed_in c [] b) (idle_next cfg time i))).unwritten
+        by_test true = (sw, su)
+        by_test false = (kept_short (c - size b.unwritten) 1 b.written sw, short_append b.unwritten ([] ∷ []) su (short_one [] (omega arith)))
 
-next-waiting : (b : Book) (rs : List RetransmitRequest) → nextBy b rs ≡ nextIn (withWaiting b rs)
-unfolding nextIn answer_in
-next-waiting b [] = refl
-next-waiting b (r ∷ rs) = refl
+next_waiting : (b : Book) (rs : List RetransmitRequest) → next_by b rs ≡ next_in (with_waiting b rs)
+unfolding next_in answer_in
+next_waiting b [] = refl
+next_waiting b (r ∷ rs) = refl
 
-written-by : (c : ℕ) (cfg : StreamConfig) (time : ℕ) (b : Book) → Small b → (y : ServedIn) → ServedRight b y
-    → WriteRight (cond y.more (wrote (withWaiting b y.waiting) y.payload y.bytes y.commands true)
-    (newWritten cfg time y.commands (idledIn c cfg time (withWaiting b y.waiting)) y.payload y.bytes))
-written-by c cfg time b small y i = elim (split y.more) [
-  | inl t ↦ rw t (wrote-more (withWaiting b y.waiting) y.payload y.bytes y.commands (subst (NoRoom y.payload y.bytes) (next-waiting b y.waiting) (i.left t)))
+written_by_lem : (c : ℕ) (cfg : StreamConfig) (time : ℕ) (b : Book) → Small b → (y : ServedIn) → ServedRight b y
+    → WriteRight (cond y.more (wrote (with_waiting b y.waiting) y.payload y.bytes y.commands true)
+    (new_written cfg time y.commands (idled_in c cfg time (with_waiting b y.waiting)) y.payload y.bytes))
+written_by_lem c cfg time b small y i = elim (split y.more) [
+  | inl t ↦ rw t (wrote_more (with_waiting b y.waiting) y.payload y.bytes y.commands (subst (NoRoom y.payload y.bytes) (next_waiting b y.waiting) (i.left t)))
   | inr t ↦
-      let s = idled-short c cfg time (withWaiting b y.waiting) small.written small.unwritten in
-      rw t (new-right cfg time y.commands (idledIn c cfg time (withWaiting b y.waiting)) y.payload y.bytes (idled-waiting c cfg time (withWaiting b y.waiting) ∙ i.none t) s.0 s.1 i.valid)
+      let s = idled_short c cfg time (with_waiting b y.waiting) small.written small.unwritten in
+      rw t (new_right cfg time y.commands (idled_in c cfg time (with_waiting b y.waiting)) y.payload y.bytes (idled_waiting c cfg time (with_waiting b y.waiting) ∙ i.none t) s.0 s.1 i.valid)
 ]
 
-write-right : (c : ℕ) (cfg : StreamConfig) (time : ℕ) (b : Book) → Small b → (p : PayloadWriter) (by : List ℕ) → WriteRight (writeIn c cfg time b p by)
-unfolding writeIn writtenIn
-write-right c cfg time b small p by = on (checkOf cfg) (valid_of p (length by)) refl
+write_right : (c : ℕ) (cfg : StreamConfig) (time : ℕ) (b : Book) → Small b → (p : PayloadWriter) (by : List ℕ) → WriteRight (write_in c cfg time b p by)
+unfolding write_in written_in
+write_right c cfg time b small p by = on (check_of cfg) (valid_of p (length by)) refl
   where
-    on : (k : Outcome) (t : Bool) → valid_of p (length by) ≡ t → WriteRight (entry k t (refused b p by) (writtenIn c cfg time b p by))
-    on (Refused why) t v = refused-right b p by why
-    on Done false v = refused-right b p by InvalidState
-    on Done true v = written-by c cfg time b small (servedIn b b.waiting p by) (served-right b.waiting b small p by v)
+    on : (k : Outcome) (t : Bool) → valid_of p (length by) ≡ t → WriteRight (entry k t (refused b p by) (written_in c cfg time b p by))
+    on (Refused why) t v = refused_right b p by why
+    on Done false v = refused_right b p by InvalidState
+    on Done true v = written_by_lem c cfg time b small (served_in b b.waiting p by) (served_right b.waiting b small p by v)
 
 -- ---- what calls reach
 
-short-right : (xs ys : List (List ℕ)) → Short (xs ++ ys) → Short ys
+short_right : (xs ys : List (List ℕ)) → Short (xs ++ ys) → Short ys
 unfolding Short
-short-right [] ys s = s
-short-right (x ∷ xs) ys s = short-right xs ys s.1
+short_right [] ys s = s
+short_right (x ∷ xs) ys s = short_right xs ys s.1
 
-pub follows-small : (c q : ℕ) (s : Sender) (ring : List ℕ) (b : Book) → Follows c q s ring b → Small b
-follows-small c q s ring b f =
+pub follows_small : (c q : ℕ) (s : Sender) (ring : List ℕ) (b : Book) → Follows c q s ring b → Small b
+follows_small c q s ring b f =
     let h = f.holds in
-    let g = good-few s.history ring (holds-good s.history ring (b.written ++ b.unwritten) h) in
+    let g = good_few s.history ring (holds_good s.history ring (b.written ++ b.unwritten) h) in
     record {
-      written = short-left b.written b.unwritten h.short;
-      unwritten = short-right b.written b.unwritten h.short;
+      written = short_left b.written b.unwritten h.short;
+      unwritten = short_right b.written b.unwritten h.short;
       few = omega (arith, h.many, length-append b.written b.unwritten, h.room, h.most);
     }
 
 pub more : More
 more c q ring₀ started calls l =
-    let small = follows-small c q (run c q ring₀ calls).sender (run c q ring₀ calls).ring (bookOf c q calls) (run_ok c q ring₀ started calls l) in
+    let small = follows_small c q (run c q ring₀ calls).sender (run c q ring₀ calls).ring (book_of c q calls) (run_ok c q ring₀ started calls l) in
     record {
-      more = λ cfg time p by n e. (write-right c cfg time (bookOf c q calls) small p by).more n e;
-      no_more = λ cfg time p by n e. (write-right c cfg time (bookOf c q calls) small p by).no_more n e;
+      more = λ cfg time p by n e. (write_right c cfg time (book_of c q calls) small p by).more n e;
+      no_more = λ cfg time p by n e. (write_right c cfg time (book_of c q calls) small p by).no_more n e;
     }

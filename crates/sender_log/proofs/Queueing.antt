@@ -8,7 +8,7 @@ use borrow.Author.Tests.{ltb-false}
 use lib.Dec.{ltb, eqb}
 use lib.Seq.{get_or_at}
 use lib.ListN.{length, length-append}
-use Rattle.config.specs.Settings.{checkOf, tested}
+use Rattle.config.specs.Settings.{check_of, tested}
 use Rattle.config.specs.declared.settings.StreamConfig.{StreamConfig}
 use Rattle.config.specs.declared.answer.Outcome.{Outcome}
 use Rattle.config.specs.declared.answer.Outcome.TheVariants.{Done, Refused}
@@ -16,68 +16,68 @@ use Rattle.config.specs.declared.refusal.Refusal.TheVariants.{Full}
 use Rattle.history.specs.Headers.{length_at}
 use Rattle.history.specs.Entries.{size, Holds}
 use Rattle.history.specs.declared.history.SendHistory.{SendHistory}
-use Rattle.history.proofs.Entries.{holds-good, holds-length-at}
-use Rattle.history.proofs.Flat.{size-append}
+use Rattle.history.proofs.Entries.{holds_good, holds_length_at}
+use Rattle.history.proofs.Flat.{size_append}
 use Rattle.sender.specs.State.{valid_of}
 use Rattle.fronts.specs.Commands.{behind as rest}
-use Rattle.sender.specs.Queueing.{roomOf, joining, further, need_of, joinedTo, queuedTo, sent, unsent, queuedOf, wordsCheck, placed_of, sentOf}
-use Rattle.sender.specs.Answers.{sendAnswer}
+use Rattle.sender.specs.Queueing.{room_of, joining, further, need_of, joined_to, queued_to, sent, unsent, queued_of, words_check, placed_of, sent_of}
+use Rattle.sender.specs.Answers.{send_answer}
 use Rattle.sender.specs.declared.sender.Sender.{Sender}
 use Rattle.sender.specs.declared.sender.Sent.{Sent}
-use Rattle.sender.proofs.Validity.{valid-words}
-use Rattle.fronts.proofs.Fronts.{Divides, divides-behind}
-use Rattle.sender.proofs.Parts.{commands-parts}
-use Rattle.sender.proofs.Queued.{room-none, room-some, check-divides, settings-few}
-use Rattle.sender.proofs.Kept.{ready, need-parts}
-use Rattle.sender_log.specs.Book.{Book, joinedLast, joinedIn, pushedAllIn, roomIn, freed, needIn, queuedIn, QueueIn, sentIn}
-use Rattle.sender_log.proofs.Newest.{newest-of, room-newest, joined-nothing, length-joined, size-joined}
-use Rattle.sender_log.proofs.Held.{Held, Takes, joined-held, pushedAll-held, pushedAll-unwritten, pushedAll-waiting, pushedAll-idle}
-use Rattle.sender_log.proofs.Ties.{Follows, follows-valid, follows-held}
+use Rattle.sender.proofs.Validity.{valid_words}
+use Rattle.fronts.proofs.Fronts.{Divides, divides_behind}
+use Rattle.sender.proofs.Parts.{commands_parts}
+use Rattle.sender.proofs.Queued.{room_none, room_some, check_divides, settings_few}
+use Rattle.sender.proofs.Kept.{ready, need_parts}
+use Rattle.sender_log.specs.Book.{Book, joined_last, joined_in, pushed_all_in, room_in, freed, need_in, queued_in, QueueIn, sent_in}
+use Rattle.sender_log.proofs.Newest.{newest_of, room_newest, joined_nothing, length_joined, size_joined}
+use Rattle.sender_log.proofs.Held.{Held, Takes, joined_held, pushed_all_held, pushed_all_unwritten, pushed_all_waiting, pushed_all_idle}
+use Rattle.sender_log.proofs.Ties.{Follows, follows_valid, follows_held}
 
 -- ---- queued words
 
 -- the newest command's count of words
-last-length : (h : SendHistory) (ring : List ℕ) (es : List (List ℕ)) (w : List ℕ) → Holds h ring (es ++ (w ∷ [])) → length_at ring h.last ≡ length w
-last-length h ring es w a =
+last_length : (h : SendHistory) (ring : List ℕ) (es : List (List ℕ)) (w : List ℕ) → Holds h ring (es ++ (w ∷ [])) → length_at ring h.last ≡ length w
+last_length h ring es w a =
     let m : h.count ≡ length es + 1 = a.many ∙ length-append es (w ∷ []) in
     let p : 0 < h.count = omega arith in
-    rw ((holds-good h ring (es ++ (w ∷ [])) a).newest p) at (holds-length-at h ring (es ++ (w ∷ [])) a (h.count - 1) (omega arith))
+    rw ((holds_good h ring (es ++ (w ∷ [])) a).newest p) at (holds_length_at h ring (es ++ (w ∷ [])) a (h.count - 1) (omega arith))
     ∙ ap length (get_or_at es w [] [] (h.count - 1) (omega arith))
 
-size-joins : (us : List (List ℕ)) (xs : List ℕ) → (0 < length xs → Takes us (length xs)) → size (joinedLast us xs) ≡ size us + length xs
-size-joins us [] t = ap size (joined-nothing us) ∙ omega arith
-size-joins [] (x ∷ xs) t = absurd (let n = t (omega arith) in let e = ap length n.parts ∙ length-append n.before (n.newest ∷ []) in let z : ⊥ = omega arith in z)
-size-joins (u ∷ us) (x ∷ xs) t = size-joined u us (x ∷ xs)
+size_joins : (us : List (List ℕ)) (xs : List ℕ) → (0 < length xs → Takes us (length xs)) → size (joined_last us xs) ≡ size us + length xs
+size_joins us [] t = ap size (joined_nothing us) ∙ omega arith
+size_joins [] (x ∷ xs) t = absurd (let n = t (omega arith) in let e = ap length n.parts ∙ length-append n.before (n.newest ∷ []) in let z : ⊥ = omega arith in z)
+size_joins (u ∷ us) (x ∷ xs) t = size_joined u us (x ∷ xs)
 
 module _ (c q : ℕ) (s : Sender) (ring : List ℕ) (b : Book) (f : Follows c q s ring b) where
   module _ (us : List (List ℕ)) (w : List ℕ) (p : b.unwritten ≡ us ++ (w ∷ [])) where
-    newest-length : length_at ring s.history.last ≡ length w
-    newest-length =
-        last-length s.history ring (b.written ++ us) w
+    newest_length : length_at ring s.history.last ≡ length w
+    newest_length =
+        last_length s.history ring (b.written ++ us) w
         (subst (Holds s.history ring) (ap (λ (x : List (List ℕ)). b.written ++ x) p ∙ sym (append_assoc b.written us (w ∷ []))) f.holds)
 
-  room_by : (max : ℕ) (us : List (List ℕ)) → b.unwritten ≡ us → roomOf s ring max ≡ roomIn max us
-  unfolding roomIn
-  room_by max [] e = sym (room-none s ring max (f.unsent ∙ ap length e))
+  room_by : (max : ℕ) (us : List (List ℕ)) → b.unwritten ≡ us → room_of s ring max ≡ room_in max us
+  unfolding room_in
+  room_by max [] e = sym (room_none s ring max (f.unsent ∙ ap length e))
   room_by max (u ∷ us) e =
-      let n = newest-of u us in
+      let n = newest_of u us in
       let l = f.unsent ∙ ap length e in
       let some : s.unsent ≡ 0 → ⊥ = λ z. omega arith in
-      sym (room-some s ring max some (length n.newest) (sym (newest-length n.before n.newest (e ∙ n.parts))))
-      ∙ sym (ap (roomIn max) n.parts ∙ room-newest max n.before n.newest)
+      sym (room_some s ring max some (length n.newest) (sym (newest_length n.before n.newest (e ∙ n.parts))))
+      ∙ sym (ap (room_in max) n.parts ∙ room_newest max n.before n.newest)
 
-  room-same : (max : ℕ) → roomOf s ring max ≡ roomIn max b.unwritten
-  room-same max = room_by max b.unwritten refl
+  room_same : (max : ℕ) → room_of s ring max ≡ room_in max b.unwritten
+  room_same max = room_by max b.unwritten refl
 
-  takes-by : (n : ℕ) (us : List (List ℕ)) → b.unwritten ≡ us → 0 < s.unsent → length_at ring s.history.last + n ≤ 64 → Takes b.unwritten n
-  takes-by n [] e p k = absurd (let l = f.unsent ∙ ap length e in let z : ⊥ = omega arith in z)
-  takes-by n (u ∷ us) e p k =
-      let m = newest-of u us in
-      record { before = m.before; newest = m.newest; parts = e ∙ m.parts; few = omega (arith, newest-length m.before m.newest (e ∙ m.parts)) }
+  takes_by : (n : ℕ) (us : List (List ℕ)) → b.unwritten ≡ us → 0 < s.unsent → length_at ring s.history.last + n ≤ 64 → Takes b.unwritten n
+  takes_by n [] e p k = absurd (let l = f.unsent ∙ ap length e in let z : ⊥ = omega arith in z)
+  takes_by n (u ∷ us) e p k =
+      let m = newest_of u us in
+      record { before = m.before; newest = m.newest; parts = e ∙ m.parts; few = omega (arith, newest_length m.before m.newest (e ∙ m.parts)) }
 
   module _ (max : ℕ) (ws : List ℕ) (few : max ≤ 64) (d : Divides max ws) (fits : need_of s ring max ws ≤ s.history.size - s.unsent_words) where
     valid : valid_of s ring ≡ true
-    valid = follows-valid c q s ring b f
+    valid = follows_valid c q s ring b f
 
     abbrev joins : List ℕ
     joins = joining s ring max ws
@@ -88,43 +88,43 @@ module _ (c q : ℕ) (s : Sender) (ring : List ℕ) (b : Book) (f : Follows c q 
     taken : 0 < length joins → Takes b.unwritten (length joins)
     taken p =
         let r = ready s ring max ws valid few f.holds.number d p in
-        takes-by (length joins) b.unwritten refl r.0 r.1
+        takes_by (length joins) b.unwritten refl r.0 r.1
 
     parts : length joins + size opens ≡ need_of s ring max ws
-    parts = need-parts s ring max ws valid few f.holds.number d
+    parts = need_parts s ring max ws valid few f.holds.number d
 
-    joined-book : Book
-    joined-book = joinedIn c joins b
+    joined_book : Book
+    joined_book = joined_in c joins b
 
-    after-joining : Held c (joinedTo s.history ring joins).0 (joinedTo s.history ring joins).1 joined-book
-    unfolding joined-book
-    after-joining = joined-held c s.history ring b (follows-held c q s ring b f) joins taken (omega (arith, parts, f.words, f.unsent-words, valid-words s ring valid))
+    after_joining : Held c (joined_to s.history ring joins).0 (joined_to s.history ring joins).1 joined_book
+    unfolding joined_book
+    after_joining = joined_held c s.history ring b (follows_held c q s ring b f) joins taken (omega (arith, parts, f.words, f.unsent_words_lem, valid_words s ring valid))
 
-    joined_words : size joined-book.unwritten ≡ size b.unwritten + length joins
-    unfolding joined-book joinedIn
-    joined_words = size-joins b.unwritten joins taken
+    joined_words : size joined_book.unwritten ≡ size b.unwritten + length joins
+    unfolding joined_book joined_in
+    joined_words = size_joins b.unwritten joins taken
 
-    queued-follows : Follows c q (queuedOf s ring max ws).0.sender (queuedOf s ring max ws).1 (pushedAllIn c opens joined-book)
-    unfolding queuedOf queuedTo joined-book joinedIn freed
-    queued-follows =
-        let g = commands-parts max (rest (roomOf s ring max) ws) (divides-behind max (roomOf s ring max) ws d) few in
-        let a = pushedAll-held opens c (joinedTo s.history ring joins).0 (joinedTo s.history ring joins).1 joined-book after-joining g.1 (omega (arith, joined_words, parts, f.words, f.unsent-words, valid-words s ring valid)) in
-        let u = pushedAll-unwritten opens c joined-book in
+    queued_follows : Follows c q (queued_of s ring max ws).0.sender (queued_of s ring max ws).1 (pushed_all_in c opens joined_book)
+    unfolding queued_of queued_to joined_book joined_in freed
+    queued_follows =
+        let g = commands_parts max (rest (room_of s ring max) ws) (divides_behind max (room_of s ring max) ws d) few in
+        let a = pushed_all_held opens c (joined_to s.history ring joins).0 (joined_to s.history ring joins).1 joined_book after_joining g.1 (omega (arith, joined_words, parts, f.words, f.unsent_words_lem, valid_words s ring valid)) in
+        let u = pushed_all_unwritten opens c joined_book in
         record {
           least = f.least;
           most = f.most;
           one_place = f.one_place;
-          few-places = f.few-places;
+          few_places = f.few_places;
           words = a.words;
           places = f.places;
           holds = a.holds;
           oldest = a.oldest;
-          unsent = omega (arith, f.unsent, ap length u, length-append joined-book.unwritten opens, length-joined b.unwritten joins);
-          unsent-words = omega (arith, f.unsent-words, ap size u, size-append joined-book.unwritten opens, joined_words, parts);
+          unsent = omega (arith, f.unsent, ap length u, length-append joined_book.unwritten opens, length_joined b.unwritten joins);
+          unsent_words_lem = omega (arith, f.unsent_words_lem, ap size u, size_append joined_book.unwritten opens, joined_words, parts);
           fit = f.fit;
           items = f.items;
-          requests = f.requests ∙ sym (pushedAll-waiting opens c joined-book);
-          idle = f.idle ∙ sym (pushedAll-idle opens c joined-book);
+          requests = f.requests ∙ sym (pushed_all_waiting opens c joined_book);
+          idle = f.idle ∙ sym (pushed_all_idle opens c joined_book);
           step = f.step;
         }
 
@@ -134,37 +134,37 @@ module _ (c q : ℕ) (s : Sender) (ring : List ℕ) (b : Book) (f : Follows c q 
   Sends h a = Follows c q h.0.sender h.1 a.book × (h.0.answer ≡ a.answer)
 
   module _ (max : ℕ) (ws : List ℕ) (few : max ≤ 64) where
-    need-same : need_of s ring max ws ≡ needIn max ws b
+    need_same : need_of s ring max ws ≡ need_in max ws b
     unfolding need_of
-    need-same = rw (room-same max)
+    need_same = rw (room_same max)
 
-    placed-follows : Divides max ws
-        → Sends (placed_of s ring max ws) (cond (ltb (c - size b.unwritten) (needIn max ws b)) (record { book = b; answer = Refused Full }) (record { book = queuedIn c max ws b; answer = Done }))
-    unfolding placed_of queuedOf queuedIn joined-book
-    placed-follows d =
-        let n : ltb (c - size b.unwritten) (needIn max ws b) ≡ ltb (s.history.size - s.unsent_words) (need_of s ring max ws) = cc (f.words, f.unsent-words, need-same) in
-        rw (n, ← room-same max) (by (ltb (s.history.size - s.unsent_words) (need_of s ring max ws)) refl)
+    placed_follows : Divides max ws
+        → Sends (placed_of s ring max ws) (cond (ltb (c - size b.unwritten) (need_in max ws b)) (record { book = b; answer = Refused Full }) (record { book = queued_in c max ws b; answer = Done }))
+    unfolding placed_of queued_of queued_in joined_book
+    placed_follows d =
+        let n : ltb (c - size b.unwritten) (need_in max ws b) ≡ ltb (s.history.size - s.unsent_words) (need_of s ring max ws) = cc (f.words, f.unsent_words_lem, need_same) in
+        rw (n, ← room_same max) (by (ltb (s.history.size - s.unsent_words) (need_of s ring max ws)) refl)
       where
         by : (t : Bool) → ltb (s.history.size - s.unsent_words) (need_of s ring max ws) ≡ t
-            → Sends (cond t (unsent s ring Full) (queuedOf s ring max ws))
-            (cond t (record { book = b; answer = Refused Full }) (record { book = pushedAllIn c (further s ring max ws) (joinedIn c (joining s ring max ws) b); answer = Done }))
+            → Sends (cond t (unsent s ring Full) (queued_of s ring max ws))
+            (cond t (record { book = b; answer = Refused Full }) (record { book = pushed_all_in c (further s ring max ws) (joined_in c (joining s ring max ws) b); answer = Done }))
         by true e = (f, refl)
-        by false e = (queued-follows max ws few d (ltb-false _ _ e), refl)
+        by false e = (queued_follows max ws few d (ltb-false _ _ e), refl)
 
-  pub send-follows : (cfg : StreamConfig) (ws : List ℕ)
-      → Follows c q (sendAnswer s cfg ring ws).0.sender (sendAnswer s cfg ring ws).1 (sentIn c b cfg ws).book × ((sendAnswer s cfg ring ws).0.answer ≡ (sentIn c b cfg ws).answer)
-  unfolding sendAnswer sentOf sentIn
-  send-follows cfg ws = rw (follows-valid c q s ring b f) (by (checkOf cfg) refl (eqb (length ws) 0) (wordsCheck cfg.max_command_words ws) refl)
+  pub send_follows : (cfg : StreamConfig) (ws : List ℕ)
+      → Follows c q (send_answer s cfg ring ws).0.sender (send_answer s cfg ring ws).1 (sent_in c b cfg ws).book × ((send_answer s cfg ring ws).0.answer ≡ (sent_in c b cfg ws).answer)
+  unfolding send_answer sent_of sent_in
+  send_follows cfg ws = rw (follows_valid c q s ring b f) (by (check_of cfg) refl (eqb (length ws) 0) (words_check cfg.max_command_words ws) refl)
     where
-      placedIn : QueueIn
-      placedIn =
+      placed_in : QueueIn
+      placed_in =
           let max : ℕ = cfg.max_command_words in
-          cond (ltb (c - size b.unwritten) (needIn max ws b)) (record { book = b; answer = Refused Full }) (record { book = queuedIn c max ws b; answer = Done })
+          cond (ltb (c - size b.unwritten) (need_in max ws b)) (record { book = b; answer = Refused Full }) (record { book = queued_in c max ws b; answer = Done })
 
-      by : (k : Outcome) → checkOf cfg ≡ k → (t : Bool) (w : Outcome) → wordsCheck cfg.max_command_words ws ≡ w
+      by : (k : Outcome) → check_of cfg ≡ k → (t : Bool) (w : Outcome) → words_check cfg.max_command_words ws ≡ w
           → Sends (tested k (unsent s ring) (cond t (sent s Done, ring) (tested w (unsent s ring) (placed_of s ring cfg.max_command_words ws))))
-          (tested k (λ why. record { book = b; answer = Refused why }) (cond t (record { book = b; answer = Done }) (tested w (λ why. record { book = b; answer = Refused why }) placedIn)))
+          (tested k (λ why. record { book = b; answer = Refused why }) (cond t (record { book = b; answer = Done }) (tested w (λ why. record { book = b; answer = Refused why }) placed_in)))
       by (Refused why) e t w h = (f, refl)
       by Done e true w h = (f, refl)
       by Done e false (Refused why) h = (f, refl)
-      by Done e false Done h = placed-follows cfg.max_command_words ws (settings-few cfg e) (check-divides cfg.max_command_words ws h)
+      by Done e false Done h = placed_follows cfg.max_command_words ws (settings_few cfg e) (check_divides cfg.max_command_words ws h)

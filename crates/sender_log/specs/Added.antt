@@ -2,28 +2,28 @@
 use Rattle.std.specs.Prelude.{ℕ, ◌+◌, ◌*◌, ◌%◌, Bool, cond, ◌&&◌, List, [], ◌∷◌, length, drop, eqb}
 use Rattle.config.specs.Sequence.{turn}
 use Rattle.packet.specs.Layout.{Packet}
-use Rattle.packet.specs.Read.{Item, whole, cut, itemsFrom}
-use Rattle.packet.specs.Write.{start_of, bytesIn}
+use Rattle.packet.specs.Read.{Item, whole, cut, items_from}
+use Rattle.packet.specs.Write.{start_of, bytes_in}
 use Rattle.packet.specs.declared.writer.PayloadWriter.{PayloadWriter}
 
 -- the items that reading finds behind what the payload held before the write
-unfoldable pub itemsAdded : PayloadWriter → PayloadWriter → List ℕ → List Item
-itemsAdded p p' by' = itemsFrom (length by') (start_of p) (drop (start_of p) (bytesIn p' by'))
+unfoldable pub items_added : PayloadWriter → PayloadWriter → List ℕ → List Item
+items_added p p' by' = items_from (length by') (start_of p) (drop (start_of p) (bytes_in p' by'))
 
 -- the whole commands among items
-unfoldable pub wholesIn : List Item → List Packet
-wholesIn [] = []
-wholesIn (whole at c ∷ is) = c ∷ wholesIn is
-wholesIn (cut h ∷ is) = wholesIn is
+unfoldable pub wholes_in : List Item → List Packet
+wholes_in [] = []
+wholes_in (whole at c ∷ is) = c ∷ wholes_in is
+wholes_in (cut h ∷ is) = wholes_in is
 
-abbrev pub addedIn : PayloadWriter → PayloadWriter → List ℕ → List Packet
-addedIn p p' by' = wholesIn (itemsAdded p p' by')
+abbrev pub added_in : PayloadWriter → PayloadWriter → List ℕ → List Packet
+added_in p p' by' = wholes_in (items_added p p' by')
 
 -- a data command whose number is the count of positions so far, modulo 65,536, opens the next
-abbrev pub opensNext : ℕ → Packet → Bool
-opensNext count c = eqb c.code 0xFF && eqb (c.csd1 * 256 + c.csd2) (count % turn)
+abbrev pub opens_next : ℕ → Packet → Bool
+opens_next count c = eqb c.code 0xFF && eqb (c.csd1 * 256 + c.csd2) (count % turn)
 
 -- how many positions commands open
-unfoldable pub opensIn : ℕ → List Packet → ℕ
-opensIn count [] = 0
-opensIn count (c ∷ cs) = cond (opensNext count c) (1 + opensIn (count + 1) cs) (opensIn count cs)
+unfoldable pub opens_in : ℕ → List Packet → ℕ
+opens_in count [] = 0
+opens_in count (c ∷ cs) = cond (opens_next count c) (1 + opens_in (count + 1) cs) (opens_in count cs)

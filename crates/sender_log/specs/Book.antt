@@ -1,7 +1,7 @@
 -- 01, "History, repeats, idle": what a sender holds, as plain lists, and what queueing and requests do to it. No ring, no numbers that wrap, no counters.
 use Rattle.std.specs.Prelude.{ℕ, ◌+◌, ◌-◌, ◌%◌, Bool, cond, not, List, [], ◌∷◌, ◌++◌, length, ltb, leb, eqb}
 use Rattle.config.specs.Sequence.{turn, ahead}
-use Rattle.config.specs.Settings.{checkOf, tested}
+use Rattle.config.specs.Settings.{check_of, tested}
 use Rattle.config.specs.declared.refusal.Refusal.TheVariants.{Full}
 use Rattle.config.specs.declared.settings.StreamConfig.{StreamConfig}
 use Rattle.command.specs.declared.retransmit.RetransmitRequest.{RetransmitRequest}
@@ -11,8 +11,8 @@ use Rattle.history.specs.Queue.{asks}
 use Rattle.history.specs.declared.queue.Ignored.TheVariants.{Pending, Full as NoPlace}
 use Rattle.idle.specs.declared.idle.IdleTimer.{IdleTimer}
 use Rattle.idle.specs.declared.idle.IdleTimer.TheVariants.{Off}
-use Rattle.fronts.specs.Commands.{front, behind, commandsOf}
-use Rattle.sender.specs.Queueing.{wordsCheck}
+use Rattle.fronts.specs.Commands.{front, behind, commands_of}
+use Rattle.sender.specs.Queueing.{words_check}
 use Rattle.config.specs.declared.answer.Outcome.{Outcome}
 use Rattle.config.specs.declared.answer.Outcome.TheVariants.{Done, Refused}
 use Rattle.sender.specs.declared.sender.RequestOutcome.{RequestOutcome}
@@ -33,8 +33,8 @@ abbrev pub nothing : Book
 nothing = record { first = 0; written = []; unwritten = []; waiting = []; idle = Off }
 
 -- the oldest number
-abbrev pub oldestIn : Book → ℕ
-oldestIn b = b.first % turn
+abbrev pub oldest_in : Book → ℕ
+oldest_in b = b.first % turn
 
 -- ---- the history of c words
 
@@ -52,47 +52,47 @@ freed c need b =
       idle = b.idle;
     }
 
-abbrev pub withUnwritten : Book → List (List ℕ) → Book
-withUnwritten b us = record { first = b.first; written = b.written; unwritten = us; waiting = b.waiting; idle = b.idle }
+abbrev pub with_unwritten : Book → List (List ℕ) → Book
+with_unwritten b us = record { first = b.first; written = b.written; unwritten = us; waiting = b.waiting; idle = b.idle }
 
 -- a command comes in behind the newest: its header counts too
-unfoldable pub pushedIn : ℕ → List ℕ → Book → Book
-pushedIn c ws b = withUnwritten (freed c (1 + length ws) b) (b.unwritten ++ (ws ∷ []))
+unfoldable pub pushed_in : ℕ → List ℕ → Book → Book
+pushed_in c ws b = with_unwritten (freed c (1 + length ws) b) (b.unwritten ++ (ws ∷ []))
 
-unfoldable pub pushedAllIn : ℕ → List (List ℕ) → Book → Book
-pushedAllIn c [] b = b
-pushedAllIn c (ws ∷ wss) b = pushedAllIn c wss (pushedIn c ws b)
+unfoldable pub pushed_all_in : ℕ → List (List ℕ) → Book → Book
+pushed_all_in c [] b = b
+pushed_all_in c (ws ∷ wss) b = pushed_all_in c wss (pushed_in c ws b)
 
 -- words at the end of the newest command
-unfoldable pub joinedLast : List (List ℕ) → List ℕ → List (List ℕ)
-joinedLast [] xs = []
-joinedLast (ws ∷ []) xs = (ws ++ xs) ∷ []
-joinedLast (ws ∷ vs ∷ rest) xs = ws ∷ joinedLast (vs ∷ rest) xs
+unfoldable pub joined_last : List (List ℕ) → List ℕ → List (List ℕ)
+joined_last [] xs = []
+joined_last (ws ∷ []) xs = (ws ++ xs) ∷ []
+joined_last (ws ∷ vs ∷ rest) xs = ws ∷ joined_last (vs ∷ rest) xs
 
-unfoldable pub joinedIn : ℕ → List ℕ → Book → Book
-joinedIn c xs b = withUnwritten (freed c (length xs) b) (joinedLast b.unwritten xs)
+unfoldable pub joined_in : ℕ → List ℕ → Book → Book
+joined_in c xs b = with_unwritten (freed c (length xs) b) (joined_last b.unwritten xs)
 
 -- ---- queue words
 
 -- the words that the newest unwritten command still takes
-unfoldable pub roomIn : ℕ → List (List ℕ) → ℕ
-roomIn max [] = 0
-roomIn max (ws ∷ []) = max - length ws
-roomIn max (ws ∷ vs ∷ rest) = roomIn max (vs ∷ rest)
+unfoldable pub room_in : ℕ → List (List ℕ) → ℕ
+room_in max [] = 0
+room_in max (ws ∷ []) = max - length ws
+room_in max (ws ∷ vs ∷ rest) = room_in max (vs ∷ rest)
 
-abbrev pub joiningIn : ℕ → List ℕ → Book → List ℕ
-joiningIn max ws b = front (roomIn max b.unwritten) ws
+abbrev pub joining_in : ℕ → List ℕ → Book → List ℕ
+joining_in max ws b = front (room_in max b.unwritten) ws
 
-abbrev pub furtherIn : ℕ → List ℕ → Book → List (List ℕ)
-furtherIn max ws b = commandsOf max (behind (roomIn max b.unwritten) ws)
+abbrev pub further_in : ℕ → List ℕ → Book → List (List ℕ)
+further_in max ws b = commands_of max (behind (room_in max b.unwritten) ws)
 
 -- words and new headers
-abbrev pub needIn : ℕ → List ℕ → Book → ℕ
-needIn max ws b = length ws + length (furtherIn max ws b)
+abbrev pub need_in : ℕ → List ℕ → Book → ℕ
+need_in max ws b = length ws + length (further_in max ws b)
 
 -- Words join the newest unwritten command up to the set size, whole messages only, then open further commands.
-unfoldable pub queuedIn : ℕ → ℕ → List ℕ → Book → Book
-queuedIn c max ws b = pushedAllIn c (furtherIn max ws b) (joinedIn c (joiningIn max ws b) b)
+unfoldable pub queued_in : ℕ → ℕ → List ℕ → Book → Book
+queued_in c max ws b = pushed_all_in c (further_in max ws b) (joined_in c (joining_in max ws b) b)
 
 -- the answer, and what is held after it
 pub record QueueIn : Type 0 where
@@ -100,42 +100,42 @@ pub record QueueIn : Type 0 where
   pub answer : Outcome
 
 -- 6 words and new headers exceed the history less unwritten words and their headers
-unfoldable pub sentIn : ℕ → Book → StreamConfig → List ℕ → QueueIn
-sentIn c b cfg ws =
+unfoldable pub sent_in : ℕ → Book → StreamConfig → List ℕ → QueueIn
+sent_in c b cfg ws =
     let max : ℕ = cfg.max_command_words in
-    tested (checkOf cfg) (λ why. record { book = b; answer = Refused why })
+    tested (check_of cfg) (λ why. record { book = b; answer = Refused why })
     (cond (eqb (length ws) 0) (record { book = b; answer = Done })
-    (tested (wordsCheck max ws) (λ why. record { book = b; answer = Refused why })
-    (cond (ltb (c - size b.unwritten) (needIn max ws b)) (record { book = b; answer = Refused Full })
-    (record { book = queuedIn c max ws b; answer = Done }))))
+    (tested (words_check max ws) (λ why. record { book = b; answer = Refused why })
+    (cond (ltb (c - size b.unwritten) (need_in max ws b)) (record { book = b; answer = Refused Full })
+    (record { book = queued_in c max ws b; answer = Done }))))
 
 -- ---- a received Retransmit Request
 
 -- how far a number is ahead of the oldest held
-abbrev pub indexIn : Book → ℕ → ℕ
-indexIn b seq = ahead (oldestIn b) seq
+abbrev pub index_in : Book → ℕ → ℕ
+index_in b seq = ahead (oldest_in b) seq
 
 -- the number isn't that of a written command
-abbrev pub absentIn : Book → ℕ → Bool
-absentIn b seq = leb (length b.written) (indexIn b seq)
+abbrev pub absent_in : Book → ℕ → Bool
+absent_in b seq = leb (length b.written) (index_in b seq)
 
 -- NOT_IN_BUFFER with the oldest number
-abbrev pub errorIn : Book → RetransmitError
-errorIn b = record { reason = 1; seq = oldestIn b }
+abbrev pub error_in : Book → RetransmitError
+error_in b = record { reason = 1; seq = oldest_in b }
 
-abbrev pub withWaiting : Book → List RetransmitRequest → Book
-withWaiting b rs = record { first = b.first; written = b.written; unwritten = b.unwritten; waiting = rs; idle = b.idle }
+abbrev pub with_waiting : Book → List RetransmitRequest → Book
+with_waiting b rs = record { first = b.first; written = b.written; unwritten = b.unwritten; waiting = rs; idle = b.idle }
 
 pub record RequestIn : Type 0 where
   pub book : Book
   pub outcome : RequestOutcome
 
 -- the ring has q places
-unfoldable pub requestedIn : ℕ → Book → StreamConfig → RetransmitRequest → RequestIn
-requestedIn q b cfg r =
-    tested (checkOf cfg) (λ why. record { book = b; outcome = RequestRefused why })
+unfoldable pub requested_in : ℕ → Book → StreamConfig → RetransmitRequest → RequestIn
+requested_in q b cfg r =
+    tested (check_of cfg) (λ why. record { book = b; outcome = RequestRefused why })
     (cond (not cfg.retransmit) (record { book = b; outcome = NotSupported })
-    (cond (absentIn b r.seq) (record { book = b; outcome = Error (errorIn b) })
+    (cond (absent_in b r.seq) (record { book = b; outcome = Error (error_in b) })
     (cond (asks b.waiting r.seq) (record { book = b; outcome = Ignored Pending })
     (cond (leb q (length b.waiting)) (record { book = b; outcome = Ignored NoPlace })
-    (record { book = withWaiting b (b.waiting ++ (r ∷ [])); outcome = Queued })))))
+    (record { book = with_waiting b (b.waiting ++ (r ∷ [])); outcome = Queued })))))

@@ -4,7 +4,7 @@ use Rattle.config.specs.Sequence.{turn}
 use Rattle.packet.specs.Layout.{Packet}
 use Rattle.command.specs.declared.retransmit.RetransmitRequest.{RetransmitRequest}
 use Rattle.history.specs.Entries.{size}
-use Rattle.history.specs.Written.{dataPacket}
+use Rattle.history.specs.Written.{data_packet}
 use Rattle.sender_log.specs.Schedule.{Schedule, none}
 
 pub record Past : Type 0 where
@@ -24,31 +24,31 @@ opened x = x.written ++ x.unwritten
 -- ---- held
 
 -- the longest end of a list that a test holds of
-unfoldable pub longestEnd : {A : Type 0} → (List A → Bool) → List A → List A
-longestEnd fits [] = []
-longestEnd fits (x ∷ xs) = cond (fits (x ∷ xs)) (x ∷ xs) (longestEnd fits xs)
+unfoldable pub longest_end : {A : Type 0} → (List A → Bool) → List A → List A
+longest_end fits [] = []
+longest_end fits (x ∷ xs) = cond (fits (x ∷ xs)) (x ∷ xs) (longest_end fits xs)
 
 -- the newest commands whose words and headers fit in c words
 abbrev pub newest : ℕ → List (List ℕ) → List (List ℕ)
-newest c es = longestEnd (λ fs. leb (size fs) c) es
+newest c es = longest_end (λ fs. leb (size fs) c) es
 
 abbrev pub held : ℕ → Past → List (List ℕ)
 held c x = newest c (opened x)
 
 -- the position of the oldest one held: as many as have left
-abbrev pub oldestAt : ℕ → Past → ℕ
-oldestAt c x = length (opened x) - length (held c x)
+abbrev pub oldest_at : ℕ → Past → ℕ
+oldest_at c x = length (opened x) - length (held c x)
 
 -- ---- as data commands: a command's number is its position modulo 65,536
 
-unfoldable pub dataAt : ℕ → List (List ℕ) → List Packet
-dataAt at [] = []
-dataAt at (ws ∷ wss) = dataPacket (at % turn) ws ∷ dataAt (at + 1) wss
+unfoldable pub data_at : ℕ → List (List ℕ) → List Packet
+data_at at [] = []
+data_at at (ws ∷ wss) = data_packet (at % turn) ws ∷ data_at (at + 1) wss
 
 -- the written ones from a position up to, not including, another
 abbrev pub copies : Past → ℕ → ℕ → List Packet
-copies x from to = dataAt from (take (to - from) (drop from x.written))
+copies x from to = data_at from (take (to - from) (drop from x.written))
 
 -- the new ones
-abbrev pub newOf : Past → List Packet
-newOf x = dataAt (length x.written) x.unwritten
+abbrev pub new_of : Past → List Packet
+new_of x = data_at (length x.written) x.unwritten

@@ -6,9 +6,9 @@ use Rattle.config.specs.declared.settings.StreamConfig.{StreamConfig}
 use Rattle.packet.specs.declared.writer.PayloadWriter.{PayloadWriter}
 use Rattle.command.specs.Messages.{words_in}
 use Rattle.command.specs.declared.retransmit.RetransmitRequest.{RetransmitRequest}
-use Rattle.history.specs.Entries.{size, entriesOf}
+use Rattle.history.specs.Entries.{size, entries_of}
 use Rattle.history.specs.Queue.{waiting}
-use Rattle.fronts.specs.Commands.{front, behind, commandsOf}
+use Rattle.fronts.specs.Commands.{front, behind, commands_of}
 use Rattle.config.specs.declared.answer.Outcome.{Outcome}
 use Rattle.config.specs.declared.answer.Outcome.TheVariants.{Done, Refused}
 use Rattle.sender.specs.declared.sender.RequestOutcome.{RequestOutcome}
@@ -16,40 +16,40 @@ use Rattle.sender.specs.declared.sender.RequestOutcome.TheVariants.{Queued, Igno
 use Rattle.writing.specs.declared.writing.Writing.{Writing}
 use Rattle.writing.specs.declared.writing.Writing.TheVariants.{Written, Refused as WriteRefused}
 use Rattle.sender.specs.declared.sender.Sender.{Sender}
-use Rattle.sender_log.specs.Book.{joinedLast, roomIn}
+use Rattle.sender_log.specs.Book.{joined_last, room_in}
 use Rattle.sender_log.specs.Writes.{is_empty}
-use Rattle.sender_log.specs.Calls.{Call, Entry, queue-entry, request-entry, write-entry, AllTyped, run}
+use Rattle.sender_log.specs.Calls.{Call, Entry, queue_entry, request_entry, write_entry, AllTyped, run}
 use Rattle.sender_log.specs.Promise.{Started}
-use Rattle.sender_log.specs.Added.{addedIn, opensIn}
-use Rattle.sender_log.specs.Schedule.{since, timerOf, isDue, oneMoreAt}
-use Rattle.sender_log.specs.Opened.{Past, fresh, held, oldestAt}
-use Rattle.sender_log.specs.Requests.{in_turn, leftAfter}
+use Rattle.sender_log.specs.Added.{added_in, opens_in}
+use Rattle.sender_log.specs.Schedule.{since, timer_of, is_due, one_more_at}
+use Rattle.sender_log.specs.Opened.{Past, fresh, held, oldest_at}
+use Rattle.sender_log.specs.Requests.{in_turn, left_after}
 
 -- ---- queue words
 
 -- Words join the newest unwritten command up to the set size, whole messages only, then open further commands.
-abbrev pub queuedOn : Past → ℕ → List ℕ → Outcome → Past
-queuedOn x max ws (Refused why) = x
-queuedOn x max ws Done =
-    let room : ℕ = roomIn max x.unwritten in
+abbrev pub queued_on : Past → ℕ → List ℕ → Outcome → Past
+queued_on x max ws (Refused why) = x
+queued_on x max ws Done =
+    let room : ℕ = room_in max x.unwritten in
     record {
       written = x.written;
-      unwritten = joinedLast x.unwritten (front room ws) ++ commandsOf max (behind room ws);
+      unwritten = joined_last x.unwritten (front room ws) ++ commands_of max (behind room ws);
       waiting = x.waiting;
       schedule = x.schedule;
     }
 
 -- ---- a received Retransmit Request
 
-abbrev pub withRequests : Past → List RetransmitRequest → Past
-withRequests x rs = record { written = x.written; unwritten = x.unwritten; waiting = rs; schedule = x.schedule }
+abbrev pub with_requests : Past → List RetransmitRequest → Past
+with_requests x rs = record { written = x.written; unwritten = x.unwritten; waiting = rs; schedule = x.schedule }
 
-abbrev pub requestedOn : Past → RetransmitRequest → RequestOutcome → Past
-requestedOn x r Queued = withRequests x (x.waiting ++ (r ∷ []))
-requestedOn x r (Ignored why) = x
-requestedOn x r (Error e) = x
-requestedOn x r NotSupported = x
-requestedOn x r (RequestRefused why) = x
+abbrev pub requested_on : Past → RetransmitRequest → RequestOutcome → Past
+requested_on x r Queued = with_requests x (x.waiting ++ (r ∷ []))
+requested_on x r (Ignored why) = x
+requested_on x r (Error e) = x
+requested_on x r NotSupported = x
+requested_on x r (RequestRefused why) = x
 
 -- ---- a write
 
@@ -64,20 +64,20 @@ changes (Written w) = true
 changes (WriteRefused why) = eqb (number_of why) 3
 
 -- a due idle command opens one, if none is unwritten
-abbrev pub idledOn : Past → StreamConfig → ℕ → Past
-idledOn x cfg time =
-    cond (is_empty x.unwritten && isDue time (timerOf x.schedule))
-    (record { written = x.written; unwritten = [] ∷ []; waiting = x.waiting; schedule = oneMoreAt cfg time x.schedule }) x
+abbrev pub idled_on : Past → StreamConfig → ℕ → Past
+idled_on x cfg time =
+    cond (is_empty x.unwritten && is_due time (timer_of x.schedule))
+    (record { written = x.written; unwritten = [] ∷ []; waiting = x.waiting; schedule = one_more_at cfg time x.schedule }) x
 
 -- and so a write that leaves no request waiting
-abbrev pub servedOn : ℕ → Past → StreamConfig → ℕ → PayloadWriter → List ℕ → ℕ → Past
-servedOn c x cfg time p by n =
-    let left : Past = withRequests x (leftAfter c x (in_turn c x p by x.waiting) n) in
-    cond (is_empty left.waiting) (idledOn left cfg time) left
+abbrev pub served_on : ℕ → Past → StreamConfig → ℕ → PayloadWriter → List ℕ → ℕ → Past
+served_on c x cfg time p by n =
+    let left : Past = with_requests x (left_after c x (in_turn c x p by x.waiting) n) in
+    cond (is_empty left.waiting) (idled_on left cfg time) left
 
 -- n new ones are written; one with words starts the schedule
-abbrev pub wroteOn : Past → StreamConfig → ℕ → ℕ → Past
-wroteOn x cfg time n =
+abbrev pub wrote_on : Past → StreamConfig → ℕ → ℕ → Past
+wrote_on x cfg time n =
     record {
       written = x.written ++ take n x.unwritten;
       unwritten = drop n x.unwritten;
@@ -88,30 +88,30 @@ wroteOn x cfg time n =
 -- ---- the log, newest first
 
 -- As many new ones are written as positions are opened, read off the bytes that the write added.
-unfoldable pub pastAfter : ℕ → Past → Entry → Past
-pastAfter c x (queue-entry cfg ws a) = queuedOn x cfg.max_command_words ws a
-pastAfter c x (request-entry cfg r a) = requestedOn x r a
-pastAfter c x (write-entry cfg time p by a p' by') =
-    cond (changes a) (wroteOn (servedOn c x cfg time p by (count_of a)) cfg time (opensIn (length x.written) (addedIn p p' by'))) x
+unfoldable pub past_after : ℕ → Past → Entry → Past
+past_after c x (queue_entry cfg ws a) = queued_on x cfg.max_command_words ws a
+past_after c x (request_entry cfg r a) = requested_on x r a
+past_after c x (write_entry cfg time p by a p' by') =
+    cond (changes a) (wrote_on (served_on c x cfg time p by (count_of a)) cfg time (opens_in (length x.written) (added_in p p' by'))) x
 
-unfoldable pub pastIn : ℕ → List Entry → Past
-pastIn c [] = fresh
-pastIn c (e ∷ t) = pastAfter c (pastIn c t) e
+unfoldable pub past_in : ℕ → List Entry → Past
+past_in c [] = fresh
+past_in c (e ∷ t) = past_after c (past_in c t) e
 
 abbrev pub past_of : ℕ → ℕ → List ℕ → List Call → Past
-past_of c q ring₀ calls = pastIn c (run c q ring₀ calls).log
+past_of c q ring₀ calls = past_in c (run c q ring₀ calls).log
 
 -- ---- what a sender holds
 
 pub record HeldIn (c : ℕ) (s : Sender) (ring : List ℕ) (x : Past) : Type 0 where
   -- Oldest written commands leave when words are needed, no sooner; unwritten ones never do.
-  pub entries : entriesOf s.history ring ≡ held c x
-  pub oldest : s.history.oldest ≡ oldestAt c x % turn
-  pub all-unwritten : length x.unwritten ≤ length (held c x)
+  pub entries : entries_of s.history ring ≡ held c x
+  pub oldest : s.history.oldest ≡ oldest_at c x % turn
+  pub all_unwritten : length x.unwritten ≤ length (held c x)
   pub unsent : s.unsent ≡ length x.unwritten
-  pub unsent-words : s.unsent_words ≡ size x.unwritten
+  pub unsent_words_lem : s.unsent_words ≡ size x.unwritten
   pub requests : waiting s.queue ≡ x.waiting
-  pub idle : s.idle ≡ timerOf x.schedule
+  pub idle : s.idle ≡ timer_of x.schedule
 
 abbrev pub Held : Type 0
 Held =

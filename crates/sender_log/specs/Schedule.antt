@@ -1,6 +1,6 @@
 -- 01, "History, repeats, idle": the idle schedule, from the last write of a command with words and the idle commands queued since, with the settings of each of those calls.
 use Rattle.std.specs.Prelude.{ℕ, ◌+◌, ◌*◌, min, Bool, false, cond, List, [], ◌∷◌, length, ltb, leb}
-use Rattle.config.specs.Time.{lastTime, later}
+use Rattle.config.specs.Time.{last_time, later}
 use Rattle.config.specs.declared.settings.StreamConfig.{StreamConfig}
 use Rattle.idle.specs.declared.idle.IdleTimer.{IdleTimer}
 use Rattle.idle.specs.declared.idle.IdleTimer.TheVariants.{Off, Waiting}
@@ -17,10 +17,10 @@ pub data Schedule : Type 0 where
   since : ℕ → ℕ → List Queued → Schedule
 
 -- The step after the i-th: T1, times G for each i over R (saturating). In the list of the first i the i-th stands first.
-unfoldable pub stepAfter : ℕ → List Queued → ℕ
-stepAfter T1 [] = T1
-stepAfter T1 (k ∷ ks) =
-    cond (ltb k.settings.fec_repeats (length (k ∷ ks))) (min (stepAfter T1 ks * k.settings.idle_growth) lastTime) (stepAfter T1 ks)
+unfoldable pub step_after : ℕ → List Queued → ℕ
+step_after T1 [] = T1
+step_after T1 (k ∷ ks) =
+    cond (ltb k.settings.fec_repeats (length (k ∷ ks))) (min (step_after T1 ks * k.settings.idle_growth) last_time) (step_after T1 ks)
 
 -- when the last was queued, or else the data written
 abbrev pub last_at : ℕ → List Queued → ℕ
@@ -28,20 +28,20 @@ last_at t0 [] = t0
 last_at t0 (k ∷ ks) = k.time
 
 -- 1 + R + K of them
-abbrev pub allQueued : List Queued → Bool
-allQueued [] = false
-allQueued (k ∷ ks) = leb (1 + k.settings.fec_repeats + k.settings.idle_further) (length (k ∷ ks))
+abbrev pub all_queued : List Queued → Bool
+all_queued [] = false
+all_queued (k ∷ ks) = leb (1 + k.settings.fec_repeats + k.settings.idle_further) (length (k ∷ ks))
 
 -- each due one step after the last was queued
-unfoldable pub timerOf : Schedule → IdleTimer
-timerOf none = Off
-timerOf (since t0 T1 ks) =
-    cond (allQueued ks) Off (Waiting record { due = later (last_at t0 ks) (stepAfter T1 ks); step = length ks; interval = stepAfter T1 ks })
+unfoldable pub timer_of : Schedule → IdleTimer
+timer_of none = Off
+timer_of (since t0 T1 ks) =
+    cond (all_queued ks) Off (Waiting record { due = later (last_at t0 ks) (step_after T1 ks); step = length ks; interval = step_after T1 ks })
 
-abbrev pub isDue : ℕ → IdleTimer → Bool
-isDue time Off = false
-isDue time (Waiting i) = leb i.due time
+abbrev pub is_due : ℕ → IdleTimer → Bool
+is_due time Off = false
+is_due time (Waiting i) = leb i.due time
 
-abbrev pub oneMoreAt : StreamConfig → ℕ → Schedule → Schedule
-oneMoreAt cfg time none = none
-oneMoreAt cfg time (since t0 T1 ks) = since t0 T1 (record { time = time; settings = cfg } ∷ ks)
+abbrev pub one_more_at : StreamConfig → ℕ → Schedule → Schedule
+one_more_at cfg time none = none
+one_more_at cfg time (since t0 T1 ks) = since t0 T1 (record { time = time; settings = cfg } ∷ ks)

@@ -7,97 +7,97 @@ use native.Mathlib.Nat.{zero-mul, suc-mul}
 use native.Mathlib.Omega.{arith}
 use lib.ListN.{length, set, get_or, length-append}
 use Rattle.sheet_blocks.specs.Bytes.{spliced}
-use Rattle.sheet_blocks.specs.Records.{isBlock, rows}
-use Rattle.sheet_blocks.specs.Columns.{everyOf, byColumn, columnsOf, recordsOf, storedOf, restoredOf}
-use Rattle.sheet_blocks.proofs.Splice.{spliced-sets, spliced-append, spliced-nil}
+use Rattle.sheet_blocks.specs.Records.{is_block, rows}
+use Rattle.sheet_blocks.specs.Columns.{every_of, by_column, columns_of, records_of, stored_of, restored_of}
+use Rattle.sheet_blocks.proofs.Splice.{spliced_sets, spliced_append, spliced_nil}
 
 -- ---- products
 
-pub pred-mul : (k d : ℕ) → 0 < k → k * d ≡ (k - 1) * d + d
-pred-mul zero d h = absurd (let z : ⊥ = omega arith in z)
-pred-mul (suc k) d h = let e : suc k - 1 ≡ k = omega arith in rw e (suc-mul k d)
+pub pred_mul : (k d : ℕ) → 0 < k → k * d ≡ (k - 1) * d + d
+pred_mul zero d h = absurd (let z : ⊥ = omega arith in z)
+pred_mul (suc k) d h = let e : suc k - 1 ≡ k = omega arith in rw e (suc-mul k d)
 
-pub step-mul : (n c d : ℕ) → c < n → (n - c) * d ≡ (n - (c + 1)) * d + d
-step-mul n c d h = let e : n - (c + 1) ≡ n - c - 1 = omega arith in rw e (pred-mul (n - c) d (omega arith))
+pub step_mul : (n c d : ℕ) → c < n → (n - c) * d ≡ (n - (c + 1)) * d + d
+step_mul n c d h = let e : n - (c + 1) ≡ n - c - 1 = omega arith in rw e (pred_mul (n - c) d (omega arith))
 
 -- the whole is still to be stored
-pub mul-start : (c r : ℕ) → 0 + (c - 0) * r ≡ c * r
-mul-start c r = let e : c - 0 ≡ c = omega arith in rw e (omega arith)
+pub mul_start : (c r : ℕ) → 0 + (c - 0) * r ≡ c * r
+mul_start c r = let e : c - 0 ≡ c = omega arith in rw e (omega arith)
 
 -- ---- lengths
 
-pub length-every : (b : List ℕ) (d k i : ℕ) → length (everyOf b d k i) ≡ k
-unfolding everyOf
-length-every b d zero i = refl
-length-every b d (suc k) i = ap suc (length-every b d k (i + d))
+pub length_every : (b : List ℕ) (d k i : ℕ) → length (every_of b d k i) ≡ k
+unfolding every_of
+length_every b d zero i = refl
+length_every b d (suc k) i = ap suc (length_every b d k (i + d))
 
-pub length-columns : (b : List ℕ) (d r c i : ℕ) → length (byColumn b d r c i) ≡ c * r
-unfolding byColumn
-length-columns b d r zero i = omega (arith, zero-mul r)
-length-columns b d r (suc c) i =
-    rw length-append (omega (arith, length-every b d r i, length-columns b d r c (i + 1), suc-mul c r))
+pub length_columns : (b : List ℕ) (d r c i : ℕ) → length (by_column b d r c i) ≡ c * r
+unfolding by_column
+length_columns b d r zero i = omega (arith, zero-mul r)
+length_columns b d r (suc c) i =
+    rw length-append (omega (arith, length_every b d r i, length_columns b d r c (i + 1), suc-mul c r))
 
 -- ---- stores
 
 -- one store is a run of one byte
-one-spliced : (b : List ℕ) (i x : ℕ) → i < length b → set b i x ≡ spliced b i (x ∷ [])
-one-spliced b i x h = sym (spliced-sets b i (x ∷ []) (omega arith))
+one_spliced : (b : List ℕ) (i x : ℕ) → i < length b → set b i x ≡ spliced b i (x ∷ [])
+one_spliced b i x h = sym (spliced_sets b i (x ∷ []) (omega arith))
 
 -- a turn of the loop that stores every d-th byte
-pub every-turn : (b s z : List ℕ) (o i d k : ℕ) → 0 < k → o + k ≤ length b → spliced b o (everyOf s d k i) ≡ z
-    → spliced (set b o (get_or s i 0)) (o + 1) (everyOf s d (k - 1) (i + d)) ≡ z
-unfolding everyOf
-every-turn b s z o i d zero h f inv = absurd (let z : ⊥ = omega arith in z)
-every-turn b s z o i d (suc k) h f inv =
+pub every_turn : (b s z : List ℕ) (o i d k : ℕ) → 0 < k → o + k ≤ length b → spliced b o (every_of s d k i) ≡ z
+    → spliced (set b o (get_or s i 0)) (o + 1) (every_of s d (k - 1) (i + d)) ≡ z
+unfolding every_of
+every_turn b s z o i d zero h f inv = absurd (let z : ⊥ = omega arith in z)
+every_turn b s z o i d (suc k) h f inv =
     let e : suc k - 1 ≡ k = omega arith in
-    rw e (ap (λ (l : List ℕ). spliced l (o + 1) (everyOf s d k (i + d))) (one-spliced b o (get_or s i 0) (omega arith))
-    ∙ spliced-append b o (o + 1) (get_or s i 0 ∷ []) (everyOf s d k (i + d)) (omega arith) (omega (arith, length-every s d k (i + d)))
+    rw e (ap (λ (l : List ℕ). spliced l (o + 1) (every_of s d k (i + d))) (one_spliced b o (get_or s i 0) (omega arith))
+    ∙ spliced_append b o (o + 1) (get_or s i 0 ∷ []) (every_of s d k (i + d)) (omega arith) (omega (arith, length_every s d k (i + d)))
     ∙ inv)
 
-pub every-done : (b s z : List ℕ) (o i d k : ℕ) → k ≤ 0 → o ≤ length b → spliced b o (everyOf s d k i) ≡ z → b ≡ z
-unfolding everyOf
-every-done b s z o i d zero h f inv = sym (spliced-nil b o f) ∙ inv
-every-done b s z o i d (suc k) h f inv = absurd (let z : ⊥ = omega arith in z)
+pub every_done : (b s z : List ℕ) (o i d k : ℕ) → k ≤ 0 → o ≤ length b → spliced b o (every_of s d k i) ≡ z → b ≡ z
+unfolding every_of
+every_done b s z o i d zero h f inv = sym (spliced_nil b o f) ∙ inv
+every_done b s z o i d (suc k) h f inv = absurd (let z : ⊥ = omega arith in z)
 
-pub columns-start : (b s : List ℕ) (d r c : ℕ) → spliced b 0 (byColumn s d r (c - 0) 0) ≡ spliced b 0 (byColumn s d r c 0)
-columns-start b s d r c = let e : c - 0 ≡ c = omega arith in rw e
+pub columns_start : (b s : List ℕ) (d r c : ℕ) → spliced b 0 (by_column s d r (c - 0) 0) ≡ spliced b 0 (by_column s d r c 0)
+columns_start b s d r c = let e : c - 0 ≡ c = omega arith in rw e
 
 -- a turn of the loop that stores the columns from column i on
-pub columns-turn : (b b' s z : List ℕ) (o d r c i : ℕ) → i < c → o + (c - i) * r ≤ length b
-    → b' ≡ spliced b o (everyOf s d r i)
-    → spliced b o (byColumn s d r (c - i) i) ≡ z
-    → spliced b' (o + r) (byColumn s d r (c - (i + 1)) (i + 1)) ≡ z
-unfolding byColumn
-columns-turn b b' s z o d r c i h f e inv =
+pub columns_turn : (b b' s z : List ℕ) (o d r c i : ℕ) → i < c → o + (c - i) * r ≤ length b
+    → b' ≡ spliced b o (every_of s d r i)
+    → spliced b o (by_column s d r (c - i) i) ≡ z
+    → spliced b' (o + r) (by_column s d r (c - (i + 1)) (i + 1)) ≡ z
+unfolding by_column
+columns_turn b b' s z o d r c i h f e inv =
     let k : ℕ = c - (i + 1) in
     let m : c - i ≡ suc k = omega arith in
     let p : (c - i) * r ≡ k * r + r = rw m (suc-mul k r) in
-    let q = length-every s d r i in
-    let l = length-columns s d r k (i + 1) in
-    rw e (spliced-append b o (o + r) (everyOf s d r i) (byColumn s d r k (i + 1)) (omega arith) (omega arith)
+    let q = length_every s d r i in
+    let l = length_columns s d r k (i + 1) in
+    rw e (spliced_append b o (o + r) (every_of s d r i) (by_column s d r k (i + 1)) (omega arith) (omega arith)
     ∙ (rw m at inv))
 
-pub columns-done : (b s z : List ℕ) (o d r c i : ℕ) → c ≤ i → o ≤ length b → spliced b o (byColumn s d r (c - i) i) ≡ z → b ≡ z
-unfolding byColumn
-columns-done b s z o d r c i h f inv =
+pub columns_done : (b s z : List ℕ) (o d r c i : ℕ) → c ≤ i → o ≤ length b → spliced b o (by_column s d r (c - i) i) ≡ z → b ≡ z
+unfolding by_column
+columns_done b s z o d r c i h f inv =
     let m : c - i ≡ 0 = omega arith in
-    sym (spliced-nil b o f) ∙ (rw m at inv)
+    sym (spliced_nil b o f) ∙ (rw m at inv)
 
 -- ---- the answers
 
 module _ (b o : List ℕ) where
-  pub stored-not : (a : ℕ) → a ≡ 16 → isBlock (length b) (length o) ≡ false → (a, o) ≡ storedOf b o
-  unfolding storedOf
-  stored-not a e h = rw (h, e)
+  pub stored_not : (a : ℕ) → a ≡ 16 → is_block (length b) (length o) ≡ false → (a, o) ≡ stored_of b o
+  unfolding stored_of
+  stored_not a e h = rw (h, e)
 
-  pub stored-done : (o' : List ℕ) → isBlock (length b) (length o) ≡ true → o' ≡ spliced o 0 (byColumn b 16 (rows b) 16 0) → (0, o') ≡ storedOf b o
-  unfolding storedOf columnsOf
-  stored-done o' h e = rw (h, e)
+  pub stored_done : (o' : List ℕ) → is_block (length b) (length o) ≡ true → o' ≡ spliced o 0 (by_column b 16 (rows b) 16 0) → (0, o') ≡ stored_of b o
+  unfolding stored_of columns_of
+  stored_done o' h e = rw (h, e)
 
-  pub restored-not : (a : ℕ) → a ≡ 16 → isBlock (length b) (length o) ≡ false → (a, o) ≡ restoredOf b o
-  unfolding restoredOf
-  restored-not a e h = rw (h, e)
+  pub restored_not : (a : ℕ) → a ≡ 16 → is_block (length b) (length o) ≡ false → (a, o) ≡ restored_of b o
+  unfolding restored_of
+  restored_not a e h = rw (h, e)
 
-  pub restored-done : (o' : List ℕ) → isBlock (length b) (length o) ≡ true → o' ≡ spliced o 0 (byColumn b (rows b) 16 (rows b) 0) → (0, o') ≡ restoredOf b o
-  unfolding restoredOf recordsOf
-  restored-done o' h e = rw (h, e)
+  pub restored_done : (o' : List ℕ) → is_block (length b) (length o) ≡ true → o' ≡ spliced o 0 (by_column b (rows b) 16 (rows b) 0) → (0, o') ≡ restored_of b o
+  unfolding restored_of records_of
+  restored_done o' h e = rw (h, e)

@@ -1,7 +1,7 @@
 // Blocks stored by column: all first bytes, then all second.
 ghost use Rattle.std.specs.Prelude.{◌≡◌, ◌*◌, ◌+◌, ◌≤◌, ◌<◌, length};
 ghost use Rattle.sheet_blocks.specs.Bytes.{spliced};
-ghost use Rattle.sheet_blocks.specs.Columns.{everyOf, byColumn, storedOf, restoredOf};
+ghost use Rattle.sheet_blocks.specs.Columns.{every_of, by_column, stored_of, restored_of};
 
 use super::records::{RECORD, is_block};
 use config::refusal::Refusal;
@@ -10,7 +10,7 @@ use config::refusal::Refusal;
 // index `at` of `out` on.
 fn put_every(out: &mut [u8], at: usize, from: &[u8], first: usize, step: usize, k: usize)
     requires { (at + k ≤ length out.old) × (first < step) × (k * step ≤ length from.now) × (step ≤ 4096) × (length from.now ≤ 65536) }
-    ensures { out.new ≡ spliced out.old at (everyOf from.now step k first) }
+    ensures { out.new ≡ spliced out.old at (every_of from.now step k first) }
 {
     let mut o = at;
     let mut i = first;
@@ -26,7 +26,7 @@ fn put_every(out: &mut [u8], at: usize, from: &[u8], first: usize, step: usize, 
 // The bytes of `from` as `rows` rows of `cols`, column after column, from the start of `out`.
 fn put_columns(out: &mut [u8], from: &[u8], rows: usize, cols: usize)
     requires { (cols * rows ≤ length out.old) × (rows * cols ≤ length from.now) × (cols ≤ 4096) × (length from.now ≤ 65536) }
-    ensures { out.new ≡ spliced out.old 0 (byColumn from.now cols rows cols 0) }
+    ensures { out.new ≡ spliced out.old 0 (by_column from.now cols rows cols 0) }
 {
     let mut o = 0;
     let mut c = 0;
@@ -40,7 +40,7 @@ fn put_columns(out: &mut [u8], from: &[u8], rows: usize, cols: usize)
 // Stores a block by column. 16 when its length is not a multiple of 16, or exceeds 65,536 bytes or the
 // output.
 pub fn columns(block: &[u8], out: &mut [u8]) -> u8
-    ensures { (result, out.new) ≡ storedOf block.now out.old }
+    ensures { (result, out.new) ≡ stored_of block.now out.old }
 {
     if is_block(block.len(), out.len()) {
         let rows = block.len() / RECORD;
@@ -52,7 +52,7 @@ pub fn columns(block: &[u8], out: &mut [u8]) -> u8
 
 // The inverse, refused alike.
 pub fn restore(stored: &[u8], out: &mut [u8]) -> u8
-    ensures { (result, out.new) ≡ restoredOf stored.now out.old }
+    ensures { (result, out.new) ≡ restored_of stored.now out.old }
 {
     if is_block(stored.len(), out.len()) {
         let rows = stored.len() / RECORD;

@@ -2,7 +2,7 @@
 //
 //   0 .. 7 time | 8, 9 number | 10 class | 11 zero | 12, 13 loss count | 14, 15 loss first
 ghost use Rattle.std.specs.Prelude.{◌≡◌, ℕ, ◌*◌, ◌+◌, ◌≤◌, ◌<◌, length};
-ghost use Rattle.sheet_blocks.specs.Records.{isBlock, entry_at, allRecords};
+ghost use Rattle.sheet_blocks.specs.Records.{is_block, entry_at, all_records};
 
 use super::bytes::wide;
 
@@ -12,7 +12,7 @@ pub const MAX_BLOCK: usize = 0x1_0000;
 
 // Whether `len` bytes are whole records, not too many, and fit in `room`.
 pub fn is_block(len: usize, room: usize) -> bool
-    ensures { result ≡ isBlock len room }
+    ensures { result ≡ is_block len room }
 {
     if len % RECORD != 0 {
         return false;
@@ -34,7 +34,7 @@ pub fn entry(block: &[u8], at: usize) -> u32
 // Whether every class is at most 2 and every zero byte zero.
 pub fn are_records(block: &[u8], k: usize) -> bool
     requires { 16 * k ≤ length block.now }
-    ensures { result ≡ allRecords block.now k 0 }
+    ensures { result ≡ all_records block.now k 0 }
 {
     let mut at = 0;
     let mut left = k;

@@ -3,9 +3,9 @@ use Rattle.std.specs.Prelude.{ℕ, ◌≡◌, Bool, true, ◌&&◌, cond, List, 
 use Rattle.config.specs.Range.{within}
 use Rattle.sheet_blocks.specs.Bytes.{spliced}
 use Rattle.sheet_blocks.specs.Records.{rows}
-use Rattle.loss_sheet.specs.Sheet.{all_below, fresh, stateOk, taken_of, block_of}
+use Rattle.loss_sheet.specs.Sheet.{all_below, fresh, state_ok, taken_of, block_of}
 use Rattle.loss_sheet.specs.declared.sheet.Sheet.{Sheet}
-use Rattle.sheet_log.specs.Afresh.{figuresOf}
+use Rattle.sheet_log.specs.Afresh.{figures_of}
 
 -- a call: the block, and the output lent for it
 abbrev pub Call : Type 0
@@ -40,9 +40,9 @@ pub record LeftBy (s : Sheet) (b : List ℕ) : Type 0 where
 -- where it is not, the output is that of the figures of its records, worked afresh over the file so far with the block behind it.
 -- And each state that passes the test is left by some calls: 13 refuses just the states that no calls have left.
 pub record RunsOn : Type 0 where
-  pub passes : (n : ℕ) (cs : List Call) → within 1 4096 n ≡ true → all_bytes cs ≡ true → stateOk (started n cs).0 (started n cs).1 ≡ true
+  pub passes : (n : ℕ) (cs : List Call) → within 1 4096 n ≡ true → all_bytes cs ≡ true → state_ok (started n cs).0 (started n cs).1 ≡ true
   pub answers : (n : ℕ) (cs : List Call) (bs o : List ℕ) → within 1 4096 n ≡ true → all_bytes cs ≡ true
       → (block_of (started n cs).0 (started n cs).1 bs o).0.refusal ≡ taken_of bs (length o)
   pub writes : (n : ℕ) (cs : List Call) (bs o : List ℕ) → within 1 4096 n ≡ true → all_bytes cs ≡ true → all_below 256 bs ≡ true → taken_of bs (length o) ≡ 0
-      → (block_of (started n cs).0 (started n cs).1 bs o).2 ≡ spliced o 0 (figuresOf n (file cs ++ bs) (rows (file cs)) (rows bs))
-  pub reached : (s : Sheet) (b : List ℕ) → within 1 4096 s.n ≡ true → stateOk s b ≡ true → LeftBy s b
+      → (block_of (started n cs).0 (started n cs).1 bs o).2 ≡ spliced o 0 (figures_of n (file cs ++ bs) (rows (file cs)) (rows bs))
+  pub reached : (s : Sheet) (b : List ℕ) → within 1 4096 s.n ≡ true → state_ok s b ≡ true → LeftBy s b

@@ -5,7 +5,7 @@ use mathlib.Core.List.{List}
 use Prim.Native.Nat.{ℕ}
 use native.Mathlib.Omega.{arith}
 use lib.ListN.{length, replicate}
-use Rattle.config.specs.Settings.{checkOf, tested}
+use Rattle.config.specs.Settings.{check_of, tested}
 use Rattle.config.specs.declared.refusal.Refusal.{Refusal}
 use Rattle.config.specs.declared.refusal.Refusal.TheVariants.{SizeNotAllowed, InvalidState}
 use Rattle.config.specs.declared.settings.StreamConfig.{StreamConfig}
@@ -16,41 +16,41 @@ use Rattle.config.specs.declared.answer.Deadline.TheVariants.{Refused as Deadlin
 use Rattle.packet.specs.declared.writer.PayloadWriter.{PayloadWriter}
 use Rattle.command.specs.declared.retransmit.RetransmitRequest.{RetransmitRequest}
 use Rattle.command.specs.declared.retransmit.RetransmitError.{RetransmitError}
-use Rattle.window.specs.Window.{valid_of as windowValid}
-use Rattle.history.specs.State.{stateOk}
-use Rattle.receiver.specs.Receiver.{valid_of as receiverValid}
+use Rattle.window.specs.Window.{valid_of as window_valid}
+use Rattle.history.specs.State.{state_ok}
+use Rattle.receiver.specs.Receiver.{valid_of as receiver_valid}
 use Rattle.receiver.specs.Answers as receiver
 use Rattle.receiver.specs.declared.receiver.Hearing.TheVariants.{Refused as HearingRefused}
 use Rattle.receiver.specs.declared.receiver.StreamEvent.TheVariants.{Refused as EventRefused}
 use Rattle.receiver.specs.declared.receiver.Request.TheVariants.{Refused as TakeRefused}
-use Rattle.sender.specs.State.{valid_of as senderValid}
+use Rattle.sender.specs.State.{valid_of as sender_valid}
 use Rattle.sender.specs.Answers as sender
 use Rattle.sender.specs.declared.sender.RequestOutcome.TheVariants.{Refused as RequestRefused}
 use Rattle.stream.specs.State.{valid_of, fresh, unstarted}
-use Rattle.stream.specs.Ends.{sendAnswer, requestAnswer, dataAnswer, errorAnswer, nakAnswer, pollAnswer, takeAnswer}
-use Rattle.stream.specs.Answers.{notStarted, sizesOut, newAnswer, resetRefused, resetAnswer, deadlineAnswer, wantsAnswer}
-use Rattle.stream.specs.Writing.{writeRefused, writeAnswer}
+use Rattle.stream.specs.Ends.{send_answer, request_answer, data_answer, error_answer, nak_answer, poll_answer, take_answer}
+use Rattle.stream.specs.Answers.{not_started, sizes_out, new_answer, reset_refused, reset_answer, deadline_answer, wants_answer}
+use Rattle.stream.specs.Writing.{write_refused, write_answer}
 use Rattle.stream.specs.declared.stream.DataStream.{DataStream}
 use Rattle.stream.specs.declared.stream.Started.{Started}
 
 -- each call answers 13, where it is given settings that pass, and changes nothing
 pub record Refuses (s : DataStream) : Type 0 where
-  pub reset : (ring : List ℕ) → resetAnswer s ring ≡ resetRefused s ring InvalidState
-  pub send : (cfg : StreamConfig) (ring ws : List ℕ) → checkOf cfg ≡ Done → sendAnswer s cfg ring ws ≡ (record { stream = s; answer = Refused InvalidState }, ring)
-  pub request : (cfg : StreamConfig) (ring : List ℕ) (r : RetransmitRequest) → checkOf cfg ≡ Done → requestAnswer s cfg ring r ≡ record { stream = s; outcome = RequestRefused InvalidState }
-  pub hear : (cfg : StreamConfig) (time seq : ℕ) → checkOf cfg ≡ Done → dataAnswer s cfg time seq ≡ record { stream = s; answer = HearingRefused InvalidState }
-  pub error : (err : RetransmitError) → errorAnswer s err ≡ record { stream = s; event = EventRefused InvalidState }
-  pub nak : nakAnswer s ≡ record { stream = s; event = EventRefused InvalidState }
-  pub poll : (cfg : StreamConfig) (time : ℕ) → checkOf cfg ≡ Done → pollAnswer s cfg time ≡ record { stream = s; event = EventRefused InvalidState }
-  pub take : (cfg : StreamConfig) (p : PayloadWriter) (b : List ℕ) → checkOf cfg ≡ Done → takeAnswer s cfg p b ≡ (record { stream = s; payload = p; answer = TakeRefused InvalidState }, b)
-  pub deadline : (ring : List ℕ) → deadlineAnswer s ring ≡ DeadlineRefused InvalidState
-  pub wants : (ring : List ℕ) (time : ℕ) → wantsAnswer s ring time ≡ AnsweredRefused InvalidState
-  pub write : (cfg : StreamConfig) (time : ℕ) (p : PayloadWriter) (b ring : List ℕ) → checkOf cfg ≡ Done → writeAnswer s cfg time p b ring ≡ writeRefused s p b ring InvalidState
+  pub reset : (ring : List ℕ) → reset_answer s ring ≡ reset_refused s ring InvalidState
+  pub send : (cfg : StreamConfig) (ring ws : List ℕ) → check_of cfg ≡ Done → send_answer s cfg ring ws ≡ (record { stream = s; answer = Refused InvalidState }, ring)
+  pub request : (cfg : StreamConfig) (ring : List ℕ) (r : RetransmitRequest) → check_of cfg ≡ Done → request_answer s cfg ring r ≡ record { stream = s; outcome = RequestRefused InvalidState }
+  pub hear : (cfg : StreamConfig) (time seq : ℕ) → check_of cfg ≡ Done → data_answer s cfg time seq ≡ record { stream = s; answer = HearingRefused InvalidState }
+  pub error : (err : RetransmitError) → error_answer s err ≡ record { stream = s; event = EventRefused InvalidState }
+  pub nak : nak_answer s ≡ record { stream = s; event = EventRefused InvalidState }
+  pub poll : (cfg : StreamConfig) (time : ℕ) → check_of cfg ≡ Done → poll_answer s cfg time ≡ record { stream = s; event = EventRefused InvalidState }
+  pub take : (cfg : StreamConfig) (p : PayloadWriter) (b : List ℕ) → check_of cfg ≡ Done → take_answer s cfg p b ≡ (record { stream = s; payload = p; answer = TakeRefused InvalidState }, b)
+  pub deadline : (ring : List ℕ) → deadline_answer s ring ≡ DeadlineRefused InvalidState
+  pub wants : (ring : List ℕ) (time : ℕ) → wants_answer s ring time ≡ AnsweredRefused InvalidState
+  pub write : (cfg : StreamConfig) (time : ℕ) (p : PayloadWriter) (b ring : List ℕ) → check_of cfg ≡ Done → write_answer s cfg time p b ring ≡ write_refused s p b ring InvalidState
 
 -- so does a stream both of whose ends the state test refuses
-module _ (s : DataStream) (r : receiverValid s.receiver ≡ false) (e : (ring : List ℕ) → senderValid s.sender ring ≡ false) where
+module _ (s : DataStream) (r : receiver_valid s.receiver ≡ false) (e : (ring : List ℕ) → sender_valid s.sender ring ≡ false) where
   pub refuses : Refuses s
-  unfolding valid_of sendAnswer requestAnswer dataAnswer errorAnswer nakAnswer pollAnswer takeAnswer resetAnswer deadlineAnswer wantsAnswer writeAnswer receiver.dataAnswer receiver.errorAnswer receiver.nakAnswer receiver.pollAnswer receiver.takeAnswer sender.sendAnswer sender.requestAnswer
+  unfolding valid_of send_answer request_answer data_answer error_answer nak_answer poll_answer take_answer reset_answer deadline_answer wants_answer write_answer receiver.data_answer receiver.error_answer receiver.nak_answer receiver.poll_answer receiver.take_answer sender.send_answer sender.request_answer
   refuses =
       record {
         reset = λ ring. rw r;
@@ -67,23 +67,23 @@ module _ (s : DataStream) (r : receiverValid s.receiver ≡ false) (e : (ring : 
       }
 
 -- as both ends of sizes 0 are
-pub unstarted-refuses : Refuses unstarted
-unfolding receiverValid windowValid senderValid stateOk
-unstarted-refuses = refuses unstarted refl (λ ring. refl)
+pub unstarted_refuses : Refuses unstarted
+unfolding receiver_valid window_valid sender_valid state_ok
+unstarted_refuses = refuses unstarted refl (λ ring. refl)
 
 -- a start that is refused, by the settings or by a size, hands back that stream
-abbrev startedOr : Outcome → Bool → List ℕ → Started × List ℕ → Started × List ℕ
-startedOr k out ring done = tested k (λ (why : Refusal). (notStarted why, ring)) (cond out (notStarted SizeNotAllowed, ring) done)
+abbrev started_or : Outcome → Bool → List ℕ → Started × List ℕ → Started × List ℕ
+started_or k out ring done = tested k (λ (why : Refusal). (not_started why, ring)) (cond out (not_started SizeNotAllowed, ring) done)
 
-not-started : (k : Outcome) (out : Bool) (ring zeroed : List ℕ) (s : DataStream) (why : Refusal)
-    → (startedOr k out ring (record { stream = s; answer = Done }, zeroed)).0.answer ≡ Refused why
-    → Refuses (startedOr k out ring (record { stream = s; answer = Done }, zeroed)).0.stream
-not-started (Refused w) out ring zeroed s why e = unstarted-refuses
-not-started Done true ring zeroed s why e = unstarted-refuses
-not-started Done false ring zeroed s why e = absurd (let z : ◌≡◌ {A = ℕ} 0 1 = cc in omega arith)
+not_started_lem : (k : Outcome) (out : Bool) (ring zeroed : List ℕ) (s : DataStream) (why : Refusal)
+    → (started_or k out ring (record { stream = s; answer = Done }, zeroed)).0.answer ≡ Refused why
+    → Refuses (started_or k out ring (record { stream = s; answer = Done }, zeroed)).0.stream
+not_started_lem (Refused w) out ring zeroed s why e = unstarted_refuses
+not_started_lem Done true ring zeroed s why e = unstarted_refuses
+not_started_lem Done false ring zeroed s why e = absurd (let z : ◌≡◌ {A = ℕ} 0 1 = cc in omega arith)
 
-pub start-refused : (cfg : StreamConfig) (window words places : ℕ) (ring : List ℕ) (why : Refusal)
-    → (newAnswer cfg window words places ring).0.answer ≡ Refused why → Refuses (newAnswer cfg window words places ring).0.stream
-unfolding newAnswer
-start-refused cfg window words places ring why e =
-    not-started (checkOf cfg) (sizesOut window words places ring) ring (replicate (length ring) 0) (fresh window words places) why e
+pub start_refused : (cfg : StreamConfig) (window words places : ℕ) (ring : List ℕ) (why : Refusal)
+    → (new_answer cfg window words places ring).0.answer ≡ Refused why → Refuses (new_answer cfg window words places ring).0.stream
+unfolding new_answer
+start_refused cfg window words places ring why e =
+    not_started_lem (check_of cfg) (sizes_out window words places ring) ring (replicate (length ring) 0) (fresh window words places) why e

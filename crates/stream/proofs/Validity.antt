@@ -4,25 +4,25 @@ use mathlib.Core.Bool.{Bool, true, false}
 use mathlib.Core.List.{List}
 use Prim.Native.Nat.{ℕ}
 use Rattle.config.specs.inner.Tests.{and_left, and_right}
-use Rattle.receiver.specs.Receiver.{valid_of as receiverValid}
-use Rattle.sender.specs.State.{valid_of as senderValid}
+use Rattle.receiver.specs.Receiver.{valid_of as receiver_valid}
+use Rattle.sender.specs.State.{valid_of as sender_valid}
 use Rattle.stream.specs.State.{valid_of}
 use Rattle.stream.specs.declared.stream.DataStream.{DataStream}
 
 module _ (s : DataStream) (ring : List ℕ) where
-  pub test-receiver : receiverValid s.receiver ≡ false → false ≡ valid_of s ring
+  pub test_receiver : receiver_valid s.receiver ≡ false → false ≡ valid_of s ring
   unfolding valid_of
-  test-receiver r = rw r
+  test_receiver r = rw r
 
-  pub test-sender : receiverValid s.receiver ≡ true → (b : Bool) → b ≡ senderValid s.sender ring → b ≡ valid_of s ring
+  pub test_sender : receiver_valid s.receiver ≡ true → (b : Bool) → b ≡ sender_valid s.sender ring → b ≡ valid_of s ring
   unfolding valid_of
-  test-sender r b e = rw r e
+  test_sender r b e = rw r e
 
   module _ (v : valid_of s ring ≡ true) where
-    pub valid-receiver : receiverValid s.receiver ≡ true
+    pub valid_receiver : receiver_valid s.receiver ≡ true
     unfolding valid_of
-    valid-receiver = and_left (receiverValid s.receiver) _ v
+    valid_receiver = and_left (receiver_valid s.receiver) _ v
 
-    pub valid-sender : senderValid s.sender ring ≡ true
+    pub valid_sender : sender_valid s.sender ring ≡ true
     unfolding valid_of
-    valid-sender = and_right (receiverValid s.receiver) _ v
+    valid_sender = and_right (receiver_valid s.receiver) _ v

@@ -1,12 +1,12 @@
 -- 01, "Numbers of each operation", of the calls that use both ends: settings (9, 7, 8), then the states (13). A refused call changes nothing.
 use Rattle.std.specs.Prelude.{ℕ, min, Bool, cond, not, ◌||◌, List, length, replicate, eqb}
 use Rattle.config.specs.Range.{outside}
-use Rattle.config.specs.Entry.{onState}
-use Rattle.config.specs.Settings.{checkOf, tested}
+use Rattle.config.specs.Entry.{on_state}
+use Rattle.config.specs.Settings.{check_of, tested}
 use Rattle.config.specs.declared.refusal.Refusal.{Refusal}
 use Rattle.config.specs.declared.refusal.Refusal.TheVariants.{SizeNotAllowed}
 use Rattle.config.specs.declared.settings.StreamConfig.{StreamConfig}
-use Rattle.window.specs.Set.{maxWindow}
+use Rattle.window.specs.Set.{max_window}
 use Rattle.receiver.specs.Receiver as receiver
 use Rattle.config.specs.declared.answer.Outcome.TheVariants.{Done, Refused}
 use Rattle.config.specs.declared.answer.Answered.{Answered}
@@ -20,28 +20,28 @@ use Rattle.stream.specs.declared.stream.Started.{Started}
 use Rattle.stream.specs.declared.stream.WasReset.{WasReset}
 
 -- ---- start and reset
-abbrev pub notStarted : Refusal → Started
-notStarted why = record { stream = unstarted; answer = Refused why }
+abbrev pub not_started : Refusal → Started
+not_started why = record { stream = unstarted; answer = Refused why }
 
 -- W isn't 1 to 128, the history isn't 65 to 32,768 words or not what is lent, or the ring isn't 1 to 16
-abbrev pub sizesOut : ℕ → ℕ → ℕ → List ℕ → Bool
-sizesOut window words places ring =
-    outside 1 maxWindow window || (outside 65 32768 words || (not (eqb (length ring) words) || outside 1 16 places))
+abbrev pub sizes_out : ℕ → ℕ → ℕ → List ℕ → Bool
+sizes_out window words places ring =
+    outside 1 max_window window || (outside 65 32768 words || (not (eqb (length ring) words) || outside 1 16 places))
 
 -- 9, 7, 8, then 12; a start that isn't refused zeroes the lent history
-unfoldable pub newAnswer : StreamConfig → ℕ → ℕ → ℕ → List ℕ → Started × List ℕ
-newAnswer cfg window words places ring =
-    tested (checkOf cfg) (λ (why : Refusal). (notStarted why, ring))
-    (cond (sizesOut window words places ring) (notStarted SizeNotAllowed, ring)
+unfoldable pub new_answer : StreamConfig → ℕ → ℕ → ℕ → List ℕ → Started × List ℕ
+new_answer cfg window words places ring =
+    tested (check_of cfg) (λ (why : Refusal). (not_started why, ring))
+    (cond (sizes_out window words places ring) (not_started SizeNotAllowed, ring)
     (record { stream = fresh window words places; answer = Done }, replicate (length ring) 0))
 
-abbrev pub resetRefused : DataStream → List ℕ → Refusal → WasReset × List ℕ
-resetRefused s ring why = (record { stream = s; answer = Refused why }, ring)
+abbrev pub reset_refused : DataStream → List ℕ → Refusal → WasReset × List ℕ
+reset_refused s ring why = (record { stream = s; answer = Refused why }, ring)
 
 -- back to a start with the same sizes
-unfoldable pub resetAnswer : DataStream → List ℕ → WasReset × List ℕ
-resetAnswer s ring =
-    onState (valid_of s ring) (resetRefused s ring)
+unfoldable pub reset_answer : DataStream → List ℕ → WasReset × List ℕ
+reset_answer s ring =
+    on_state (valid_of s ring) (reset_refused s ring)
     (record { stream = fresh s.receiver.window.size s.sender.history.size s.sender.queue.size; answer = Done }, replicate (length ring) 0)
 
 -- ---- questions
@@ -55,9 +55,9 @@ earlier (At a) Nothing = At a
 earlier (At a) (At b) = At (min a b)
 earlier (At a) (DeadlineRefused why) = DeadlineRefused why
 
-unfoldable pub deadlineAnswer : DataStream → List ℕ → Deadline
-deadlineAnswer d ring = onState (valid_of d ring) DeadlineRefused (earlier (receiver.deadlineOf d.receiver) (sender.deadlineOf d.sender))
+unfoldable pub deadline_answer : DataStream → List ℕ → Deadline
+deadline_answer d ring = on_state (valid_of d ring) DeadlineRefused (earlier (receiver.deadline_of d.receiver) (sender.deadline_of d.sender))
 
 -- a request is due, or the sender has something to write
-unfoldable pub wantsAnswer : DataStream → List ℕ → ℕ → Answered
-wantsAnswer d ring time = onState (valid_of d ring) AnsweredRefused (Is (d.receiver.request_due || sender.wantsOf d.sender time))
+unfoldable pub wants_answer : DataStream → List ℕ → ℕ → Answered
+wants_answer d ring time = on_state (valid_of d ring) AnsweredRefused (Is (d.receiver.request_due || sender.wants_of d.sender time))

@@ -9,7 +9,7 @@ use Rattle.receiver.specs.Answers as receiver
 use Rattle.receiver.specs.declared.receiver.Told.{Told as ReceiverTold}
 use Rattle.sender.specs.Answers as sender
 use Rattle.sender.specs.declared.sender.Sender.{Sender}
-use Rattle.stream.specs.State.{withSender, withReceiver}
+use Rattle.stream.specs.State.{with_sender, with_receiver}
 use Rattle.stream.specs.declared.stream.DataStream.{DataStream}
 use Rattle.stream.specs.declared.stream.Sent.{Sent}
 use Rattle.stream.specs.declared.stream.RequestHeard.{RequestHeard}
@@ -18,36 +18,36 @@ use Rattle.stream.specs.declared.stream.Told.{Told}
 use Rattle.stream.specs.declared.stream.RequestWritten.{RequestWritten}
 
 -- ---- the sender's
-unfoldable pub sendAnswer : DataStream → StreamConfig → List ℕ → List ℕ → Sent × List ℕ
-sendAnswer s cfg ring ws =
-    let e = sender.sendAnswer s.sender cfg ring ws in
-    (record { stream = withSender s e.0.sender; answer = e.0.answer }, e.1)
+unfoldable pub send_answer : DataStream → StreamConfig → List ℕ → List ℕ → Sent × List ℕ
+send_answer s cfg ring ws =
+    let e = sender.send_answer s.sender cfg ring ws in
+    (record { stream = with_sender s e.0.sender; answer = e.0.answer }, e.1)
 
-unfoldable pub requestAnswer : DataStream → StreamConfig → List ℕ → RetransmitRequest → RequestHeard
-requestAnswer s cfg ring r =
-    let e = sender.requestAnswer s.sender cfg ring r in
-    record { stream = withSender s e.sender; outcome = e.outcome }
+unfoldable pub request_answer : DataStream → StreamConfig → List ℕ → RetransmitRequest → RequestHeard
+request_answer s cfg ring r =
+    let e = sender.request_answer s.sender cfg ring r in
+    record { stream = with_sender s e.sender; outcome = e.outcome }
 
 -- ---- the receiver's
-unfoldable pub dataAnswer : DataStream → StreamConfig → ℕ → ℕ → Heard
-dataAnswer s cfg time seq =
-    let e = receiver.dataAnswer s.receiver cfg time seq in
-    record { stream = withReceiver s e.receiver; answer = e.answer }
+unfoldable pub data_answer : DataStream → StreamConfig → ℕ → ℕ → Heard
+data_answer s cfg time seq =
+    let e = receiver.data_answer s.receiver cfg time seq in
+    record { stream = with_receiver s e.receiver; answer = e.answer }
 
-abbrev pub toldBy : Sender → ReceiverTold → Told
-toldBy s e = record { stream = record { sender = s; receiver = e.receiver }; event = e.event }
+abbrev pub told_by : Sender → ReceiverTold → Told
+told_by s e = record { stream = record { sender = s; receiver = e.receiver }; event = e.event }
 
-unfoldable pub errorAnswer : DataStream → RetransmitError → Told
-errorAnswer s err = toldBy s.sender (receiver.errorAnswer s.receiver err)
+unfoldable pub error_answer : DataStream → RetransmitError → Told
+error_answer s err = told_by s.sender (receiver.error_answer s.receiver err)
 
-unfoldable pub nakAnswer : DataStream → Told
-nakAnswer s = toldBy s.sender (receiver.nakAnswer s.receiver)
+unfoldable pub nak_answer : DataStream → Told
+nak_answer s = told_by s.sender (receiver.nak_answer s.receiver)
 
-unfoldable pub pollAnswer : DataStream → StreamConfig → ℕ → Told
-pollAnswer s cfg time = toldBy s.sender (receiver.pollAnswer s.receiver cfg time)
+unfoldable pub poll_answer : DataStream → StreamConfig → ℕ → Told
+poll_answer s cfg time = told_by s.sender (receiver.poll_answer s.receiver cfg time)
 
 -- the receiver's part of a write
-unfoldable pub takeAnswer : DataStream → StreamConfig → PayloadWriter → List ℕ → RequestWritten × List ℕ
-takeAnswer s cfg p b =
-    let e = receiver.takeAnswer s.receiver cfg p b in
-    (record { stream = withReceiver s e.0.receiver; payload = e.0.payload; answer = e.0.answer }, e.1)
+unfoldable pub take_answer : DataStream → StreamConfig → PayloadWriter → List ℕ → RequestWritten × List ℕ
+take_answer s cfg p b =
+    let e = receiver.take_answer s.receiver cfg p b in
+    (record { stream = with_receiver s e.0.receiver; payload = e.0.payload; answer = e.0.answer }, e.1)

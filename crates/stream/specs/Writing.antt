@@ -3,10 +3,10 @@
 -- no refusal but "more".
 use Rattle.std.specs.Prelude.{ℕ, ◌+◌, true, ◌&&◌, List, length}
 use Rattle.config.specs.Entry.{entry}
-use Rattle.config.specs.Settings.{checkOf}
+use Rattle.config.specs.Settings.{check_of}
 use Rattle.config.specs.declared.refusal.Refusal.{Refusal}
 use Rattle.config.specs.declared.settings.StreamConfig.{StreamConfig}
-use Rattle.packet.specs.Write.{valid_of as payloadValid}
+use Rattle.packet.specs.Write.{valid_of as payload_valid}
 use Rattle.packet.specs.declared.writer.PayloadWriter.{PayloadWriter}
 use Rattle.receiver.specs.Receiver.{taken_of}
 use Rattle.receiver.specs.declared.receiver.Request.{Request}
@@ -14,39 +14,39 @@ use Rattle.receiver.specs.declared.receiver.Request.TheVariants.{Nothing as NotD
 use Rattle.writing.specs.Writing.{written_by}
 use Rattle.writing.specs.declared.writing.Writing.{Writing}
 use Rattle.writing.specs.declared.writing.Writing.TheVariants.{Written, Refused}
-use Rattle.stream.specs.State.{valid_of, withSender, withReceiver}
+use Rattle.stream.specs.State.{valid_of, with_sender, with_receiver}
 use Rattle.stream.specs.declared.stream.DataStream.{DataStream}
 use Rattle.stream.specs.declared.stream.Wrote.{Wrote}
 
 -- the stream with the payload, the payload's bytes and the lent history
-abbrev pub writeRefused : DataStream → PayloadWriter → List ℕ → List ℕ → Refusal → Wrote × List ℕ × List ℕ
-writeRefused s p b ring why = (record { stream = s; payload = p; answer = Refused why }, b, ring)
+abbrev pub write_refused : DataStream → PayloadWriter → List ℕ → List ℕ → Refusal → Wrote × List ℕ × List ℕ
+write_refused s p b ring why = (record { stream = s; payload = p; answer = Refused why }, b, ring)
 
 -- with n commands that were written before
-abbrev pub countedAlso : ℕ → Writing → Writing
-countedAlso n (Written w) = Written record { commands = n + w.commands; more = w.more }
-countedAlso n (Refused why) = Refused why
+abbrev pub counted_also : ℕ → Writing → Writing
+counted_also n (Written w) = Written record { commands = n + w.commands; more = w.more }
+counted_also n (Refused why) = Refused why
 
 -- the sender's write, after n commands
-unfoldable pub sentAfter : ℕ → DataStream → StreamConfig → ℕ → PayloadWriter → List ℕ → List ℕ → Wrote × List ℕ × List ℕ
-sentAfter n s cfg time p b ring =
+unfoldable pub sent_after : ℕ → DataStream → StreamConfig → ℕ → PayloadWriter → List ℕ → List ℕ → Wrote × List ℕ × List ℕ
+sent_after n s cfg time p b ring =
     let w = written_by s.sender cfg time p b ring in
-    (record { stream = withSender s w.0.sender; payload = w.0.payload; answer = countedAlso n w.0.answer }, w.1, w.2)
+    (record { stream = with_sender s w.0.sender; payload = w.0.payload; answer = counted_also n w.0.answer }, w.1, w.2)
 
 -- a request that doesn't fit ends the write; one that was written is one command
-abbrev pub afterRequest : Request → DataStream → StreamConfig → ℕ → PayloadWriter → List ℕ → List ℕ → Wrote × List ℕ × List ℕ
-afterRequest (NotTaken why) s cfg time p b ring = writeRefused s p b ring why
-afterRequest NoSpace s cfg time p b ring =
+abbrev pub after_request : Request → DataStream → StreamConfig → ℕ → PayloadWriter → List ℕ → List ℕ → Wrote × List ℕ × List ℕ
+after_request (NotTaken why) s cfg time p b ring = write_refused s p b ring why
+after_request NoSpace s cfg time p b ring =
     (record { stream = s; payload = p; answer = Written record { commands = 0; more = true } }, b, ring)
-afterRequest NotDue s cfg time p b ring = sentAfter 0 s cfg time p b ring
-afterRequest Taken s cfg time p b ring = sentAfter 1 s cfg time p b ring
+after_request NotDue s cfg time p b ring = sent_after 0 s cfg time p b ring
+after_request Taken s cfg time p b ring = sent_after 1 s cfg time p b ring
 
 -- over settings, states and a payload that were tested
-unfoldable pub dataWritten : DataStream → StreamConfig → ℕ → PayloadWriter → List ℕ → List ℕ → Wrote × List ℕ × List ℕ
-dataWritten s cfg time p b ring =
+unfoldable pub data_written : DataStream → StreamConfig → ℕ → PayloadWriter → List ℕ → List ℕ → Wrote × List ℕ × List ℕ
+data_written s cfg time p b ring =
     let t = taken_of s.receiver cfg p b in
-    afterRequest t.0.answer (withReceiver s t.0.receiver) cfg time t.0.payload t.1 ring
+    after_request t.0.answer (with_receiver s t.0.receiver) cfg time t.0.payload t.1 ring
 
-unfoldable pub writeAnswer : DataStream → StreamConfig → ℕ → PayloadWriter → List ℕ → List ℕ → Wrote × List ℕ × List ℕ
-writeAnswer s cfg time p b ring =
-    entry (checkOf cfg) (valid_of s ring && payloadValid p (length b)) (writeRefused s p b ring) (dataWritten s cfg time p b ring)
+unfoldable pub write_answer : DataStream → StreamConfig → ℕ → PayloadWriter → List ℕ → List ℕ → Wrote × List ℕ × List ℕ
+write_answer s cfg time p b ring =
+    entry (check_of cfg) (valid_of s ring && payload_valid p (length b)) (write_refused s p b ring) (data_written s cfg time p b ring)

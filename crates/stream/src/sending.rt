@@ -1,12 +1,12 @@
 // Queueing and writing in one call: `send_ump`, and where the words are accepted `write_data`. Settings
 // and each end's state are tested once: what queueing leaves of a state that passed passes again.
 ghost use Rattle.std.specs.Prelude.{◌≡◌, true};
-ghost use Rattle.config.specs.Settings.{checkOf};
+ghost use Rattle.config.specs.Settings.{check_of};
 ghost use Rattle.config.specs.declared.answer.Outcome.TheVariants.{Done};
 ghost use Rattle.history.specs.State.{Marks};
-ghost use Rattle.sender.specs.State.{valid_of as senderValid};
-ghost use Rattle.stream.specs.Writing.{writeAnswer};
-ghost use Rattle.stream.specs.Sending.{sendAndWriteAnswer};
+ghost use Rattle.sender.specs.State.{valid_of as sender_valid};
+ghost use Rattle.stream.specs.Writing.{write_answer};
+ghost use Rattle.stream.specs.Sending.{send_and_write_answer};
 
 use super::stream::{DataStream, Wrote};
 use super::tested;
@@ -42,8 +42,8 @@ fn write_queued(
     ring: &mut [u32],
     from: Mark,
 ) -> Wrote
-    requires { (checkOf cfg ≡ Done) × (senderValid s.sender ring.old ≡ true) × Marks s.sender.history ring.old from }
-    ensures { (result, buf.new, ring.new) ≡ writeAnswer s cfg time p buf.old ring.old }
+    requires { (check_of cfg ≡ Done) × (sender_valid s.sender ring.old ≡ true) × Marks s.sender.history ring.old from }
+    ensures { (result, buf.new, ring.new) ≡ write_answer s cfg time p buf.old ring.old }
 {
     let receiver = s.receiver;
     if receiver::tested::is_valid(receiver) {
@@ -70,7 +70,7 @@ impl DataStream {
         buf: &mut [u8],
         ring: &mut [u32],
     ) -> SentAndWrote
-        ensures { (result, buf.new, ring.new) ≡ sendAndWriteAnswer self cfg time words.now p buf.old ring.old }
+        ensures { (result, buf.new, ring.new) ≡ send_and_write_answer self cfg time words.now p buf.old ring.old }
     {
         match cfg.check() {
             Outcome::Refused(why) => SentAndWrote {

@@ -1,9 +1,9 @@
 // The stream and its calls. Each takes the stream by value and hands it back with its answer; the
 // send history's words lie in the lent slice `ring`.
 ghost use Rattle.std.specs.Prelude.{◌≡◌};
-ghost use Rattle.stream.specs.Ends.{sendAnswer, requestAnswer, dataAnswer, toldBy, errorAnswer, nakAnswer, pollAnswer, takeAnswer};
-ghost use Rattle.stream.specs.Answers.{notStarted, newAnswer, resetAnswer, deadlineAnswer, wantsAnswer};
-ghost use Rattle.stream.specs.Writing.{writeAnswer};
+ghost use Rattle.stream.specs.Ends.{send_answer, request_answer, data_answer, told_by, error_answer, nak_answer, poll_answer, take_answer};
+ghost use Rattle.stream.specs.Answers.{not_started, new_answer, reset_answer, deadline_answer, wants_answer};
+ghost use Rattle.stream.specs.Writing.{write_answer};
 
 use super::tested;
 use command::data::UmpData;
@@ -77,7 +77,7 @@ pub struct Wrote {
 
 // A stream of sizes 0, which the state test refuses.
 fn not_started(why: Refusal) -> Started
-    ensures { result ≡ notStarted why }
+    ensures { result ≡ not_started why }
 {
     let none = sender::tested::not_started();
     let sender = none.sender;
@@ -102,7 +102,7 @@ fn not_started(why: Refusal) -> Started
 
 // What the receiver told, with the sender as it was.
 fn event(sender: Sender, by: receiver::receiver::Told) -> Told
-    ensures { result ≡ toldBy sender by }
+    ensures { result ≡ told_by sender by }
 {
     let receiver = by.receiver;
     let event = by.event;
@@ -122,7 +122,7 @@ impl DataStream {
         places: usize,
         ring: &mut [u32],
     ) -> Started
-        ensures { (result, ring.new) ≡ newAnswer cfg window words places ring.old }
+        ensures { (result, ring.new) ≡ new_answer cfg window words places ring.old }
     {
         match cfg.check() {
             Outcome::Refused(why) => not_started(why),
@@ -146,7 +146,7 @@ impl DataStream {
 
     // Back to the fresh stream of the same sizes; the lent history is zeroed.
     pub fn reset(self, ring: &mut [u32]) -> WasReset
-        ensures { (result, ring.new) ≡ resetAnswer self ring.old }
+        ensures { (result, ring.new) ≡ reset_answer self ring.old }
     {
         if tested::is_valid(self, &ring[..]) {
             let receiver = self.receiver;
@@ -167,7 +167,7 @@ impl DataStream {
 
     // Queues whole messages to send; 5, 3 and 6 for words that are not queued.
     pub fn send_ump(self, cfg: StreamConfig, ring: &mut [u32], words: &[u32]) -> Sent
-        ensures { (result, ring.new) ≡ sendAnswer self cfg ring.old words.now }
+        ensures { (result, ring.new) ≡ send_answer self cfg ring.old words.now }
     {
         let before = self.sender;
         let receiver = self.receiver;
@@ -187,7 +187,7 @@ impl DataStream {
         ring: &[u32],
         req: RetransmitRequest,
     ) -> RequestHeard
-        ensures { result ≡ requestAnswer self cfg ring.now req }
+        ensures { result ≡ request_answer self cfg ring.now req }
     {
         let before = self.sender;
         let receiver = self.receiver;
@@ -202,7 +202,7 @@ impl DataStream {
 
     // A data command arrives.
     pub fn on_ump_data(self, cfg: StreamConfig, time: u64, data: UmpData) -> Heard
-        ensures { result ≡ dataAnswer self cfg time «data».seq }
+        ensures { result ≡ data_answer self cfg time «data».seq }
     {
         let sender = self.sender;
         let before = self.receiver;
@@ -217,7 +217,7 @@ impl DataStream {
 
     // A Retransmit Error arrives.
     pub fn on_retransmit_error(self, err: RetransmitError) -> Told
-        ensures { result ≡ errorAnswer self err }
+        ensures { result ≡ error_answer self err }
     {
         let sender = self.sender;
         let receiver = self.receiver;
@@ -226,7 +226,7 @@ impl DataStream {
 
     // A NAK to a Retransmit Request arrives.
     pub fn on_retransmit_nak(self) -> Told
-        ensures { result ≡ nakAnswer self }
+        ensures { result ≡ nak_answer self }
     {
         let sender = self.sender;
         let receiver = self.receiver;
@@ -235,7 +235,7 @@ impl DataStream {
 
     // Runs the receiver's timer.
     pub fn poll(self, cfg: StreamConfig, time: u64) -> Told
-        ensures { result ≡ pollAnswer self cfg time }
+        ensures { result ≡ poll_answer self cfg time }
     {
         let sender = self.sender;
         let receiver = self.receiver;
@@ -249,7 +249,7 @@ impl DataStream {
         p: PayloadWriter,
         buf: &mut [u8],
     ) -> RequestWritten
-        ensures { (result, buf.new) ≡ takeAnswer self cfg p buf.old }
+        ensures { (result, buf.new) ≡ take_answer self cfg p buf.old }
     {
         let sender = self.sender;
         let before = self.receiver;
@@ -266,7 +266,7 @@ impl DataStream {
 
     // The earliest time at which `poll` or `write_data` has timed work.
     pub fn next_deadline(self, ring: &[u32]) -> Deadline
-        ensures { result ≡ deadlineAnswer self ring.now }
+        ensures { result ≡ deadline_answer self ring.now }
     {
         if tested::is_valid(self, ring) {
             let receiver = self.receiver;
@@ -281,7 +281,7 @@ impl DataStream {
 
     // Whether `write_data` at this time has something to write.
     pub fn wants_write(self, ring: &[u32], time: u64) -> Answered
-        ensures { result ≡ wantsAnswer self ring.now time }
+        ensures { result ≡ wants_answer self ring.now time }
     {
         if tested::is_valid(self, ring) {
             let receiver = self.receiver;
@@ -304,7 +304,7 @@ impl DataStream {
         buf: &mut [u8],
         ring: &mut [u32],
     ) -> Wrote
-        ensures { (result, buf.new, ring.new) ≡ writeAnswer self cfg time p buf.old ring.old }
+        ensures { (result, buf.new, ring.new) ≡ write_answer self cfg time p buf.old ring.old }
     {
         match cfg.check() {
             Outcome::Refused(why) => Wrote {

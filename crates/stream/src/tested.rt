@@ -1,14 +1,14 @@
 // The calls over settings and states that were tested: `is_valid` and `test` are the test of both ends.
 ghost use Rattle.std.specs.Prelude.{◌≡◌, true, ◌≤◌, length};
-ghost use Rattle.config.specs.Settings.{checkOf};
+ghost use Rattle.config.specs.Settings.{check_of};
 ghost use Rattle.config.specs.declared.answer.Outcome.TheVariants.{Done};
-ghost use Rattle.packet.specs.Write.{valid_of as payloadValid};
+ghost use Rattle.packet.specs.Write.{valid_of as payload_valid};
 ghost use Rattle.history.specs.State.{Marks, Answers};
-ghost use Rattle.sender.specs.State.{valid_of as senderValid};
-ghost use Rattle.writing.specs.Placing.{beginsOf};
+ghost use Rattle.sender.specs.State.{valid_of as sender_valid};
+ghost use Rattle.writing.specs.Placing.{begins_of};
 ghost use Rattle.stream.specs.State.{valid_of};
-ghost use Rattle.stream.specs.Answers.{earlier as earlierOf};
-ghost use Rattle.stream.specs.Writing.{sentAfter, dataWritten};
+ghost use Rattle.stream.specs.Answers.{earlier as earlier_of_lem};
+ghost use Rattle.stream.specs.Writing.{sent_after, data_written};
 
 use super::stream::{DataStream, Wrote};
 use config::answer::Deadline;
@@ -33,7 +33,7 @@ pub fn is_valid(s: DataStream, ring: &[u32]) -> bool
 // The state test, and from the sender's walk the header where a write begins that repeats the last `back`
 // written commands, or the oldest where fewer are written.
 pub fn test(s: DataStream, ring: &[u32], back: usize) -> Tested
-    ensures { Answers (valid_of s ring.now) s.sender.history ring.now s.sender.unsent (beginsOf s.sender back) result }
+    ensures { Answers (valid_of s ring.now) s.sender.history ring.now s.sender.unsent (begins_of s.sender back) result }
 {
     let receiver = s.receiver;
     let sender = s.sender;
@@ -48,7 +48,7 @@ pub fn test(s: DataStream, ring: &[u32], back: usize) -> Tested
 
 // The earlier of the two ends' due times.
 pub fn earlier(a: Deadline, b: Deadline) -> Deadline
-    ensures { result ≡ earlierOf a b }
+    ensures { result ≡ earlier_of_lem a b }
 {
     match a {
         Deadline::Refused(why) => Deadline::Refused(why),
@@ -81,8 +81,8 @@ fn write_after(
     ring: &mut [u32],
     from: Mark,
 ) -> Wrote
-    requires { (n ≤ 1) × (checkOf cfg ≡ Done) × (senderValid s.sender ring.old ≡ true) × (payloadValid p (length buf.old) ≡ true) × Marks s.sender.history ring.old from }
-    ensures { (result, buf.new, ring.new) ≡ sentAfter n s cfg time p buf.old ring.old }
+    requires { (n ≤ 1) × (check_of cfg ≡ Done) × (sender_valid s.sender ring.old ≡ true) × (payload_valid p (length buf.old) ≡ true) × Marks s.sender.history ring.old from }
+    ensures { (result, buf.new, ring.new) ≡ sent_after n s cfg time p buf.old ring.old }
 {
     let before = s.sender;
     let receiver = s.receiver;
@@ -118,8 +118,8 @@ pub fn write_data(
     ring: &mut [u32],
     from: Mark,
 ) -> Wrote
-    requires { (checkOf cfg ≡ Done) × (valid_of s ring.old ≡ true) × (payloadValid p (length buf.old) ≡ true) × Marks s.sender.history ring.old from }
-    ensures { (result, buf.new, ring.new) ≡ dataWritten s cfg time p buf.old ring.old }
+    requires { (check_of cfg ≡ Done) × (valid_of s ring.old ≡ true) × (payload_valid p (length buf.old) ≡ true) × Marks s.sender.history ring.old from }
+    ensures { (result, buf.new, ring.new) ≡ data_written s cfg time p buf.old ring.old }
 {
     let sender = s.sender;
     let before = s.receiver;

@@ -10,30 +10,30 @@ use mathlib.Core.List.Memᴰ
 use mathlib.Core.List.{List, [], ◌∷◌, ◌++◌}
 use native.Mathlib.Omega.{arith}
 use lib.ListN.{replicate}
-use Rattle.config.specs.Settings.{checkOf}
+use Rattle.config.specs.Settings.{check_of}
 use Rattle.config.specs.declared.settings.StreamConfig.{StreamConfig}
 use Rattle.packet.specs.Bytes.{bytes_of, words_of, spliced}
 use Rattle.packet.specs.Layout.{Words32}
-use Rattle.packet.specs.Read.{signed, itemsFrom, items_of}
-use Rattle.packet.specs.Write.{opened_of, valid_of as payloadValid, written_of}
+use Rattle.packet.specs.Read.{signed, items_from, items_of}
+use Rattle.packet.specs.Write.{opened_of, valid_of as payload_valid, written_of}
 use Rattle.packet.specs.declared.writer.PayloadWriter.{PayloadWriter}
-use Rattle.command.specs.Messages.{typeWords, divided, messagesOf, whole_of, words_in}
-use Rattle.history.specs.Ring.{slot_of, ringStored, ringRead}
-use Rattle.history.specs.Headers.{header_at, wordsFrom, numbered}
-use Rattle.history.specs.State.{stateOk, walkOk}
-use Rattle.history.specs.Push.{popOne, popped, grown, pushed, longer, appended}
-use Rattle.history.specs.Queue.{request, requests, asks, pushAnswer}
-use Rattle.history.specs.Written.{entryPacket}
-use Rattle.window.specs.Set.{val, setOf}
+use Rattle.command.specs.Messages.{type_words, divided, messages_of, whole_of, words_in}
+use Rattle.history.specs.Ring.{slot_of, ring_stored, ring_read}
+use Rattle.history.specs.Headers.{header_at, words_from, numbered}
+use Rattle.history.specs.State.{state_ok, walk_ok}
+use Rattle.history.specs.Push.{pop_one, popped, grown, pushed, longer, appended}
+use Rattle.history.specs.Queue.{request, requests, asks, push_answer}
+use Rattle.history.specs.Written.{entry_packet}
+use Rattle.window.specs.Set.{val, set_of}
 use Rattle.window.specs.Window as Window
 use Rattle.window.specs.declared.window.Class.{Class}
 use Rattle.window.specs.declared.window.Class.TheVariants.{New, Late}
 use Rattle.window.specs.declared.window.Span.{Span}
 use Rattle.window.specs.declared.window.Span.TheVariants.{Nothing, Of}
-use Rattle.idle.specs.Schedule.{idleNext}
-use Rattle.rows.specs.Rows.{row_of, packetsFrom, sizesOf, anyWords}
-use Rattle.rows.specs.Choice.{repeatsOf}
-use Rattle.receiver.specs.Receiver.{dueAfter, taken_of}
+use Rattle.idle.specs.Schedule.{idle_next}
+use Rattle.rows.specs.Rows.{row_of, packets_from, sizes_of, any_words}
+use Rattle.rows.specs.Choice.{repeats_of}
+use Rattle.receiver.specs.Receiver.{due_after, taken_of}
 use Rattle.receiver.specs.Receiver as Receiver
 use Rattle.receiver.specs.Answers as receiver
 use Rattle.receiver.specs.declared.receiver.Delivery.{Delivery}
@@ -41,43 +41,43 @@ use Rattle.receiver.specs.declared.receiver.Hearing.TheVariants.{Delivery as Del
 use Rattle.receiver.specs.declared.receiver.StreamEvent.TheVariants.{Nothing as NoEvent}
 use Rattle.receiver.specs.declared.receiver.Request.{Request}
 use Rattle.receiver.specs.declared.receiver.Request.TheVariants.{Nothing as NotDue, Written as Taken, More as NoSpace, Refused as NotTaken}
-use Rattle.receiver_log.specs.Calls.{data-command, poll, take-request, Entry as Heard, data-entry, poll-entry, take-entry, AllTyped}
+use Rattle.receiver_log.specs.Calls.{data_command, poll, take_request, Entry as Heard, data_entry, poll_entry, take_entry, AllTyped}
 use Rattle.receiver_log.specs.Calls as Chamber
-use Rattle.receiver_log.specs.Log.{reports, origin, isAhead, place, start, high, times, unprocessed, Missing}
-use Rattle.receiver_log.specs.Spans.{endsOf, classIn, lostAt, lostIn, missingEnds, askedFor}
+use Rattle.receiver_log.specs.Log.{reports, origin, is_ahead, place, start, high, times, unprocessed, Missing}
+use Rattle.receiver_log.specs.Spans.{ends_of, class_in, lost_at, lost_in, missing_ends, asked_for}
 use Rattle.receiver_log.specs.Answers.{answer_of, said_of}
-use Rattle.receiver_log.specs.Promise.{logOf}
-use Rattle.receiver_log.proofs.Runs.{run-said}
+use Rattle.receiver_log.specs.Promise.{log_of}
+use Rattle.receiver_log.proofs.Runs.{run_said}
 use Rattle.sender.specs.Answers as sender
 use Rattle.writing.specs.Answers as writing
-use Rattle.fronts.specs.Commands.{fitting, front, behind, commandsIn, commandsOf, longer as longMessage, above}
+use Rattle.fronts.specs.Commands.{fitting, front, behind, commands_in, commands_of, longer as long_message, above}
 use Rattle.sender.specs.State.{valid_of}
-use Rattle.sender.specs.Queueing.{roomOf, need_of, joinedTo, pushedAll, queuedTo, queuedOf, wordsCheck, placed_of, sentOf}
-use Rattle.sender.specs.Requests.{requestedOf}
-use Rattle.writing.specs.Writing.{servedIn, servedOf, idledOf, writtenOff, newOf, written_by}
+use Rattle.sender.specs.Queueing.{room_of, need_of, joined_to, pushed_all, queued_to, queued_of, words_check, placed_of, sent_of}
+use Rattle.sender.specs.Requests.{requested_of}
+use Rattle.writing.specs.Writing.{served_in, served_of, idled_of, written_off, new_of, written_by}
 use Rattle.config.specs.declared.answer.Outcome.TheVariants.{Done}
 use Rattle.writing.specs.declared.writing.Writing.{Writing}
 use Rattle.writing.specs.declared.writing.Writing.TheVariants.{Written}
 use Rattle.sender_log.specs.Calls as Sender
-use Rattle.delivery.specs.Commands.{Command, dataIn, wholesIn, data_of}
-use Rattle.delivery.specs.Positions.{opens, position, newestWith}
-use Rattle.delivery.specs.Console.{Lent, bytes, Entry, queued, wrote, stood, noted, logFrom, freshConsole, accepted, written, positions, position_of, was-wrote, was}
+use Rattle.delivery.specs.Commands.{Command, data_in, wholes_in, data_of}
+use Rattle.delivery.specs.Positions.{opens, position, newest_with}
+use Rattle.delivery.specs.Console.{Lent, bytes, Entry, queued, wrote, stood, noted, log_from, fresh_console, accepted, written, positions, position_of, was_wrote, was}
 use Rattle.delivery.specs.Console as Delivery
-use Rattle.delivery.specs.Chamber.{handedOn}
+use Rattle.delivery.specs.Chamber.{handed_on}
 use Rattle.delivery.specs.Sentence.{Line, fresh, hear, pass, Premises}
 use Rattle.delivery.proofs.Example.{settings, A}
 use Rattle.stream.specs.State as Stream
-use Rattle.stream.specs.Ends.{sendAnswer, requestAnswer}
-use Rattle.stream.specs.Answers.{newAnswer}
-use Rattle.stream.specs.Writing.{sentAfter, dataWritten, writeAnswer}
-use Rattle.stream_log.specs.Calls.{send-ump, on-retransmit-request, on-ump-data}
+use Rattle.stream.specs.Ends.{send_answer, request_answer}
+use Rattle.stream.specs.Answers.{new_answer}
+use Rattle.stream.specs.Writing.{sent_after, data_written, write_answer}
+use Rattle.stream_log.specs.Calls.{send_ump, on_retransmit_request, on_ump_data}
 use Rattle.stream_log.specs.Calls as Calls
-use Rattle.stream_log.specs.Ends.{Ends, unlessCut, endsAfter, endsFrom}
+use Rattle.stream_log.specs.Ends.{Ends, unless_cut, ends_after, ends_from}
 use Rattle.stream_log.specs.Ends as Ends
 use Rattle.stream_log.specs.Promise.{Started}
-use Rattle.stream_log.specs.Console.{Call, open-payload, write-into, on-stream, step_of, run_from, EachAllowed, End, run_of}
-use Rattle.stream_log.specs.Sentence.{sentBy, heardBy, reportsBy, Pair, Holds}
-use Rattle.stream_log.proofs.Sentence.{stream-sentence}
+use Rattle.stream_log.specs.Console.{Call, open_payload, write_into, on_stream, step_of, run_from, EachAllowed, End, run_of}
+use Rattle.stream_log.specs.Sentence.{sent_by, heard_by, reports_by, Pair, Holds}
+use Rattle.stream_log.proofs.Sentence.{stream_sentence}
 
 abbrev B : List ℕ
 B = 0x20803C00 ∷ []
@@ -92,32 +92,32 @@ plain = settings 0
 
 abbrev played : List Call
 played =
-    open-payload 1400 (zeros 12) ∷ on-stream (send-ump plain A) ∷ write-into 0 plain 0
-    ∷ open-payload 1400 (zeros 12) ∷ on-stream (send-ump plain B) ∷ write-into 1 plain 5
-    ∷ on-stream (on-retransmit-request plain record { seq = 0; count = 1 }) ∷ open-payload 1400 (zeros 12) ∷ write-into 2 plain 20
+    open_payload 1400 (zeros 12) ∷ on_stream (send_ump plain A) ∷ write_into 0 plain 0
+    ∷ open_payload 1400 (zeros 12) ∷ on_stream (send_ump plain B) ∷ write_into 1 plain 5
+    ∷ on_stream (on_retransmit_request plain record { seq = 0; count = 1 }) ∷ open_payload 1400 (zeros 12) ∷ write_into 2 plain 20
     ∷ []
 
-played-allowed : EachAllowed played
+played_allowed : EachAllowed played
 unfolding Words32
-played-allowed = omega arith
+played_allowed = omega arith
 
 started : Started plain 4 65 4 (zeros 65)
-unfolding newAnswer checkOf
+unfolding new_answer check_of
 started = refl
 
 abbrev console : End
-console = record { settings = plain; window = 4; words = 65; places = 4; ring₀ = zeros 65; started = started; calls = played; allowed = played-allowed }
+console = record { settings = plain; window = 4; words = 65; places = 4; ring₀ = zeros 65; started = started; calls = played; allowed = played_allowed }
 
 -- the calls of its sender with the payloads
 abbrev counted : List Delivery.Call
 counted =
-    Delivery.open-payload 1400 (zeros 12) ∷ Delivery.queue-words plain A ∷ Delivery.write-into 0 plain 0
-    ∷ Delivery.open-payload 1400 (zeros 12) ∷ Delivery.queue-words plain B ∷ Delivery.write-into 1 plain 5
-    ∷ Delivery.retransmit-request plain record { seq = 0; count = 1 } ∷ Delivery.open-payload 1400 (zeros 12) ∷ Delivery.write-into 2 plain 20
+    Delivery.open_payload 1400 (zeros 12) ∷ Delivery.queue_words plain A ∷ Delivery.write_into 0 plain 0
+    ∷ Delivery.open_payload 1400 (zeros 12) ∷ Delivery.queue_words plain B ∷ Delivery.write_into 1 plain 5
+    ∷ Delivery.retransmit_request plain record { seq = 0; count = 1 } ∷ Delivery.open_payload 1400 (zeros 12) ∷ Delivery.write_into 2 plain 20
     ∷ []
 
 counted_is : (run_of console).sent ≡ counted
-unfolding run_of run_from step_of Calls.step_of Delivery.step_of newAnswer sendAnswer requestAnswer writeAnswer Stream.valid_of sentAfter dataWritten Receiver.valid_of Window.valid_of val setOf taken_of receiver.takeAnswer sender.sendAnswer sender.requestAnswer requestedOf request requests asks pushAnswer opened_of typeWords divided messagesOf whole_of slot_of ringStored ringRead header_at wordsFrom numbered stateOk walkOk popOne popped grown pushed longer appended entryPacket fitting front behind commandsIn commandsOf longMessage above valid_of roomOf need_of joinedTo pushedAll queuedTo queuedOf wordsCheck placed_of sentOf row_of packetsFrom servedIn servedOf idleNext idledOf sizesOf repeatsOf anyWords writtenOff newOf written_by checkOf payloadValid written_of bytes_of spliced
+unfolding run_of run_from step_of Calls.step_of Delivery.step_of new_answer send_answer request_answer write_answer Stream.valid_of sent_after data_written Receiver.valid_of Window.valid_of val set_of taken_of receiver.take_answer sender.send_answer sender.request_answer requested_of request requests asks push_answer opened_of type_words divided messages_of whole_of slot_of ring_stored ring_read header_at words_from numbered state_ok walk_ok pop_one popped grown pushed longer appended entry_packet fitting front behind commands_in commands_of long_message above valid_of room_of need_of joined_to pushed_all queued_to queued_of words_check placed_of sent_of row_of packets_from served_in served_of idle_next idled_of sizes_of repeats_of any_words written_off new_of written_by check_of payload_valid written_of bytes_of spliced
 counted_is = refl
 
 abbrev empty : Lent
@@ -126,8 +126,8 @@ empty = record { payload = record { len = 0; max = 1400 }; buffer = zeros 12 }
 abbrev full : List ℕ → Lent
 full words = record { payload = record { len = 12; max = 1400 }; buffer = bytes_of words }
 
-abbrev withA : Lent
-withA = full (0x4D494449 ∷ 0xFF010000 ∷ A)
+abbrev with_a : Lent
+with_a = full (0x4D494449 ∷ 0xFF010000 ∷ A)
 
 abbrev with_b : Lent
 with_b = full (0x4D494449 ∷ 0xFF010001 ∷ B)
@@ -137,80 +137,80 @@ one = Written record { commands = 1; more = false }
 
 abbrev sent : List Entry
 sent =
-    wrote 2 empty withA one ∷ stood 2 empty ∷ noted
+    wrote 2 empty with_a one ∷ stood 2 empty ∷ noted
     ∷ wrote 1 empty with_b one ∷ queued plain B Done ∷ stood 1 empty
-    ∷ wrote 0 empty withA one ∷ queued plain A Done ∷ stood 0 empty
+    ∷ wrote 0 empty with_a one ∷ queued plain A Done ∷ stood 0 empty
     ∷ []
 
-counted-log : logFrom (freshConsole 65 4 (zeros 65)) [] counted ≡ sent
-unfolding logFrom Delivery.step_of sender.newAnswer sender.requestAnswer requestedOf request requests asks pushAnswer opened_of typeWords divided messagesOf whole_of slot_of ringStored ringRead header_at wordsFrom numbered stateOk walkOk popOne popped grown pushed longer appended entryPacket fitting front behind commandsIn commandsOf longMessage above valid_of roomOf need_of joinedTo pushedAll queuedTo queuedOf wordsCheck placed_of sentOf row_of packetsFrom servedIn servedOf idleNext idledOf sizesOf repeatsOf anyWords writtenOff newOf written_by sender.sendAnswer writing.writeAnswer checkOf payloadValid written_of bytes_of spliced
-counted-log = refl
+counted_log : log_from (fresh_console 65 4 (zeros 65)) [] counted ≡ sent
+unfolding log_from Delivery.step_of sender.new_answer sender.request_answer requested_of request requests asks push_answer opened_of type_words divided messages_of whole_of slot_of ring_stored ring_read header_at words_from numbered state_ok walk_ok pop_one popped grown pushed longer appended entry_packet fitting front behind commands_in commands_of long_message above valid_of room_of need_of joined_to pushed_all queued_to queued_of words_check placed_of sent_of row_of packets_from served_in served_of idle_next idled_of sizes_of repeats_of any_words written_off new_of written_by sender.send_answer writing.write_answer check_of payload_valid written_of bytes_of spliced
+counted_log = refl
 
-sent_is : sentBy console ≡ sent
-sent_is = ap (logFrom (freshConsole 65 4 (zeros 65)) []) counted_is ∙ counted-log
+sent_is : sent_by console ≡ sent
+sent_is = ap (log_from (fresh_console 65 4 (zeros 65)) []) counted_is ∙ counted_log
 
 -- ---- the chamber
 
 abbrev heard : List Call
 heard =
-    on-stream (on-ump-data plain 6 1 B) ∷ on-stream (Calls.poll plain 16) ∷ open-payload 1400 (zeros 12) ∷ write-into 0 plain 16
-    ∷ on-stream (on-ump-data plain 21 0 A)
+    on_stream (on_ump_data plain 6 1 B) ∷ on_stream (Calls.poll plain 16) ∷ open_payload 1400 (zeros 12) ∷ write_into 0 plain 16
+    ∷ on_stream (on_ump_data plain 21 0 A)
     ∷ []
 
-heard-allowed : EachAllowed heard
-heard-allowed = omega arith
+heard_allowed : EachAllowed heard
+heard_allowed = omega arith
 
 abbrev chamber : End
-chamber = record { settings = plain; window = 4; words = 65; places = 4; ring₀ = zeros 65; started = started; calls = heard; allowed = heard-allowed }
+chamber = record { settings = plain; window = 4; words = 65; places = 4; ring₀ = zeros 65; started = started; calls = heard; allowed = heard_allowed }
 
 called_is : (run_of chamber).called
-    ≡ on-ump-data plain 6 1 B ∷ Calls.poll plain 16 ∷ Calls.write-data plain 16 (record { len = 0; max = 1400 }) (zeros 12) ∷ on-ump-data plain 21 0 A ∷ []
+    ≡ on_ump_data plain 6 1 B ∷ Calls.poll plain 16 ∷ Calls.write_data plain 16 (record { len = 0; max = 1400 }) (zeros 12) ∷ on_ump_data plain 21 0 A ∷ []
 unfolding run_of run_from step_of Delivery.step_of opened_of
 called_is = refl
 
 abbrev arrivals : List Chamber.Call
-arrivals = data-command plain 6 1 B ∷ poll plain 16 ∷ take-request plain (record { len = 0; max = 1400 }) (zeros 12) ∷ data-command plain 21 0 A ∷ []
+arrivals = data_command plain 6 1 B ∷ poll plain 16 ∷ take_request plain (record { len = 0; max = 1400 }) (zeros 12) ∷ data_command plain 21 0 A ∷ []
 
 -- whatever the take comes to, it is the receiver's call
-same_received : (a : Request) (e : Ends) (c : Sender.Call) → (unlessCut a e c).received ≡ e.received
+same_received : (a : Request) (e : Ends) (c : Sender.Call) → (unless_cut a e c).received ≡ e.received
 same_received NotDue e c = refl
 same_received Taken e c = refl
 same_received NoSpace e c = refl
 same_received (NotTaken why) e c = refl
 
-write-received : (W : ℕ) (e : Ends) (cfg : StreamConfig) (time : ℕ) (p : PayloadWriter) (b : List ℕ) → (endsAfter W e (Calls.write-data cfg time p b)).received ≡ e.received ++ (take-request cfg p b ∷ [])
-unfolding endsAfter
-write-received W e cfg time p b =
-    let t = Ends.takenAfter W e.received cfg p b in
-    same_received t.0.answer (Ends.receiving e (take-request cfg p b)) (Sender.write cfg time t.0.payload t.1)
+write_received : (W : ℕ) (e : Ends) (cfg : StreamConfig) (time : ℕ) (p : PayloadWriter) (b : List ℕ) → (ends_after W e (Calls.write_data cfg time p b)).received ≡ e.received ++ (take_request cfg p b ∷ [])
+unfolding ends_after
+write_received W e cfg time p b =
+    let t = Ends.taken_after W e.received cfg p b in
+    same_received t.0.answer (Ends.receiving e (take_request cfg p b)) (Sender.write cfg time t.0.payload t.1)
 
-arrivals-are : (Ends.endsOf 4 (run_of chamber).called).received ≡ arrivals
-unfolding endsFrom endsAfter
-arrivals-are =
-    ap (λ (calls : List Calls.Call). (Ends.endsOf 4 calls).received) called_is
-    ∙ ap (λ (xs : List Chamber.Call). xs ++ (data-command plain 21 0 A ∷ []))
-    (write-received 4 record { received = data-command plain 6 1 B ∷ poll plain 16 ∷ []; sent = [] } plain 16 (record { len = 0; max = 1400 }) (zeros 12))
+arrivals_are : (Ends.ends_of 4 (run_of chamber).called).received ≡ arrivals
+unfolding ends_from ends_after
+arrivals_are =
+    ap (λ (calls : List Calls.Call). (Ends.ends_of 4 calls).received) called_is
+    ∙ ap (λ (xs : List Chamber.Call). xs ++ (data_command plain 21 0 A ∷ []))
+    (write_received 4 record { received = data_command plain 6 1 B ∷ poll plain 16 ∷ []; sent = [] } plain 16 (record { len = 0; max = 1400 }) (zeros 12))
 
 abbrev delivery : ℕ → Class → Span → Delivery
 delivery seq class gap = record { seq = seq; class = class; gap = gap; lost = Nothing }
 
 abbrev arrived : List Heard
 arrived =
-    data-entry plain 21 0 A (Delivered (delivery 0 Late Nothing))
-    ∷ take-entry plain (record { len = 0; max = 1400 }) (zeros 12) Taken (record { len = 12; max = 1400 }) (bytes_of (0x4D494449 ∷ 0x80010000 ∷ 0x00010000 ∷ []))
-    ∷ poll-entry plain 16 NoEvent
-    ∷ data-entry plain 6 1 B (Delivered (delivery 1 (New 1) (Of record { first = 0; count = 1 })))
+    data_entry plain 21 0 A (Delivered (delivery 0 Late Nothing))
+    ∷ take_entry plain (record { len = 0; max = 1400 }) (zeros 12) Taken (record { len = 12; max = 1400 }) (bytes_of (0x4D494449 ∷ 0x80010000 ∷ 0x00010000 ∷ []))
+    ∷ poll_entry plain 16 NoEvent
+    ∷ data_entry plain 6 1 B (Delivered (delivery 1 (New 1) (Of record { first = 0; count = 1 })))
     ∷ []
 
 typed : AllTyped arrivals
 typed = omega arith
 
-arrivals-log : logOf 4 arrivals ≡ arrived
-unfolding said_of answer_of checkOf classIn isAhead place lostIn lostAt missingEnds endsOf unprocessed start dueAfter askedFor payloadValid written_of bytes_of spliced
-arrivals-log = run-said 4 (omega arith) (omega arith) arrivals typed ∙ refl
+arrivals_log : log_of 4 arrivals ≡ arrived
+unfolding said_of answer_of check_of class_in is_ahead place lost_in lost_at missing_ends ends_of unprocessed start due_after asked_for payload_valid written_of bytes_of spliced
+arrivals_log = run_said 4 (omega arith) (omega arith) arrivals typed ∙ refl
 
-arrived-is : heardBy chamber ≡ arrived
-arrived-is = ap (logOf 4) arrivals-are ∙ arrivals-log
+arrived_is : heard_by chamber ≡ arrived
+arrived_is = ap (log_of 4) arrivals_are ∙ arrivals_log
 
 -- ---- the line
 
@@ -220,56 +220,56 @@ a = record { number = 0; words = A }
 abbrev b : Command
 b = record { number = 1; words = B }
 
-reads : (data_of (bytes withA) ≡ a ∷ []) × (data_of (bytes with_b) ≡ b ∷ [])
-unfolding data_of dataIn wholesIn items_of itemsFrom signed words_of bytes_of
+reads : (data_of (bytes with_a) ≡ a ∷ []) × (data_of (bytes with_b) ≡ b ∷ [])
+unfolding data_of data_in wholes_in items_of items_from signed words_of bytes_of
 reads = (refl, refl)
 
 -- the command of payload 1 opened position 1; that of payload 2 repeats position 0
 places : (1 ≡ position_of (written sent) 1 0) × (0 ≡ position_of (written sent) 2 0)
-unfolding data_of dataIn wholesIn items_of itemsFrom signed words_of bytes_of opens position newestWith
+unfolding data_of data_in wholes_in items_of items_from signed words_of bytes_of opens position newest_with
 places = (refl, refl)
 
 line : Line sent arrived (0 ∷ 1 ∷ [])
 line =
     hear (pass (pass (hear fresh
-    1 with_b (was _ (was _ (was _ (was-wrote _ _ _ _ _)))) [] [] b reads.1 1 places.0 (omega arith) (omega arith) plain 6 _)
+    1 with_b (was _ (was _ (was _ (was_wrote _ _ _ _ _)))) [] [] b reads.1 1 places.0 (omega arith) (omega arith) plain 6 _)
     _ refl) _ refl)
-    2 withA (was-wrote _ _ _ _ _) [] [] a reads.0 0 places.1 (omega arith) (omega arith) plain 21 _
+    2 with_a (was_wrote _ _ _ _ _) [] [] a reads.0 0 places.1 (omega arith) (omega arith) plain 21 _
 
 -- ---- the premises
 
-positions-are : positions sent ≡ A ∷ B ∷ []
-unfolding data_of dataIn wholesIn items_of itemsFrom signed words_of bytes_of opens
-positions-are = refl
+positions_are : positions sent ≡ A ∷ B ∷ []
+unfolding data_of data_in wholes_in items_of items_from signed words_of bytes_of opens
+positions_are = refl
 
 handed : (high (reports arrived) ≡ origin + 1) × (times (reports arrived) origin ≡ 1)
-unfolding place isAhead
+unfolding place is_ahead
 handed = (refl, refl)
 
-none-missing : (x : ℕ) → Missing 4 (reports arrived) x → ⊥
-none-missing x m =
-    let e : x ≡ origin = omega (arith, handed.0, m.from-0, m.below) in
-    let z : times (reports arrived) origin ≡ 0 = rw e at m.not-handed-on in
+none_missing_lem : (x : ℕ) → Missing 4 (reports arrived) x → ⊥
+none_missing_lem x m =
+    let e : x ≡ origin = omega (arith, handed.0, m.from_0, m.below) in
+    let z : times (reports arrived) origin ≡ 0 = rw e at m.not_handed_on in
     omega (arith, handed.1)
 
 premises : Premises 4 sent arrived (0 ∷ 1 ∷ [])
 unfolding words_in
 premises = record {
   line = line;
-  all-written = rw positions-are;
-  newest-heard = rw positions-are (λ some. Memᴰ.tail (Memᴰ.head refl));
-  no-loss = (refl, (refl, (refl, (refl, tt))));
-  nothing-missing = none-missing;
+  all_written = rw positions_are;
+  newest_heard = rw positions_are (λ some. Memᴰ.tail (Memᴰ.head refl));
+  no_loss = (refl, (refl, (refl, (refl, tt))));
+  nothing_missing_lem = none_missing_lem;
 }
 
 pub example : Pair
 example = record { console = console; chamber = chamber }
 
 -- so the sentence is said of something
-pub example-holds : Holds example
+pub example_holds : Holds example
 unfolding example
-example-holds = (0 ∷ 1 ∷ [], rw (sent_is, arrived-is) premises)
+example_holds = (0 ∷ 1 ∷ [], rw (sent_is, arrived_is) premises)
 
-pub example-said : handedOn (reportsBy example.chamber) ≡ A ++ B
+pub example_said : handed_on (reports_by example.chamber) ≡ A ++ B
 unfolding example
-example-said = stream-sentence.joined example example-holds ∙ ap accepted sent_is
+example_said = stream_sentence.joined example example_holds ∙ ap accepted sent_is

@@ -2,24 +2,24 @@
 -- payload's.
 use Rattle.std.specs.Prelude.{ℕ, ◌+◌, Bool, true, cond, not, ◌||◌, ◌&&◌, List, [], ◌∷◌, ltb, eqb, length}
 use Rattle.config.specs.Entry.{entry}
-use Rattle.config.specs.Settings.{checkOf}
+use Rattle.config.specs.Settings.{check_of}
 use Rattle.config.specs.declared.refusal.Refusal.{Refusal}
 use Rattle.config.specs.declared.refusal.Refusal.TheVariants.{TooLarge}
 use Rattle.config.specs.declared.settings.StreamConfig.{StreamConfig}
 use Rattle.packet.specs.Layout.{Packet, size_of}
-use Rattle.packet.specs.Write.{limitOf, start_of, written_of, valid_of as payloadValid}
+use Rattle.packet.specs.Write.{limit_of, start_of, written_of, valid_of as payload_valid}
 use Rattle.packet.specs.declared.writer.PayloadWriter.{PayloadWriter}
-use Rattle.command.specs.Write.{requestPacket}
+use Rattle.command.specs.Write.{request_packet}
 use Rattle.window.specs.declared.window.Span.{Span}
 use Rattle.window.specs.declared.window.Span.TheVariants.{Nothing as NoSpan, Of}
-use Rattle.idle.specs.Schedule.{isDue}
-use Rattle.receiver.specs.Receiver.{deadlineAt}
+use Rattle.idle.specs.Schedule.{is_due}
+use Rattle.receiver.specs.Receiver.{deadline_at}
 use Rattle.receiver_log.specs.Calls as Receiver
 use Rattle.receiver_log.specs.Log.{reports}
-use Rattle.receiver_log.specs.Spans.{requestIn}
-use Rattle.receiver_log.specs.Timing.{timerIn, dueIn, enabledIn}
-use Rattle.receiver_log.specs.Answers.{answer_of as receiverAnswer}
-use Rattle.receiver_log.specs.Promise.{logOf}
+use Rattle.receiver_log.specs.Spans.{request_in}
+use Rattle.receiver_log.specs.Timing.{timer_in, due_in, enabled_in}
+use Rattle.receiver_log.specs.Answers.{answer_of as receiver_answer}
+use Rattle.receiver_log.specs.Promise.{log_of}
 use Rattle.sender.specs.Requests.{due_at}
 use Rattle.config.specs.declared.answer.Outcome.TheVariants.{Done}
 use Rattle.config.specs.declared.answer.Answered.TheVariants.{Is}
@@ -28,13 +28,13 @@ use Rattle.config.specs.declared.answer.Deadline.TheVariants.{Nothing}
 use Rattle.writing.specs.declared.writing.Writing.{Writing}
 use Rattle.writing.specs.declared.writing.Writing.TheVariants.{Written, Refused}
 use Rattle.sender_log.specs.Book.{Book}
-use Rattle.sender_log.specs.Writes.{is_empty, writeIn}
+use Rattle.sender_log.specs.Writes.{is_empty, write_in}
 use Rattle.sender_log.specs.Calls as Sender
-use Rattle.sender_log.specs.Answers.{toldOf, bookOf}
+use Rattle.sender_log.specs.Answers.{told_of, book_of}
 use Rattle.stream.specs.Answers.{earlier}
-use Rattle.stream.specs.Writing.{countedAlso}
-use Rattle.stream_log.specs.Calls.{Call, send-ump, on-retransmit-request, on-ump-data, on-retransmit-error, on-retransmit-nak, poll, write-request, write-data, next-deadline, wants-write, reset, Entry, by-sender, by-receiver, wrote, deadline, wants, was-reset}
-use Rattle.stream_log.specs.Ends.{Ends, endsAfter}
+use Rattle.stream.specs.Writing.{counted_also}
+use Rattle.stream_log.specs.Calls.{Call, send_ump, on_retransmit_request, on_ump_data, on_retransmit_error, on_retransmit_nak, poll, write_request, write_data, next_deadline, wants_write, reset, Entry, by_sender, by_receiver, wrote, deadline, wants, was_reset}
+use Rattle.stream_log.specs.Ends.{Ends, ends_after}
 
 -- ---- a write
 
@@ -44,72 +44,72 @@ pub record Out : Type 0 where
   pub payload : PayloadWriter
   pub bytes : List ℕ
 
-abbrev pub refusedOut : PayloadWriter → List ℕ → Refusal → Out
-refusedOut p b why = record { answer = Refused why; payload = p; bytes = b }
+abbrev pub refused_out : PayloadWriter → List ℕ → Refusal → Out
+refused_out p b why = record { answer = Refused why; payload = p; bytes = b }
 
-abbrev pub moreOut : PayloadWriter → List ℕ → Out
-moreOut p b = record { answer = Written record { commands = 0; more = true }; payload = p; bytes = b }
+abbrev pub more_out : PayloadWriter → List ℕ → Out
+more_out p b = record { answer = Written record { commands = 0; more = true }; payload = p; bytes = b }
 
 -- the sender's write, behind n commands
-abbrev pub sentOut : ℕ → ℕ → Book → StreamConfig → ℕ → PayloadWriter → List ℕ → Out
-sentOut n c k cfg time p b = let w = writeIn c cfg time k p b in record { answer = countedAlso n w.answer; payload = w.payload; bytes = w.bytes }
+abbrev pub sent_out : ℕ → ℕ → Book → StreamConfig → ℕ → PayloadWriter → List ℕ → Out
+sent_out n c k cfg time p b = let w = write_in c cfg time k p b in record { answer = counted_also n w.answer; payload = w.payload; bytes = w.bytes }
 
-abbrev pub asCommand : Span → List Packet
-asCommand NoSpan = []
-asCommand (Of range) = requestPacket record { seq = range.first; count = range.count } ∷ []
+abbrev pub as_command : Span → List Packet
+as_command NoSpan = []
+as_command (Of range) = request_packet record { seq = range.first; count = range.count } ∷ []
 
 -- a due request; dropped if requests are disabled or nothing is missing
-unfoldable pub requestWanted : ℕ → List Receiver.Entry → StreamConfig → List Packet
-requestWanted W t cfg = cond (dueIn W t && enabledIn t cfg) (asCommand (requestIn W (reports t))) []
+unfoldable pub request_wanted : ℕ → List Receiver.Entry → StreamConfig → List Packet
+request_wanted W t cfg = cond (due_in W t && enabled_in t cfg) (as_command (request_in W (reports t))) []
 
 -- 3 when the payload is empty and the due request doesn't fit; not fitting a nonempty payload is no refusal but "more"
-abbrev pub requestFirst : ℕ → Book → StreamConfig → ℕ → PayloadWriter → List ℕ → List Packet → Out
-requestFirst c k cfg time p b [] = sentOut 0 c k cfg time p b
-requestFirst c k cfg time p b (request ∷ none) =
+abbrev pub request_first : ℕ → Book → StreamConfig → ℕ → PayloadWriter → List ℕ → List Packet → Out
+request_first c k cfg time p b [] = sent_out 0 c k cfg time p b
+request_first c k cfg time p b (request ∷ none) =
     let w = written_of p b request in
-    cond (ltb (limitOf p (length b)) (start_of p + size_of request)) (cond (eqb p.len 0) (refusedOut p b TooLarge) (moreOut p b))
-    (sentOut 1 c k cfg time w.0.payload w.1)
+    cond (ltb (limit_of p (length b)) (start_of p + size_of request)) (cond (eqb p.len 0) (refused_out p b TooLarge) (more_out p b))
+    (sent_out 1 c k cfg time w.0.payload w.1)
 
 -- settings, then the payload
-unfoldable pub writeOut : ℕ → ℕ → List Receiver.Entry → Book → StreamConfig → ℕ → PayloadWriter → List ℕ → Out
-writeOut W c t k cfg time p b =
-    entry (checkOf cfg) (payloadValid p (length b)) (refusedOut p b) (requestFirst c k cfg time p b (requestWanted W t cfg))
+unfoldable pub write_out : ℕ → ℕ → List Receiver.Entry → Book → StreamConfig → ℕ → PayloadWriter → List ℕ → Out
+write_out W c t k cfg time p b =
+    entry (check_of cfg) (payload_valid p (length b)) (refused_out p b) (request_first c k cfg time p b (request_wanted W t cfg))
 
 -- ---- questions
 
 -- the earlier of the request timer's due time and, if no command is unwritten, that of an idle command
-abbrev pub deadlineIn : ℕ → List Receiver.Entry → Book → Deadline
-deadlineIn W t k = earlier (deadlineAt (timerIn W t)) (cond (is_empty k.unwritten) (due_at k.idle) Nothing)
+abbrev pub deadline_in : ℕ → List Receiver.Entry → Book → Deadline
+deadline_in W t k = earlier (deadline_at (timer_in W t)) (cond (is_empty k.unwritten) (due_at k.idle) Nothing)
 
 -- a request is due, a command is unwritten, a request waits, or an idle command is due
-abbrev pub wantsIn : ℕ → List Receiver.Entry → Book → ℕ → Bool
-wantsIn W t k time = dueIn W t || (not (is_empty k.unwritten) || (not (is_empty k.waiting) || isDue k.idle time))
+abbrev pub wants_in : ℕ → List Receiver.Entry → Book → ℕ → Bool
+wants_in W t k time = due_in W t || (not (is_empty k.unwritten) || (not (is_empty k.waiting) || is_due k.idle time))
 
 -- ---- all calls
 
 -- those of one end: what that end answers
-abbrev pub receiverSays : ℕ → Ends → Receiver.Call → Entry
-receiverSays W e call = by-receiver (receiverAnswer W (logOf W e.received) call)
+abbrev pub receiver_says : ℕ → Ends → Receiver.Call → Entry
+receiver_says W e call = by_receiver (receiver_answer W (log_of W e.received) call)
 
-abbrev pub senderSays : ℕ → ℕ → Ends → Sender.Call → Entry
-senderSays c q e call = by-sender (toldOf c q (bookOf c q e.sent) call).entry
+abbrev pub sender_says : ℕ → ℕ → Ends → Sender.Call → Entry
+sender_says c q e call = by_sender (told_of c q (book_of c q e.sent) call).entry
 
 unfoldable pub answer_of : ℕ → ℕ → ℕ → Ends → Call → Entry
-answer_of W c q e (send-ump cfg ws) = senderSays c q e (Sender.queue-words cfg ws)
-answer_of W c q e (on-retransmit-request cfg r) = senderSays c q e (Sender.retransmit-request cfg r)
-answer_of W c q e (on-ump-data cfg time seq ws) = receiverSays W e (Receiver.data-command cfg time seq ws)
-answer_of W c q e (on-retransmit-error err) = receiverSays W e (Receiver.retransmit-error err)
-answer_of W c q e on-retransmit-nak = receiverSays W e Receiver.nak
-answer_of W c q e (poll cfg time) = receiverSays W e (Receiver.poll cfg time)
-answer_of W c q e (write-request cfg p b) = receiverSays W e (Receiver.take-request cfg p b)
-answer_of W c q e (write-data cfg time p b) =
-    let w = writeOut W c (logOf W e.received) (bookOf c q e.sent) cfg time p b in
+answer_of W c q e (send_ump cfg ws) = sender_says c q e (Sender.queue_words cfg ws)
+answer_of W c q e (on_retransmit_request cfg r) = sender_says c q e (Sender.retransmit_request cfg r)
+answer_of W c q e (on_ump_data cfg time seq ws) = receiver_says W e (Receiver.data_command cfg time seq ws)
+answer_of W c q e (on_retransmit_error err) = receiver_says W e (Receiver.retransmit_error err)
+answer_of W c q e on_retransmit_nak = receiver_says W e Receiver.nak
+answer_of W c q e (poll cfg time) = receiver_says W e (Receiver.poll cfg time)
+answer_of W c q e (write_request cfg p b) = receiver_says W e (Receiver.take_request cfg p b)
+answer_of W c q e (write_data cfg time p b) =
+    let w = write_out W c (log_of W e.received) (book_of c q e.sent) cfg time p b in
     wrote cfg time p b w.answer w.payload w.bytes
-answer_of W c q e next-deadline = deadline (deadlineIn W (logOf W e.received) (bookOf c q e.sent))
-answer_of W c q e (wants-write time) = wants time (Is (wantsIn W (logOf W e.received) (bookOf c q e.sent) time))
-answer_of W c q e reset = was-reset Done
+answer_of W c q e next_deadline = deadline (deadline_in W (log_of W e.received) (book_of c q e.sent))
+answer_of W c q e (wants_write time) = wants time (Is (wants_in W (log_of W e.received) (book_of c q e.sent) time))
+answer_of W c q e reset = was_reset Done
 
 -- the log of a list of calls, from the calls alone
-unfoldable pub saidFrom : ℕ → ℕ → ℕ → Ends → List Entry → List Call → List Entry
-saidFrom W c q e t [] = t
-saidFrom W c q e t (call ∷ calls) = saidFrom W c q (endsAfter W e call) (answer_of W c q e call ∷ t) calls
+unfoldable pub said_from : ℕ → ℕ → ℕ → Ends → List Entry → List Call → List Entry
+said_from W c q e t [] = t
+said_from W c q e t (call ∷ calls) = said_from W c q (ends_after W e call) (answer_of W c q e call ∷ t) calls

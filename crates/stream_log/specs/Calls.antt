@@ -10,9 +10,9 @@ use Rattle.receiver_log.specs.Calls as Receiver
 use Rattle.writing.specs.declared.writing.Writing.{Writing}
 use Rattle.sender_log.specs.Calls.{TypedConfig}
 use Rattle.sender_log.specs.Calls as Sender
-use Rattle.stream.specs.Ends.{sendAnswer, requestAnswer, dataAnswer, errorAnswer, nakAnswer, pollAnswer, takeAnswer}
-use Rattle.stream.specs.Answers.{newAnswer, resetAnswer, deadlineAnswer, wantsAnswer}
-use Rattle.stream.specs.Writing.{writeAnswer}
+use Rattle.stream.specs.Ends.{send_answer, request_answer, data_answer, error_answer, nak_answer, poll_answer, take_answer}
+use Rattle.stream.specs.Answers.{new_answer, reset_answer, deadline_answer, wants_answer}
+use Rattle.stream.specs.Writing.{write_answer}
 use Rattle.stream.specs.declared.stream.DataStream.{DataStream}
 use Rattle.config.specs.declared.answer.Outcome.{Outcome}
 use Rattle.config.specs.declared.answer.Answered.{Answered}
@@ -21,34 +21,34 @@ use Rattle.config.specs.declared.answer.Deadline.{Deadline}
 -- a call of `DataStream`, each argument free
 pub data Call : Type 0 where
   -- settings, words
-  send-ump : StreamConfig → List ℕ → Call
+  send_ump : StreamConfig → List ℕ → Call
   -- settings, request
-  on-retransmit-request : StreamConfig → RetransmitRequest → Call
+  on_retransmit_request : StreamConfig → RetransmitRequest → Call
   -- settings, time, number, words
-  on-ump-data : StreamConfig → ℕ → ℕ → List ℕ → Call
-  on-retransmit-error : RetransmitError → Call
-  on-retransmit-nak : Call
+  on_ump_data : StreamConfig → ℕ → ℕ → List ℕ → Call
+  on_retransmit_error : RetransmitError → Call
+  on_retransmit_nak : Call
   -- settings, time
   poll : StreamConfig → ℕ → Call
   -- settings, payload, buffer
-  write-request : StreamConfig → PayloadWriter → List ℕ → Call
+  write_request : StreamConfig → PayloadWriter → List ℕ → Call
   -- settings, time, payload, buffer
-  write-data : StreamConfig → ℕ → PayloadWriter → List ℕ → Call
-  next-deadline : Call
+  write_data : StreamConfig → ℕ → PayloadWriter → List ℕ → Call
+  next_deadline : Call
   -- time
-  wants-write : ℕ → Call
+  wants_write : ℕ → Call
   reset : Call
 
 -- a call with its answer
 pub data Entry : Type 0 where
   -- of one end: as that end's log has it
-  by-sender : Sender.Entry → Entry
-  by-receiver : Receiver.Entry → Entry
+  by_sender : Sender.Entry → Entry
+  by_receiver : Receiver.Entry → Entry
   -- of a write also the payload and the buffer after it
   wrote : StreamConfig → ℕ → PayloadWriter → List ℕ → Writing → PayloadWriter → List ℕ → Entry
   deadline : Deadline → Entry
   wants : ℕ → Answered → Entry
-  was-reset : Outcome → Entry
+  was_reset : Outcome → Entry
 
 -- the stream and the history's words that a call leaves, and what goes into the log
 pub record Step : Type 0 where
@@ -57,35 +57,35 @@ pub record Step : Type 0 where
   pub entry : Entry
 
 unfoldable pub step_of : DataStream → List ℕ → Call → Step
-step_of s ring (send-ump cfg ws) =
-    let h = sendAnswer s cfg ring ws in
-    record { stream = h.0.stream; ring = h.1; entry = by-sender (Sender.queue-entry cfg ws h.0.answer) }
-step_of s ring (on-retransmit-request cfg r) =
-    let h = requestAnswer s cfg ring r in
-    record { stream = h.stream; ring = ring; entry = by-sender (Sender.request-entry cfg r h.outcome) }
-step_of s ring (on-ump-data cfg time seq ws) =
-    let h = dataAnswer s cfg time seq in
-    record { stream = h.stream; ring = ring; entry = by-receiver (Receiver.data-entry cfg time seq ws h.answer) }
-step_of s ring (on-retransmit-error err) =
-    let h = errorAnswer s err in
-    record { stream = h.stream; ring = ring; entry = by-receiver (Receiver.error-entry err h.event) }
-step_of s ring on-retransmit-nak =
-    let h = nakAnswer s in
-    record { stream = h.stream; ring = ring; entry = by-receiver (Receiver.nak-entry h.event) }
+step_of s ring (send_ump cfg ws) =
+    let h = send_answer s cfg ring ws in
+    record { stream = h.0.stream; ring = h.1; entry = by_sender (Sender.queue_entry cfg ws h.0.answer) }
+step_of s ring (on_retransmit_request cfg r) =
+    let h = request_answer s cfg ring r in
+    record { stream = h.stream; ring = ring; entry = by_sender (Sender.request_entry cfg r h.outcome) }
+step_of s ring (on_ump_data cfg time seq ws) =
+    let h = data_answer s cfg time seq in
+    record { stream = h.stream; ring = ring; entry = by_receiver (Receiver.data_entry cfg time seq ws h.answer) }
+step_of s ring (on_retransmit_error err) =
+    let h = error_answer s err in
+    record { stream = h.stream; ring = ring; entry = by_receiver (Receiver.error_entry err h.event) }
+step_of s ring on_retransmit_nak =
+    let h = nak_answer s in
+    record { stream = h.stream; ring = ring; entry = by_receiver (Receiver.nak_entry h.event) }
 step_of s ring (poll cfg time) =
-    let h = pollAnswer s cfg time in
-    record { stream = h.stream; ring = ring; entry = by-receiver (Receiver.poll-entry cfg time h.event) }
-step_of s ring (write-request cfg p b) =
-    let h = takeAnswer s cfg p b in
-    record { stream = h.0.stream; ring = ring; entry = by-receiver (Receiver.take-entry cfg p b h.0.answer h.0.payload h.1) }
-step_of s ring (write-data cfg time p b) =
-    let h = writeAnswer s cfg time p b ring in
+    let h = poll_answer s cfg time in
+    record { stream = h.stream; ring = ring; entry = by_receiver (Receiver.poll_entry cfg time h.event) }
+step_of s ring (write_request cfg p b) =
+    let h = take_answer s cfg p b in
+    record { stream = h.0.stream; ring = ring; entry = by_receiver (Receiver.take_entry cfg p b h.0.answer h.0.payload h.1) }
+step_of s ring (write_data cfg time p b) =
+    let h = write_answer s cfg time p b ring in
     record { stream = h.0.stream; ring = h.2; entry = wrote cfg time p b h.0.answer h.0.payload h.1 }
-step_of s ring next-deadline = record { stream = s; ring = ring; entry = deadline (deadlineAnswer s ring) }
-step_of s ring (wants-write time) = record { stream = s; ring = ring; entry = wants time (wantsAnswer s ring time) }
+step_of s ring next_deadline = record { stream = s; ring = ring; entry = deadline (deadline_answer s ring) }
+step_of s ring (wants_write time) = record { stream = s; ring = ring; entry = wants time (wants_answer s ring time) }
 step_of s ring reset =
-    let h = resetAnswer s ring in
-    record { stream = h.0.stream; ring = h.1; entry = was-reset h.0.answer }
+    let h = reset_answer s ring in
+    record { stream = h.0.stream; ring = h.1; entry = was_reset h.0.answer }
 
 -- the stream left, the history's words, and the log, newest first
 pub record Run : Type 0 where
@@ -99,20 +99,20 @@ run_from s ring t (c ∷ calls) = run_from (step_of s ring c).stream (step_of s 
 
 -- from a start with this window, over a lent history of c words, with q places for requests
 unfoldable pub run : StreamConfig → ℕ → ℕ → ℕ → List ℕ → List Call → Run
-run cfg W c q ring₀ calls = run_from (newAnswer cfg W c q ring₀).0.stream (newAnswer cfg W c q ring₀).1 [] calls
+run cfg W c q ring₀ calls = run_from (new_answer cfg W c q ring₀).0.stream (new_answer cfg W c q ring₀).1 [] calls
 
 -- words have 32 bits, numbers and counts 16, R and K 8
 abbrev pub Typed : Call → Type 0
-Typed (send-ump cfg ws) = TypedConfig cfg × Words32 ws
-Typed (on-retransmit-request cfg r) = TypedConfig cfg × (r.seq < turn) × (r.count < turn)
-Typed (on-ump-data cfg time seq ws) = seq < turn
-Typed (on-retransmit-error err) = Unit {0}
-Typed on-retransmit-nak = Unit {0}
+Typed (send_ump cfg ws) = TypedConfig cfg × Words32 ws
+Typed (on_retransmit_request cfg r) = TypedConfig cfg × (r.seq < turn) × (r.count < turn)
+Typed (on_ump_data cfg time seq ws) = seq < turn
+Typed (on_retransmit_error err) = Unit {0}
+Typed on_retransmit_nak = Unit {0}
 Typed (poll cfg time) = Unit {0}
-Typed (write-request cfg p b) = Unit {0}
-Typed (write-data cfg time p b) = TypedConfig cfg
-Typed next-deadline = Unit {0}
-Typed (wants-write time) = Unit {0}
+Typed (write_request cfg p b) = Unit {0}
+Typed (write_data cfg time p b) = TypedConfig cfg
+Typed next_deadline = Unit {0}
+Typed (wants_write time) = Unit {0}
 Typed reset = Unit {0}
 
 abbrev pub AllTyped : List Call → Type 0

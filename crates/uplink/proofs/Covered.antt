@@ -11,43 +11,43 @@ use Rattle.config.specs.declared.refusal.Refusal.TheVariants.{DivisionsNotAllowe
 use Rattle.uplink.specs.Grants.{next_of, allowed, step_of}
 use Rattle.uplink.specs.Promise.{Shared, StepShared, Call, none, taken_of, Once, EachFirstOnce}
 use Rattle.config.specs.declared.answer.Outcome.TheVariants.{Refused}
-use Rattle.uplink.proofs.Turns.{next-in, taken-granted, taken_refused}
+use Rattle.uplink.proofs.Turns.{next_in_lem, taken_granted, taken_refused}
 
 -- ---- a step
 
 -- 1 to 8 divisions, and each of their turns
-pub every-number : (n turn : ℕ) → 1 ≤ n → n ≤ 8 → turn < n → allowed n turn ≡ true
+pub every_number : (n turn : ℕ) → 1 ≤ n → n ≤ 8 → turn < n → allowed n turn ≡ true
 unfolding allowed
-every-number n turn l m h = rw (le-leb 1 n l, le-leb n 8 m, lt-ltb turn n h)
+every_number n turn l m h = rw (le-leb 1 n l, le-leb n 8 m, lt-ltb turn n h)
 
 -- A and each want up to 65,535; none of them is asked to be larger or smaller than another
-pub every-step : StepShared → (a turn : ℕ) (wants : List ℕ) → a ≤ 65535 → ((i : ℕ) → i < length wants → get_or wants i 0 ≤ 65535)
+pub every_step : StepShared → (a turn : ℕ) (wants : List ℕ) → a ≤ 65535 → ((i : ℕ) → i < length wants → get_or wants i 0 ≤ 65535)
     → 1 ≤ length wants → length wants ≤ 8 → turn < length wants → Shared a wants (step_of a turn wants).grants
-every-step s a turn wants p q l m h = s a turn wants (every-number (length wants) turn l m h)
+every_step s a turn wants p q l m h = s a turn wants (every_number (length wants) turn l m h)
 
 -- ---- a refused call
 
 -- its number is 18; nothing is granted, and the turn stays
-pub every-refusal : (a turn : ℕ) (wants : List ℕ) → allowed (length wants) turn ≡ false
+pub every_refusal : (a turn : ℕ) (wants : List ℕ) → allowed (length wants) turn ≡ false
     → step_of a turn wants ≡ record { grants = replicate 8 0; turn = turn; answer = Refused DivisionsNotAllowed }
 unfolding step_of
-every-refusal a turn wants e = rw e
+every_refusal a turn wants e = rw e
 
-its-number : number_of DivisionsNotAllowed ≡ 18
-its-number = refl
+its_number : number_of DivisionsNotAllowed ≡ 18
+its_number = refl
 
 -- no divisions, more than eight, or a turn that is not one of them
-no-divisions : (turn : ℕ) → allowed 0 turn ≡ false
+no_divisions : (turn : ℕ) → allowed 0 turn ≡ false
 unfolding allowed
-no-divisions turn = refl
+no_divisions turn = refl
 
-many-divisions : (n turn : ℕ) → 8 < n → allowed n turn ≡ false
+many_divisions : (n turn : ℕ) → 8 < n → allowed n turn ≡ false
 unfolding allowed
-many-divisions n turn h = rw (le-leb 1 n (omega arith), lt-leb n 8 h)
+many_divisions n turn h = rw (le-leb 1 n (omega arith), lt-leb n 8 h)
 
-no-turn : (n turn : ℕ) → 1 ≤ n → n ≤ 8 → n ≤ turn → allowed n turn ≡ false
+no_turn : (n turn : ℕ) → 1 ≤ n → n ≤ 8 → n ≤ turn → allowed n turn ≡ false
 unfolding allowed
-no-turn n turn l m h = rw (le-leb 1 n l, le-leb n 8 m, le-ltb turn n h)
+no_turn n turn l m h = rw (le-leb 1 n l, le-leb n 8 m, le-ltb turn n h)
 
 -- ---- a list of calls
 
@@ -57,35 +57,35 @@ Each n [] = Unit {0}
 Each n (c ∷ cs) = (length c.wants ≡ n) × Each n cs
 
 module _ (n : ℕ) (m : n ≤ 8) where
-  head-taken : (turn : ℕ) (c : Call) (cs : List Call) → length c.wants ≡ n → turn < n
+  head_taken : (turn : ℕ) (c : Call) (cs : List Call) → length c.wants ≡ n → turn < n
       → taken_of turn (c ∷ cs) ≡ record { turn = turn; divisions = n } ∷ taken_of (next_of n turn) cs
-  head-taken turn c cs e h = rw (← e) (taken-granted turn c cs (every-number (length c.wants) turn (omega arith) (omega arith) (omega arith)))
+  head_taken turn c cs e h = rw (← e) (taken_granted turn c cs (every_number (length c.wants) turn (omega arith) (omega arith) (omega arith)))
 
-  all-taken : (turn : ℕ) (cs : List Call) → Each n cs → turn < n → length (taken_of turn cs) ≡ length cs
+  all_taken : (turn : ℕ) (cs : List Call) → Each n cs → turn < n → length (taken_of turn cs) ≡ length cs
   unfolding taken_of
-  all-taken turn [] each h = refl
-  all-taken turn (c ∷ cs) each h = rw (head-taken turn c cs each.0 h, all-taken (next_of n turn) cs each.1 (next-in n turn h))
+  all_taken turn [] each h = refl
+  all_taken turn (c ∷ cs) each h = rw (head_taken turn c cs each.0 h, all_taken (next_of n turn) cs each.1 (next_in_lem n turn h))
 
-  all-divisions : (turn : ℕ) (cs : List Call) → Each n cs → turn < n → (k : ℕ) → k < length cs → (get_or (taken_of turn cs) k none).divisions ≡ n
+  all_divisions : (turn : ℕ) (cs : List Call) → Each n cs → turn < n → (k : ℕ) → k < length cs → (get_or (taken_of turn cs) k none).divisions ≡ n
   unfolding taken_of
-  all-divisions turn [] each h k p = absurd (let z : ⊥ = omega arith in z)
-  all-divisions turn (c ∷ cs) each h zero p = rw (head-taken turn c cs each.0 h)
-  all-divisions turn (c ∷ cs) each h (suc k) p = rw (head-taken turn c cs each.0 h) (all-divisions (next_of n turn) cs each.1 (next-in n turn h) k (omega arith))
+  all_divisions turn [] each h k p = absurd (let z : ⊥ = omega arith in z)
+  all_divisions turn (c ∷ cs) each h zero p = rw (head_taken turn c cs each.0 h)
+  all_divisions turn (c ∷ cs) each h (suc k) p = rw (head_taken turn c cs each.0 h) (all_divisions (next_of n turn) cs each.1 (next_in_lem n turn h) k (omega arith))
 
   -- n calls of n divisions, from each of their turns on
-  pub every-round : EachFirstOnce → (turn : ℕ) (cs : List Call) → Each n cs → length cs ≡ n → turn < n
+  pub every_round : EachFirstOnce → (turn : ℕ) (cs : List Call) → Each n cs → length cs ≡ n → turn < n
       → (division : ℕ) → division < n → Once n division (λ k. (get_or (taken_of turn cs) k none).turn)
-  every-round once turn cs each l h = once turn n cs (rw (all-taken turn cs each h) l) (λ k p. all-divisions turn cs each h k (omega arith))
+  every_round once turn cs each l h = once turn n cs (rw (all_taken turn cs each h) l) (λ k p. all_divisions turn cs each h k (omega arith))
 
 -- a refused call adds nothing, wherever it stands
-pub every-between : (turn : ℕ) (c : Call) (cs : List Call) → allowed (length c.wants) turn ≡ false → taken_of turn (c ∷ cs) ≡ taken_of turn cs
-every-between turn c cs e = taken_refused turn c cs e
+pub every_between : (turn : ℕ) (c : Call) (cs : List Call) → allowed (length c.wants) turn ≡ false → taken_of turn (c ∷ cs) ≡ taken_of turn cs
+every_between turn c cs e = taken_refused turn c cs e
 
 -- two divisions from turn 1 on, and refused calls between: no divisions, and nine
 abbrev of : List ℕ → Call
 of wants = record { words = 100; wants = wants }
 
-refused-between : taken_of 1 (of (10 ∷ 50 ∷ []) ∷ of [] ∷ of (replicate 9 1) ∷ of (60 ∷ 70 ∷ []) ∷ [])
+refused_between : taken_of 1 (of (10 ∷ 50 ∷ []) ∷ of [] ∷ of (replicate 9 1) ∷ of (60 ∷ 70 ∷ []) ∷ [])
     ≡ record { turn = 1; divisions = 2 } ∷ record { turn = 0; divisions = 2 } ∷ []
 unfolding taken_of step_of allowed next_of
-refused-between = refl
+refused_between = refl

@@ -10,13 +10,13 @@ use lib.Seq.{sets, sets-eq, take_all, length-sets, length-take-le, drop_at}
 use lib.Dec.{ltb}
 use Rattle.config.specs.Range.{within, outside}
 use Rattle.config.specs.declared.refusal.Refusal.TheVariants.{DivisionsNotAllowed}
-use Rattle.config.specs.inner.Ranges.{not-outside}
+use Rattle.config.specs.inner.Ranges.{not_outside}
 use Rattle.config.specs.inner.Tests.{and_right}
-use Rattle.uplink.specs.Grants.{sum, share_of, firsts, granted, left_of, roundFrom, grantsOf, next_of, places, allowed, step_of}
+use Rattle.uplink.specs.Grants.{sum, share_of, firsts, granted, left_of, round_from, grants_of, next_of, places, allowed, step_of}
 use Rattle.config.specs.declared.answer.Outcome.TheVariants.{Done, Refused}
 use Rattle.uplink.specs.declared.grants.Served.{Served}
 use Rattle.uplink.specs.declared.grants.Step.{Step}
-use Rattle.uplink.proofs.Sums.{length-granted}
+use Rattle.uplink.proofs.Sums.{length_granted}
 
 -- ---- the number and the turn
 
@@ -25,7 +25,7 @@ unfolding allowed
 turn_in n turn e = ltb-true _ _ (and_right (within 1 8 n) (ltb turn n) e)
 
 pub number_in : (n : ℕ) → outside 1 8 n ≡ false → (1 ≤ n) × (n ≤ 8)
-number_in n e = not-outside 1 8 n e
+number_in n e = not_outside 1 8 n e
 
 -- ---- the ways out
 
@@ -33,31 +33,31 @@ module _ (a turn : ℕ) (ws : List ℕ) where
   abbrev pub kept : Step
   kept = record { grants = replicate 8 0; turn = turn; answer = Refused DivisionsNotAllowed }
 
-  pub refused-number : outside 1 8 (length ws) ≡ true → kept ≡ step_of a turn ws
+  pub refused_number : outside 1 8 (length ws) ≡ true → kept ≡ step_of a turn ws
   unfolding step_of allowed
-  refused-number e = rw (not-true (within 1 8 (length ws)) e)
+  refused_number e = rw (not_true (within 1 8 (length ws)) e)
 
   module _ (e : outside 1 8 (length ws) ≡ false) where
-    pub refused-turn : length ws ≤ turn → kept ≡ step_of a turn ws
+    pub refused_turn : length ws ≤ turn → kept ≡ step_of a turn ws
     unfolding step_of allowed
-    refused-turn h = rw (not-false (within 1 8 (length ws)) e, le-ltb _ _ h)
+    refused_turn h = rw (not-false (within 1 8 (length ws)) e, le-ltb _ _ h)
 
-    pub step-granted : turn < length ws → (gs : List ℕ) (next : ℕ) → gs ≡ places (grantsOf a turn ws) → next ≡ next_of (length ws) turn
+    pub step_granted : turn < length ws → (gs : List ℕ) (next : ℕ) → gs ≡ places (grants_of a turn ws) → next ≡ next_of (length ws) turn
         → record { grants = gs; turn = next; answer = Done } ≡ step_of a turn ws
     unfolding step_of allowed
-    step-granted h gs next f g = rw (not-false (within 1 8 (length ws)) e, lt-ltb _ _ h, f, g)
+    step_granted h gs next f g = rw (not-false (within 1 8 (length ws)) e, lt-ltb _ _ h, f, g)
 
 -- ---- the eight places
 
-drop-zeros : (k m : ℕ) → drop {A = ℕ} k (replicate m 0) ≡ replicate (m - k) 0
-drop-zeros zero m = let e : m - 0 ≡ m = omega arith in rw e
-drop-zeros (suc k) zero = let e : 0 - suc k ≡ 0 = omega arith in rw e
-drop-zeros (suc k) (suc m) = let e : suc m - suc k ≡ m - k = omega arith in rw e (drop-zeros k m)
+drop_zeros : (k m : ℕ) → drop {A = ℕ} k (replicate m 0) ≡ replicate (m - k) 0
+drop_zeros zero m = let e : m - 0 ≡ m = omega arith in rw e
+drop_zeros (suc k) zero = let e : 0 - suc k ≡ 0 = omega arith in rw e
+drop_zeros (suc k) (suc m) = let e : suc m - suc k ≡ m - k = omega arith in rw e (drop_zeros k m)
 
 -- the later row is stored behind the earlier one's places, and then the earlier one
-places-stored : (m : ℕ) (xs ys : List ℕ) (t : ℕ) → length xs ≡ t → t + length ys ≤ m
+places_stored : (m : ℕ) (xs ys : List ℕ) (t : ℕ) → length xs ≡ t → t + length ys ≤ m
     → sets (sets (replicate m 0) t ys) 0 xs ≡ xs ++ ys ++ replicate (m - length (xs ++ ys)) 0
-places-stored m xs ys t e h =
+places_stored m xs ys t e h =
     let zeros : List ℕ = replicate m 0 in
     let l : length zeros ≡ m = length-replicate m 0 in
     let z : length (take t zeros) ≡ t = length-take-le t zeros (omega arith) in
@@ -66,27 +66,27 @@ places-stored m xs ys t e h =
     let n : length (xs ++ ys) ≡ t + length ys = length-append xs ys ∙ rw e in
     let o : 0 + length xs ≡ t = omega arith in
     sets-eq xs (sets zeros t ys) 0 (omega arith)
-    ∙ rw (late, append_assoc (take t zeros) ys (drop (t + length ys) zeros), o, drop_at (take t zeros) (ys ++ drop (t + length ys) zeros) t z, drop-zeros, n, append_assoc xs ys)
+    ∙ rw (late, append_assoc (take t zeros) ys (drop (t + length ys) zeros), o, drop_at (take t zeros) (ys ++ drop (t + length ys) zeros) t z, drop_zeros, n, append_assoc xs ys)
 
 module _ (a turn : ℕ) (ws : List ℕ) (h : turn < length ws) (m : length ws ≤ 8) where
   -- the divisions from the turn on, as the code has them
   abbrev pub onward : List ℕ
   onward = take (length ws - turn) (drop turn ws)
 
-  onward-is : onward ≡ drop turn ws
-  onward-is = take_all (length ws - turn) (drop turn ws) (omega (arith, length-drop turn ws))
+  onward_is : onward ≡ drop turn ws
+  onward_is = take_all (length ws - turn) (drop turn ws) (omega (arith, length-drop turn ws))
 
-  pub length-onward : turn + length onward ≤ 8
-  length-onward = rw onward-is (omega (arith, length-drop turn ws))
+  pub length_onward : turn + length onward ≤ 8
+  length_onward = rw onward_is (omega (arith, length-drop turn ws))
 
-  pub grants-stored : (share left : ℕ) (from round : Served) → share ≡ share_of a (length ws) → left ≡ a - sum (firsts share ws)
+  pub grants_stored : (share left : ℕ) (from round : Served) → share ≡ share_of a (length ws) → left ≡ a - sum (firsts share ws)
       → from ≡ record { grants = sets (replicate 8 0) turn (granted share left onward); left = left_of share left onward }
       → round ≡ record { grants = sets from.grants 0 (granted share from.left (take turn ws)); left = left_of share from.left (take turn ws) }
-      → round.grants ≡ places (grantsOf a turn ws)
-  unfolding grantsOf roundFrom
-  grants-stored share left from round e f p q =
+      → round.grants ≡ places (grants_of a turn ws)
+  unfolding grants_of round_from
+  grants_stored share left from round e f p q =
       let late : List ℕ = granted share left (drop turn ws) in
       let early : List ℕ = granted share (left_of share left (drop turn ws)) (take turn ws) in
-      let k : length early ≡ turn = length-granted share _ (take turn ws) ∙ length-take-le turn ws (omega arith) in
-      let j : length late ≡ length ws - turn = length-granted share left (drop turn ws) ∙ length-drop turn ws in
-      rw (q, p, onward-is, ← e, ← f) (places-stored 8 early late turn k (omega arith))
+      let k : length early ≡ turn = length_granted share _ (take turn ws) ∙ length-take-le turn ws (omega arith) in
+      let j : length late ≡ length ws - turn = length_granted share left (drop turn ws) ∙ length-drop turn ws in
+      rw (q, p, onward_is, ← e, ← f) (places_stored 8 early late turn k (omega arith))

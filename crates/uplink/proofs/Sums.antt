@@ -5,14 +5,14 @@ use Prim.Native.Nat.{ℕ, zero, suc, ◌+◌, ◌-◌, ◌*◌, ◌≤◌, ◌<�
 use native.Mathlib.Nat.{mul_comm, div-mul-le_self}
 use native.Mathlib.Omega.{arith}
 use lib.ListN.{length, take, drop, get_or, replicate, length-append, length-take, length-drop, take-append-drop}
-use Rattle.uplink.specs.Grants.{sum, share_of, firsts, granted, left_of, roundFrom}
+use Rattle.uplink.specs.Grants.{sum, share_of, firsts, granted, left_of, round_from}
 
 -- ---- sums
 
-pub sum-append : (xs ys : List ℕ) → sum (xs ++ ys) ≡ sum xs + sum ys
+pub sum_append : (xs ys : List ℕ) → sum (xs ++ ys) ≡ sum xs + sum ys
 unfolding sum
-sum-append [] ys = omega arith
-sum-append (x ∷ xs) ys = omega (arith, sum-append xs ys)
+sum_append [] ys = omega arith
+sum_append (x ∷ xs) ys = omega (arith, sum_append xs ys)
 
 pub sum_zeros : (k : ℕ) → sum (replicate k 0) ≡ 0
 unfolding sum
@@ -22,53 +22,53 @@ sum_zeros (suc k) = omega (arith, sum_zeros k)
 -- ---- first grants
 
 module _ (share : ℕ) where
-  pub firsts-append : (us vs : List ℕ) → sum (firsts share (us ++ vs)) ≡ sum (firsts share us) + sum (firsts share vs)
+  pub firsts_append : (us vs : List ℕ) → sum (firsts share (us ++ vs)) ≡ sum (firsts share us) + sum (firsts share vs)
   unfolding sum firsts
-  firsts-append [] vs = omega arith
-  firsts-append (u ∷ us) vs = omega (arith, firsts-append us vs)
+  firsts_append [] vs = omega arith
+  firsts_append (u ∷ us) vs = omega (arith, firsts_append us vs)
 
-  firsts-most : (ws : List ℕ) → sum (firsts share ws) ≤ length ws * share
+  firsts_most : (ws : List ℕ) → sum (firsts share ws) ≤ length ws * share
   unfolding sum firsts
-  firsts-most [] = omega arith
-  firsts-most (w ∷ ws) = omega (arith, firsts-most ws)
+  firsts_most [] = omega arith
+  firsts_most (w ∷ ws) = omega (arith, firsts_most ws)
 
   -- what a row still wants after them
   unfoldable pub still : List ℕ → ℕ
   still [] = 0
   still (w ∷ ws) = (w - min w share) + still ws
 
-  pub still-append : (us vs : List ℕ) → still (us ++ vs) ≡ still us + still vs
+  pub still_append : (us vs : List ℕ) → still (us ++ vs) ≡ still us + still vs
   unfolding still
-  still-append [] vs = omega arith
-  still-append (u ∷ us) vs = omega (arith, still-append us vs)
+  still_append [] vs = omega arith
+  still_append (u ∷ us) vs = omega (arith, still_append us vs)
 
-  pub firsts-still : (ws : List ℕ) → sum ws ≡ sum (firsts share ws) + still ws
+  pub firsts_still : (ws : List ℕ) → sum ws ≡ sum (firsts share ws) + still ws
   unfolding sum firsts still
-  firsts-still [] = refl
-  firsts-still (w ∷ ws) = omega (arith, firsts-still ws)
+  firsts_still [] = refl
+  firsts_still (w ∷ ws) = omega (arith, firsts_still ws)
 
 -- the first grants fit into A
-pub firsts-fit : (a : ℕ) (ws : List ℕ) → sum (firsts (share_of a (length ws)) ws) ≤ a
-firsts-fit a ws =
+pub firsts_fit : (a : ℕ) (ws : List ℕ) → sum (firsts (share_of a (length ws)) ws) ≤ a
+firsts_fit a ws =
     let share : ℕ = share_of a (length ws) in
-    omega (arith, firsts-most share ws, mul_comm (length ws) share, div-mul-le_self a (length ws))
+    omega (arith, firsts_most share ws, mul_comm (length ws) share, div-mul-le_self a (length ws))
 
 -- ---- a row
 
 module _ (share : ℕ) where
-  pub length-granted : (left : ℕ) (ws : List ℕ) → length (granted share left ws) ≡ length ws
+  pub length_granted : (left : ℕ) (ws : List ℕ) → length (granted share left ws) ≡ length ws
   unfolding granted
-  length-granted left [] = refl
-  length-granted left (w ∷ ws) = ap suc (length-granted _ ws)
+  length_granted left [] = refl
+  length_granted left (w ∷ ws) = ap suc (length_granted _ ws)
 
   -- the row takes all that it still wants, or all that is left
   one_more : (first d left F S G : ℕ) → G ≡ F + min (left - min d left) S → first + min d left + G ≡ first + F + min left (d + S)
   one_more first d left F S G e = omega arith
 
-  pub sum-granted : (left : ℕ) (ws : List ℕ) → sum (granted share left ws) ≡ sum (firsts share ws) + min left (still share ws)
+  pub sum_granted : (left : ℕ) (ws : List ℕ) → sum (granted share left ws) ≡ sum (firsts share ws) + min left (still share ws)
   unfolding sum firsts still granted
-  sum-granted left [] = omega arith
-  sum-granted left (w ∷ ws) = one_more _ _ left _ _ _ (sum-granted _ ws)
+  sum_granted left [] = omega arith
+  sum_granted left (w ∷ ws) = one_more _ _ left _ _ _ (sum_granted _ ws)
 
   one_less : (d left S : ℕ) → left - min d left - S ≡ left - (d + S)
   one_less d left S = omega arith
@@ -83,43 +83,43 @@ module _ (share : ℕ) where
   abbrev pub Between : ℕ → ℕ → Type 0
   Between g w = (min w share ≤ g) × (g ≤ w)
 
-  granted-at : (left : ℕ) (ws : List ℕ) (i : ℕ) → i < length ws → Between (get_or (granted share left ws) i 0) (get_or ws i 0)
+  granted_at : (left : ℕ) (ws : List ℕ) (i : ℕ) → i < length ws → Between (get_or (granted share left ws) i 0) (get_or ws i 0)
   unfolding granted
-  granted-at left [] i h = absurd (let z : ⊥ = omega arith in z)
-  granted-at left (w ∷ ws) zero h = (omega arith, omega arith)
-  granted-at left (w ∷ ws) (suc i) h = granted-at _ ws i (omega arith)
+  granted_at left [] i h = absurd (let z : ⊥ = omega arith in z)
+  granted_at left (w ∷ ws) zero h = (omega arith, omega arith)
+  granted_at left (w ∷ ws) (suc i) h = granted_at _ ws i (omega arith)
 
   pub rows_at : (l m : ℕ) (us vs : List ℕ) (i : ℕ) → i < length (us ++ vs)
       → Between (get_or (granted share l us ++ granted share m vs) i 0) (get_or (us ++ vs) i 0)
   unfolding granted
-  rows_at l m [] vs i h = granted-at m vs i h
+  rows_at l m [] vs i h = granted_at m vs i h
   rows_at l m (u ∷ us) vs zero h = (omega arith, omega arith)
   rows_at l m (u ∷ us) vs (suc i) h = rows_at _ m us vs i (omega arith)
 
 -- ---- the round: two rows, the later before the earlier
 
-one-round : (F S f s left L l : ℕ) → L ≡ F + min (left - s) S → l ≡ f + min left s → L + l ≡ F + f + min left (S + s)
-one-round F S f s left L l p q = omega arith
+one_round : (F S f s left L l : ℕ) → L ≡ F + min (left - s) S → l ≡ f + min left s → L + l ≡ F + f + min left (S + s)
+one_round F S f s left L l p q = omega arith
 
 module _ (turn share left : ℕ) (ws : List ℕ) where
-  pub length-round : length (roundFrom turn share left ws) ≡ length ws
-  unfolding roundFrom
-  length-round = simp (length-append, length-granted, length-take, length-drop) (omega arith)
+  pub length_round : length (round_from turn share left ws) ≡ length ws
+  unfolding round_from
+  length_round = simp (length-append, length_granted, length-take, length-drop) (omega arith)
 
-  pub round-at : (i : ℕ) → i < length ws → Between share (get_or (roundFrom turn share left ws) i 0) (get_or ws i 0)
-  unfolding roundFrom
-  round-at i p =
+  pub round_at : (i : ℕ) → i < length ws → Between share (get_or (round_from turn share left ws) i 0) (get_or ws i 0)
+  unfolding round_from
+  round_at i p =
       let both : take turn ws ++ drop turn ws ≡ ws = take-append-drop turn ws in
       let b = rows_at share (left_of share left (drop turn ws)) left (take turn ws) (drop turn ws) i (rw both p) in
       rw both at b
 
-  pub sum-round : sum (roundFrom turn share left ws) ≡ sum (firsts share ws) + min left (still share ws)
-  unfolding roundFrom
-  sum-round =
+  pub sum_round : sum (round_from turn share left ws) ≡ sum (firsts share ws) + min left (still share ws)
+  unfolding round_from
+  sum_round =
       let us : List ℕ = take turn ws in
       let vs : List ℕ = drop turn ws in
       let both : us ++ vs ≡ ws = take-append-drop turn ws in
-      let early : sum (granted share (left_of share left vs) us) ≡ sum (firsts share us) + min (left - still share vs) (still share us) = rw (← left_is share left vs) (sum-granted share (left_of share left vs) us) in
-      sum-append (granted share (left_of share left vs) us) (granted share left vs)
-      ∙ one-round (sum (firsts share us)) (still share us) (sum (firsts share vs)) (still share vs) left _ _ early (sum-granted share left vs)
-      ∙ rw (← firsts-append share us vs, ← still-append share us vs, both)
+      let early : sum (granted share (left_of share left vs) us) ≡ sum (firsts share us) + min (left - still share vs) (still share us) = rw (← left_is share left vs) (sum_granted share (left_of share left vs) us) in
+      sum_append (granted share (left_of share left vs) us) (granted share left vs)
+      ∙ one_round (sum (firsts share us)) (still share us) (sum (firsts share vs)) (still share vs) left _ _ early (sum_granted share left vs)
+      ∙ rw (← firsts_append share us vs, ← still_append share us vs, both)

@@ -36,14 +36,14 @@ left_of share left [] = left
 left_of share left (w ∷ ws) = left_of share (left - more share left w) ws
 
 -- "from a turn": the divisions from the turn on, then those before it
-unfoldable pub roundFrom : ℕ → ℕ → ℕ → List ℕ → List ℕ
-roundFrom turn share left ws =
+unfoldable pub round_from : ℕ → ℕ → ℕ → List ℕ → List ℕ
+round_from turn share left ws =
     granted share (left_of share left (drop turn ws)) (take turn ws) ++ granted share left (drop turn ws)
 
-unfoldable pub grantsOf : ℕ → ℕ → List ℕ → List ℕ
-grantsOf a turn ws =
+unfoldable pub grants_of : ℕ → ℕ → List ℕ → List ℕ
+grants_of a turn ws =
     let share = share_of a (length ws) in
-    roundFrom turn share (a - sum (firsts share ws)) ws
+    round_from turn share (a - sum (firsts share ws)) ws
 
 -- ---- a step
 
@@ -62,5 +62,5 @@ allowed n turn = within 1 8 n && ltb turn n
 unfoldable pub step_of : ℕ → ℕ → List ℕ → Step
 step_of a turn ws =
     cond (allowed (length ws) turn)
-    (record { grants = places (grantsOf a turn ws); turn = next_of (length ws) turn; answer = Done })
+    (record { grants = places (grants_of a turn ws); turn = next_of (length ws) turn; answer = Done })
     (record { grants = replicate 8 0; turn = turn; answer = Refused DivisionsNotAllowed })

@@ -1,9 +1,9 @@
 -- What a number d ahead leaves and answers, by what the code has at hand.
 use mathlib.Core.Path.{◌≡◌, ap, ◌∙◌}
 use Prim.Native.Nat.{ℕ}
-use Rattle.window.specs.Set.{val, setOf}
-use Rattle.window.specs.Window.{missingOf, span_of}
-use Rattle.window.specs.Arrival.{movedOf, lostOf, newOf}
+use Rattle.window.specs.Set.{val, set_of}
+use Rattle.window.specs.Window.{missing_of, span_of}
+use Rattle.window.specs.Arrival.{moved_of, lost_of, new_of}
 use Rattle.window.specs.declared.set.Bits.{Bits}
 use Rattle.window.specs.declared.window.ReceiveWindow.{ReceiveWindow}
 use Rattle.window.specs.declared.window.Span.{Span}
@@ -14,10 +14,10 @@ abbrev at : ReceiveWindow → ℕ → Bits → ReceiveWindow
 at w seq s = record { size = w.size; highest = seq; bits = s }
 
 module _ (w : ReceiveWindow) (seq d : ℕ) where
-  pub new-window-is : {s : Bits} → s ≡ setOf (movedOf w.size (val w.bits) d) → at w seq s ≡ (newOf w seq d).window
-  unfolding newOf
-  new-window-is es = ap (at w seq) es
+  pub new_window_is : {s : Bits} → s ≡ set_of (moved_of w.size (val w.bits) d) → at w seq s ≡ (new_of w seq d).window
+  unfolding new_of
+  new_window_is es = ap (at w seq) es
 
-  pub new-lost-is : {m : Bits} {l : Span} → m ≡ setOf (missingOf w) → l ≡ span_of seq w.size (lostOf w.size (val m) d) → l ≡ (newOf w seq d).lost
-  unfolding newOf
-  new-lost-is {m} em el = el ∙ ap (λ (x : ℕ). span_of seq w.size (lostOf w.size x d)) (val_is m (missingOf w) em)
+  pub new_lost_is : {m : Bits} {l : Span} → m ≡ set_of (missing_of w) → l ≡ span_of seq w.size (lost_of w.size (val m) d) → l ≡ (new_of w seq d).lost
+  unfolding new_of
+  new_lost_is {m} em el = el ∙ ap (λ (x : ℕ). span_of seq w.size (lost_of w.size x d)) (val_is m (missing_of w) em)

@@ -6,7 +6,7 @@ use native.Mathlib.Omega.{arith}
 use lib.Arith.{half_le, digits_lt}
 use lib.Pow.{pow_pos, pow_mono, pow-add, shl-shr, split}
 use lib.Count.{count_leading_zeros, leading_top, count_trailing_zeros, under}
-use Rattle.window.specs.Set.{topIn, top_of, bottomOf, over}
+use Rattle.window.specs.Set.{top_in, top_of, bottom_of, over}
 use Rattle.window.proofs.Words.{join}
 
 pub pow_lt_cancel : {a b : ℕ} → 2 ^ a < 2 ^ b → a < b
@@ -16,27 +16,27 @@ pow_lt_cancel h = lt_of_not-le (λ g. not-le_of_lt h (pow_mono g))
 abbrev pub Top : ℕ → ℕ → Type 0
 Top n t = (2 ^ t ≤ n) × (n < 2 ^ suc t)
 
-top-step : (n f : ℕ) → 0 < n → (m : ℕ) → n / 2 ≡ m → (0 < n / 2 → Top (n / 2) (topIn f (n / 2))) → Top n (over m (topIn f (n / 2)))
-unfolding topIn
-top-step n f p zero e ih = (p, omega arith)
-top-step n f p (suc m) e ih =
+top_step : (n f : ℕ) → 0 < n → (m : ℕ) → n / 2 ≡ m → (0 < n / 2 → Top (n / 2) (top_in f (n / 2))) → Top n (over m (top_in f (n / 2)))
+unfolding top_in
+top_step n f p zero e ih = (p, omega arith)
+top_step n f p (suc m) e ih =
     let h = ih (omega arith) in
-    let a : 2 ^ suc (topIn f (n / 2)) ≡ 2 ^ topIn f (n / 2) * 2 = pow-suc 2 (topIn f (n / 2)) in
-    let b : 2 ^ suc (suc (topIn f (n / 2))) ≡ 2 ^ suc (topIn f (n / 2)) * 2 = pow-suc 2 (suc (topIn f (n / 2))) in
+    let a : 2 ^ suc (top_in f (n / 2)) ≡ 2 ^ top_in f (n / 2) * 2 = pow-suc 2 (top_in f (n / 2)) in
+    let b : 2 ^ suc (suc (top_in f (n / 2))) ≡ 2 ^ suc (top_in f (n / 2)) * 2 = pow-suc 2 (suc (top_in f (n / 2))) in
     (omega arith, omega arith)
 
-top_in : (f n : ℕ) → 0 < n → n ≤ f → Top n (topIn f n)
-unfolding topIn
-top_in zero n p h = absurd (omega arith)
-top_in (suc f) n p h = top-step n f p (n / 2) refl (λ q. top_in f (n / 2) q (half_le h))
+top_in_lem : (f n : ℕ) → 0 < n → n ≤ f → Top n (top_in f n)
+unfolding top_in
+top_in_lem zero n p h = absurd (omega arith)
+top_in_lem (suc f) n p h = top_step n f p (n / 2) refl (λ q. top_in_lem f (n / 2) q (half_le h))
 
-pub top-is : (n : ℕ) → 0 < n → Top n (top_of n)
+pub top_is : (n : ℕ) → 0 < n → Top n (top_of n)
 unfolding top_of
-top-is n p = top_in n n p (le_refl n)
+top_is n p = top_in_lem n n p (le_refl n)
 
 pub top_unique : (n t : ℕ) → Top n t → t ≡ top_of n
 top_unique n t h =
-    let g = top-is n (le_trans (pow_pos t) h.0) in
+    let g = top_is n (le_trans (pow_pos t) h.0) in
     let a : t < suc (top_of n) = pow_lt_cancel (lt_of_le_of_lt h.0 g.1) in
     let b : top_of n < suc t = pow_lt_cancel (lt_of_le_of_lt g.0 h.1) in
     omega arith
@@ -45,33 +45,33 @@ top_unique n t h =
 abbrev pub Bottom : ℕ → ℕ → Type 0
 Bottom n t = (q : ℕ) × (n ≡ (q * 2 + 1) * 2 ^ t)
 
-bottom-step : (n f : ℕ) → 0 < n → (d : ℕ) → n % 2 ≡ d → (0 < n / 2 → Bottom (n / 2) (count_trailing_zeros f (n / 2))) → Bottom n (under d (count_trailing_zeros f (n / 2)))
-bottom-step n f p zero e ih =
+bottom_step : (n f : ℕ) → 0 < n → (d : ℕ) → n % 2 ≡ d → (0 < n / 2 → Bottom (n / 2) (count_trailing_zeros f (n / 2))) → Bottom n (under d (count_trailing_zeros f (n / 2)))
+bottom_step n f p zero e ih =
     let h = ih (omega arith) in
     let t : ℕ = count_trailing_zeros f (n / 2) in
     let x : ℕ = h.0 * 2 + 1 in
     let w : n ≡ n / 2 * 2 = omega arith in
     (h.0, w ∙ ap (λ (y : ℕ). y * 2) h.1 ∙ mul_assoc x (2 ^ t) 2 ∙ ap (λ (y : ℕ). x * y) (sym (pow-suc 2 t)))
-bottom-step n f p (suc d) e ih = (n / 2, omega arith)
+bottom_step n f p (suc d) e ih = (n / 2, omega arith)
 
-bottom-in : (k n : ℕ) → 0 < n → n < 2 ^ k → Bottom n (count_trailing_zeros k n)
+bottom_in : (k n : ℕ) → 0 < n → n < 2 ^ k → Bottom n (count_trailing_zeros k n)
 unfolding count_trailing_zeros
-bottom-in zero n p h = absurd (omega arith)
-bottom-in (suc k) n p h =
+bottom_in zero n p h = absurd (omega arith)
+bottom_in (suc k) n p h =
     let e : 2 ^ suc k ≡ 2 ^ k * 2 = pow-suc 2 k in
-    bottom-step n k p (n % 2) refl (λ q. bottom-in k (n / 2) q (omega arith))
+    bottom_step n k p (n % 2) refl (λ q. bottom_in k (n / 2) q (omega arith))
 
-lt-pow : (n : ℕ) → n < 2 ^ n
-lt-pow zero = pow_pos 0
-lt-pow (suc n) = let h = lt-pow n in let e : 2 ^ suc n ≡ 2 ^ n * 2 = pow-suc 2 n in omega arith
+lt_pow : (n : ℕ) → n < 2 ^ n
+lt_pow zero = pow_pos 0
+lt_pow (suc n) = let h = lt_pow n in let e : 2 ^ suc n ≡ 2 ^ n * 2 = pow-suc 2 n in omega arith
 
-pub bottom-is : (n : ℕ) → 0 < n → Bottom n (bottomOf n)
-unfolding bottomOf
-bottom-is n p = bottom-in n n p (lt-pow n)
+pub bottom_is : (n : ℕ) → 0 < n → Bottom n (bottom_of n)
+unfolding bottom_of
+bottom_is n p = bottom_in n n p (lt_pow n)
 
 -- a number has one lowest digit
-bottom-lt : (n s t : ℕ) → Bottom n s → Bottom n t → s < t → ⊥
-bottom-lt n s t a b g =
+bottom_lt : (n s t : ℕ) → Bottom n s → Bottom n t → s < t → ⊥
+bottom_lt n s t a b g =
     let k : ℕ = t - suc s in
     let e : suc k + s ≡ t = omega arith in
     let x : ℕ = b.0 * 2 + 1 in
@@ -86,46 +86,46 @@ bottom-lt n s t a b g =
     odd_even : (p q : ℕ) → p * 2 + 1 ≡ q * 2 → ⊥
     odd_even p q e = omega arith
 
-pub bottom-unique : (n t : ℕ) → 0 < n → Bottom n t → t ≡ bottomOf n
-bottom-unique n t p h =
-    let g = bottom-is n p in
-    let a : t < suc (bottomOf n) = lt_of_not-le (λ z. bottom-lt n (bottomOf n) t g h z) in
-    let b : bottomOf n < suc t = lt_of_not-le (λ z. bottom-lt n t (bottomOf n) h g z) in
+pub bottom_unique : (n t : ℕ) → 0 < n → Bottom n t → t ≡ bottom_of n
+bottom_unique n t p h =
+    let g = bottom_is n p in
+    let a : t < suc (bottom_of n) = lt_of_not-le (λ z. bottom_lt n (bottom_of n) t g h z) in
+    let b : bottom_of n < suc t = lt_of_not-le (λ z. bottom_lt n t (bottom_of n) h g z) in
     omega arith
 
-pub pos-times : (n k : ℕ) → 0 < n → 0 < n * 2 ^ k
-pos-times n k p = subst (λ (z : ℕ). z < n * 2 ^ k) (zero-mul (2 ^ k)) (mul-lt-mul_of_pos_right p (pow_pos k))
+pub pos_times : (n k : ℕ) → 0 < n → 0 < n * 2 ^ k
+pos_times n k p = subst (λ (z : ℕ). z < n * 2 ^ k) (zero-mul (2 ^ k)) (mul-lt-mul_of_pos_right p (pow_pos k))
 
-pub pos-left : (h b : ℕ) → 0 < h * b → 0 < h
-pos-left zero b p = absurd (lt_irrefl 0 (subst (λ (y : ℕ). 0 < y) (zero-mul b) p))
-pos-left (suc h) b p = zero-lt-suc h
+pub pos_left : (h b : ℕ) → 0 < h * b → 0 < h
+pos_left zero b p = absurd (lt_irrefl 0 (subst (λ (y : ℕ). 0 < y) (zero-mul b) p))
+pos_left (suc h) b p = zero-lt-suc h
 
 -- ---- the ends of a word, by the counts of its zeros
-pub top-of-word : (l : ℕ) → 0 < l → l < 2 ^ 64 → (count_leading_zeros 64 l ≤ 63) × (63 - count_leading_zeros 64 l ≡ top_of l)
-top-of-word l p b =
+pub top_of_word : (l : ℕ) → 0 < l → l < 2 ^ 64 → (count_leading_zeros 64 l ≤ 63) × (63 - count_leading_zeros 64 l ≡ top_of l)
+top_of_word l p b =
     let t = leading_top 64 l p b in
     let j : 63 - count_leading_zeros 64 l ≡ t.0 = omega (arith, t.1) in
     (omega (arith, t.1), j ∙ top_unique l t.0 (t.2, t.3))
 
-pub bottom-of-word : (l : ℕ) → 0 < l → l < 2 ^ 64 → count_trailing_zeros 64 l ≡ bottomOf l
-bottom-of-word l p b = bottom-unique l (count_trailing_zeros 64 l) p (bottom-in 64 l p b)
+pub bottom_of_word : (l : ℕ) → 0 < l → l < 2 ^ 64 → count_trailing_zeros 64 l ≡ bottom_of l
+bottom_of_word l p b = bottom_unique l (count_trailing_zeros 64 l) p (bottom_in 64 l p b)
 
 -- ---- the ends of a number h of any length with a word l below it
-pub top-join : (h l w : ℕ) → 0 < h → l < 2 ^ w → top_of h + w ≡ top_of (h * 2 ^ w + l)
-top-join h l w p b =
-    let t = top-is h p in
+pub top_join : (h l w : ℕ) → 0 < h → l < 2 ^ w → top_of h + w ≡ top_of (h * 2 ^ w + l)
+top_join h l w p b =
+    let t = top_is h p in
     let k : ℕ = top_of h in
     top_unique (h * 2 ^ w + l) (k + w) (
-      le_trans (le_of_eq (pow-add 2 k w)) (le_trans (mul-le-mul_right (2 ^ w) t.0) (le-add_right (h * 2 ^ w) l)),
+      le_trans (le_of_eq (pow-add 2 k w)) (le_trans (mul_le_mul_right (2 ^ w) t.0) (le-add_right (h * 2 ^ w) l)),
       lt_of_lt_of_le (digits_lt t.1 b) (le_of_eq (sym (pow-add 2 (suc k) w) ∙ ap (λ (y : ℕ). 2 ^ y) (suc-add k w))),
     )
 
-pub bottom-join : (h l w : ℕ) → 0 < l → l < 2 ^ w → bottomOf l ≡ bottomOf (h * 2 ^ w + l)
-bottom-join h l w p bl =
-    let b = bottom-is l p in
+pub bottom_join : (h l w : ℕ) → 0 < l → l < 2 ^ w → bottom_of l ≡ bottom_of (h * 2 ^ w + l)
+bottom_join h l w p bl =
+    let b = bottom_is l p in
     let x : ℕ = b.0 * 2 + 1 in
-    let t : ℕ = bottomOf l in
-    let short : t < w = pow_lt_cancel (lt_of_le_of_lt (le_trans (le_of_eq (sym (one-mul (2 ^ t)))) (le_trans (mul-le-mul_right (2 ^ t) (le-add_left 1 (b.0 * 2))) (le_of_eq (sym b.1)))) bl) in
+    let t : ℕ = bottom_of l in
+    let short : t < w = pow_lt_cancel (lt_of_le_of_lt (le_trans (le_of_eq (sym (one-mul (2 ^ t)))) (le_trans (mul_le_mul_right (2 ^ t) (le-add_left 1 (b.0 * 2))) (le_of_eq (sym b.1)))) bl) in
     let k : ℕ = w - 1 - t in
     let e : k + suc t ≡ w = omega arith in
     let word : h * 2 ^ w ≡ h * 2 ^ k * 2 * 2 ^ t =
@@ -133,19 +133,19 @@ bottom-join h l w p bl =
     ∙ sym (mul_assoc h (2 ^ k) (2 * 2 ^ t)) ∙ sym (mul_assoc (h * 2 ^ k) 2 (2 ^ t)) in
     let q : ℕ = h * 2 ^ k + b.0 in
     let sum : h * 2 ^ k * 2 + x ≡ q * 2 + 1 = join (h * 2 ^ k) b.0 in
-    bottom-unique (h * 2 ^ w + l) t (le_trans p (le-add_left l (h * 2 ^ w))) (q, ap₂ (λ (y z : ℕ). y + z) word b.1 ∙ sym (add-mul (h * 2 ^ k * 2) x (2 ^ t)) ∙ ap (λ (y : ℕ). y * 2 ^ t) sum)
+    bottom_unique (h * 2 ^ w + l) t (le_trans p (le-add_left l (h * 2 ^ w))) (q, ap₂ (λ (y z : ℕ). y + z) word b.1 ∙ sym (add-mul (h * 2 ^ k * 2) x (2 ^ t)) ∙ ap (λ (y : ℕ). y * 2 ^ t) sum)
   where
     join : (a c : ℕ) → a * 2 + (c * 2 + 1) ≡ (a + c) * 2 + 1
     join a c = omega arith
 
 -- nothing in the word
-pub bottom-up : (h l w : ℕ) → 0 < h → l ≡ 0 → bottomOf h + w ≡ bottomOf (h * 2 ^ w + l)
-bottom-up h l w p z =
-    let b = bottom-is h p in
+pub bottom_up : (h l w : ℕ) → 0 < h → l ≡ 0 → bottom_of h + w ≡ bottom_of (h * 2 ^ w + l)
+bottom_up h l w p z =
+    let b = bottom_is h p in
     let x : ℕ = b.0 * 2 + 1 in
     let v : h * 2 ^ w + l ≡ h * 2 ^ w = ap (λ (y : ℕ). h * 2 ^ w + y) z ∙ add-zero (h * 2 ^ w) in
-    bottom-unique (h * 2 ^ w) (bottomOf h + w) (pos-times h w p) (b.0, ap (λ (y : ℕ). y * 2 ^ w) b.1 ∙ mul_assoc x (2 ^ bottomOf h) (2 ^ w) ∙ ap (λ (y : ℕ). x * y) (sym (pow-add 2 (bottomOf h) w)))
-    ∙ ap bottomOf (sym v)
+    bottom_unique (h * 2 ^ w) (bottom_of h + w) (pos_times h w p) (b.0, ap (λ (y : ℕ). y * 2 ^ w) b.1 ∙ mul_assoc x (2 ^ bottom_of h) (2 ^ w) ∙ ap (λ (y : ℕ). x * y) (sym (pow-add 2 (bottom_of h) w)))
+    ∙ ap bottom_of (sym v)
 
 pub nothing_above : (h l b : ℕ) → h ≡ 0 → h * b + l ≡ l
 nothing_above h l b e = ap (λ (y : ℕ). y * b + l) e ∙ ap (λ (y : ℕ). y + l) (zero-mul b) ∙ zero-add l
@@ -154,40 +154,40 @@ nothing_above h l b e = ap (λ (y : ℕ). y * b + l) e ∙ ap (λ (y : ℕ). y +
 
 pub top_shift : (n k : ℕ) → 0 < n → top_of n + k ≡ top_of (n * 2 ^ k)
 top_shift n k p =
-    let t = top-is n p in
+    let t = top_is n p in
     top_unique (n * 2 ^ k) (top_of n + k) (
-      le_trans (le_of_eq (pow-add 2 (top_of n) k)) (mul-le-mul_right (2 ^ k) t.0),
+      le_trans (le_of_eq (pow-add 2 (top_of n) k)) (mul_le_mul_right (2 ^ k) t.0),
       lt_of_lt_of_le (mul-lt-mul_of_pos_right t.1 (pow_pos k)) (le_of_eq (sym (pow-add 2 (suc (top_of n)) k) ∙ ap (λ (z : ℕ). 2 ^ z) (suc-add (top_of n) k))),
     )
 
-pub bottom-shift : (n k : ℕ) → 0 < n → bottomOf n + k ≡ bottomOf (n * 2 ^ k)
-bottom-shift n k p =
-    let b = bottom-is n p in
+pub bottom_shift : (n k : ℕ) → 0 < n → bottom_of n + k ≡ bottom_of (n * 2 ^ k)
+bottom_shift n k p =
+    let b = bottom_is n p in
     let x : ℕ = b.0 * 2 + 1 in
-    bottom-unique (n * 2 ^ k) (bottomOf n + k) (pos-times n k p)
-    (b.0, ap (λ (z : ℕ). z * 2 ^ k) b.1 ∙ mul_assoc x (2 ^ bottomOf n) (2 ^ k) ∙ ap (λ (z : ℕ). x * z) (sym (pow-add 2 (bottomOf n) k)))
+    bottom_unique (n * 2 ^ k) (bottom_of n + k) (pos_times n k p)
+    (b.0, ap (λ (z : ℕ). z * 2 ^ k) b.1 ∙ mul_assoc x (2 ^ bottom_of n) (2 ^ k) ∙ ap (λ (z : ℕ). x * z) (sym (pow-add 2 (bottom_of n) k)))
 
 -- the positions at k and above have the same highest, where it is one of them
 pub top_from : (n k : ℕ) → 0 < n → k ≤ top_of n → (0 < n / 2 ^ k * 2 ^ k) × (top_of n ≡ top_of (n / 2 ^ k * 2 ^ k))
 top_from n k p l =
-    let t = top-is n p in
+    let t = top_is n p in
     let j : ℕ = top_of n - k in
     let e : 2 ^ top_of n ≡ 2 ^ j * 2 ^ k = ap (λ (x : ℕ). 2 ^ x) (sym (sub-add_cancel {n = top_of n} {m = k} l)) ∙ pow-add 2 j k in
     let one : 2 ^ j ≤ n / 2 ^ k = (le-div_iff_mul-le (pow_pos k)).1 (le_trans (le_of_eq (sym e)) t.0) in
-    let lo : 2 ^ top_of n ≤ n / 2 ^ k * 2 ^ k = le_trans (le_of_eq e) (mul-le-mul_right (2 ^ k) one) in
+    let lo : 2 ^ top_of n ≤ n / 2 ^ k * 2 ^ k = le_trans (le_of_eq e) (mul_le_mul_right (2 ^ k) one) in
     let le : n / 2 ^ k * 2 ^ k ≤ n = le_trans (le-add_right (n / 2 ^ k * 2 ^ k) (n % 2 ^ k)) (le_of_eq (split n k)) in
     (le_trans (pow_pos (top_of n)) lo, top_unique (n / 2 ^ k * 2 ^ k) (top_of n) (lo, lt_of_le_of_lt le t.1))
 
-pub bottom-le-top : (n : ℕ) → 0 < n → bottomOf n ≤ top_of n
-bottom-le-top n p =
-    let b = bottom-is n p in
-    let t = top-is n p in
-    let low : 2 ^ bottomOf n ≤ n = le_trans (le_of_eq (sym (one-mul (2 ^ bottomOf n)))) (le_trans (mul-le-mul_right (2 ^ bottomOf n) (le-add_left 1 (b.0 * 2))) (le_of_eq (sym b.1))) in
-    let h : bottomOf n < suc (top_of n) = pow_lt_cancel (lt_of_le_of_lt low t.1) in
+pub bottom_le_top : (n : ℕ) → 0 < n → bottom_of n ≤ top_of n
+bottom_le_top n p =
+    let b = bottom_is n p in
+    let t = top_is n p in
+    let low : 2 ^ bottom_of n ≤ n = le_trans (le_of_eq (sym (one-mul (2 ^ bottom_of n)))) (le_trans (mul_le_mul_right (2 ^ bottom_of n) (le-add_left 1 (b.0 * 2))) (le_of_eq (sym b.1))) in
+    let h : bottom_of n < suc (top_of n) = pow_lt_cancel (lt_of_le_of_lt low t.1) in
     omega arith
 
 pub top_lt : (n k : ℕ) → 0 < n → n < 2 ^ k → top_of n < k
-top_lt n k p h = pow_lt_cancel (lt_of_le_of_lt (top-is n p).0 h)
+top_lt n k p h = pow_lt_cancel (lt_of_le_of_lt (top_is n p).0 h)
 
 -- ---- the ends of two words
 
@@ -196,43 +196,43 @@ abbrev TopAt : ℕ → ℕ → Type 0
 TopAt x t = (0 < x) × (t ≡ top_of x)
 
 abbrev BottomAt : ℕ → ℕ → Type 0
-BottomAt x t = (0 < x) × (t ≡ bottomOf x)
+BottomAt x t = (0 < x) × (t ≡ bottom_of x)
 
-pos-up : (h l b : ℕ) → 0 < b → 0 < h → 0 < h * b + l
-pos-up h l b q p = le_trans (subst (λ (z : ℕ). z < h * b) (zero-mul b) (mul-lt-mul_of_pos_right p q)) (le-add_right (h * b) l)
+pos_up : (h l b : ℕ) → 0 < b → 0 < h → 0 < h * b + l
+pos_up h l b q p = le_trans (subst (λ (z : ℕ). z < h * b) (zero-mul b) (mul-lt-mul_of_pos_right p q)) (le-add_right (h * b) l)
 
-pos-down : (h l b : ℕ) → l ≡ 0 → 0 < h * b + l → 0 < h
-pos-down h l b e p = pos-left h b (subst (λ (z : ℕ). 0 < z) (ap (λ (y : ℕ). h * b + y) e ∙ add-zero (h * b)) p)
+pos_down : (h l b : ℕ) → l ≡ 0 → 0 < h * b + l → 0 < h
+pos_down h l b e p = pos_left h b (subst (λ (z : ℕ). 0 < z) (ap (λ (y : ℕ). h * b + y) e ∙ add-zero (h * b)) p)
 
 up : (h l t : ℕ) → l < 2 ^ 64 → TopAt h t → TopAt (h * 2 ^ 64 + l) (t + 64)
-up h l t b p = (pos-up h l (2 ^ 64) (pow_pos 64) p.0, ap (λ (y : ℕ). y + 64) p.1 ∙ top-join h l 64 p.0 b)
+up h l t b p = (pos_up h l (2 ^ 64) (pow_pos 64) p.0, ap (λ (y : ℕ). y + 64) p.1 ∙ top_join h l 64 p.0 b)
 
 skip : (h l t : ℕ) → h ≡ 0 → TopAt l t → TopAt (h * 2 ^ 64 + l) t
 skip h l t e p = subst (λ (y : ℕ). TopAt y t) (sym (nothing_above h l (2 ^ 64) e)) p
 
 low_end : (h l t : ℕ) → l < 2 ^ 64 → BottomAt l t → BottomAt (h * 2 ^ 64 + l) t
-low_end h l t b p = (le_trans p.0 (le-add_left l (h * 2 ^ 64)), p.1 ∙ bottom-join h l 64 p.0 b)
+low_end h l t b p = (le_trans p.0 (le-add_left l (h * 2 ^ 64)), p.1 ∙ bottom_join h l 64 p.0 b)
 
-next-end : (h l t : ℕ) → l ≡ 0 → BottomAt h t → BottomAt (h * 2 ^ 64 + l) (t + 64)
-next-end h l t e p = (pos-up h l (2 ^ 64) (pow_pos 64) p.0, ap (λ (y : ℕ). y + 64) p.1 ∙ bottom-up h l 64 p.0 e)
+next_end : (h l t : ℕ) → l ≡ 0 → BottomAt h t → BottomAt (h * 2 ^ 64 + l) (t + 64)
+next_end h l t e p = (pos_up h l (2 ^ 64) (pow_pos 64) p.0, ap (λ (y : ℕ). y + 64) p.1 ∙ bottom_up h l 64 p.0 e)
 
 word : (l : ℕ) → 0 < l → l < 2 ^ 64 → TopAt l (63 - count_leading_zeros 64 l)
-word l p b = (p, (top-of-word l p b).1)
+word l p b = (p, (top_of_word l p b).1)
 
 lowest : (l : ℕ) → 0 < l → l < 2 ^ 64 → BottomAt l (count_trailing_zeros 64 l)
-lowest l p b = (p, bottom-of-word l p b)
+lowest l p b = (p, bottom_of_word l p b)
 
 module _ (h l : ℕ) (hh : h < 2 ^ 64) (hl : l < 2 ^ 64) where
   pub top1 : 0 < h → (count_leading_zeros 64 h ≤ 63) × (63 - count_leading_zeros 64 h + 64 ≡ top_of (join h l))
-  top1 p = ((top-of-word h p hh).0, (up h l _ hl (word h p hh)).1)
+  top1 p = ((top_of_word h p hh).0, (up h l _ hl (word h p hh)).1)
 
   pub top0 : h ≡ 0 → 0 < join h l → (count_leading_zeros 64 l ≤ 63) × (63 - count_leading_zeros 64 l ≡ top_of (join h l))
   top0 e q =
       let p : 0 < l = subst (λ (y : ℕ). 0 < y) (nothing_above h l (2 ^ 64) e) q in
-      ((top-of-word l p hl).0, (skip h l _ e (word l p hl)).1)
+      ((top_of_word l p hl).0, (skip h l _ e (word l p hl)).1)
 
-  pub bottom0 : 0 < l → count_trailing_zeros 64 l ≡ bottomOf (join h l)
+  pub bottom0 : 0 < l → count_trailing_zeros 64 l ≡ bottom_of (join h l)
   bottom0 p = (low_end h l _ hl (lowest l p hl)).1
 
-  pub bottom1 : l ≡ 0 → 0 < join h l → count_trailing_zeros 64 h + 64 ≡ bottomOf (join h l)
-  bottom1 e q = (next-end h l _ e (lowest h (pos-down h l (2 ^ 64) e q) hh)).1
+  pub bottom1 : l ≡ 0 → 0 < join h l → count_trailing_zeros 64 h + 64 ≡ bottom_of (join h l)
+  bottom1 e q = (next_end h l _ e (lowest h (pos_down h l (2 ^ 64) e q) hh)).1

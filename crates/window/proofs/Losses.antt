@@ -6,19 +6,19 @@ use native.Mathlib.Nat.{le_refl, le_trans, le_of_eq, lt_of_lt_of_le, le-add_righ
 use native.Mathlib.Omega.{arith}
 use lib.Arith.{digits_lt, le-zero}
 use lib.Pow.{pow_pos, pow_mono, pow-add, high, shr-shr, ones_lt, ones_split}
-use Rattle.window.specs.Set.{top_of, bottomOf}
+use Rattle.window.specs.Set.{top_of, bottom_of}
 use Rattle.window.specs.Window.{span_of}
-use Rattle.window.specs.Arrival.{lostOf}
+use Rattle.window.specs.Arrival.{lost_of}
 use Rattle.window.specs.declared.window.SeqRange.{SeqRange}
 use Rattle.window.specs.declared.window.Span.TheVariants.{Nothing, Of}
-use Rattle.window.proofs.Spans.{RangeTo, span_none, span-some}
-use Rattle.window.proofs.Ends.{top-is, top_unique, bottom-unique, top_shift, bottom-shift, pos-left, pos-times}
+use Rattle.window.proofs.Spans.{RangeTo, span_none, span_some}
+use Rattle.window.proofs.Ends.{top_is, top_unique, bottom_unique, top_shift, bottom_shift, pos_left, pos_times}
 
 -- ---- what leaves, where skipped numbers do: d is e + 2 and more above the size
 module _ (size m d e : ℕ) (ed : e + 2 + size ≡ d) where
-  pub far-is : lostOf size m d ≡ m * 2 ^ (e + 2) + (2 ^ (e + 1) - 1)
-  unfolding lostOf
-  far-is =
+  pub far_is : lost_of size m d ≡ m * 2 ^ (e + 2) + (2 ^ (e + 1) - 1)
+  unfolding lost_of
+  far_is =
       let up : m * 2 ^ d ≡ m * 2 ^ (e + 2) * 2 ^ size = ap (λ (z : ℕ). m * 2 ^ z) (sym ed) ∙ ap (λ (z : ℕ). m * z) (pow-add 2 (e + 2) size) ∙ sym (mul_assoc m (2 ^ (e + 2)) (2 ^ size)) in
       let under : 2 ^ (d - 1) - 1 ≡ (2 ^ (e + 1) - 1) * 2 ^ size + (2 ^ size - 1) = ap (λ (z : ℕ). 2 ^ z - 1) less ∙ ones_split (e + 1) size in
       ap (λ (z : ℕ). z / 2 ^ size)
@@ -30,9 +30,9 @@ module _ (size m d e : ℕ) (ed : e + 2 + size ≡ d) where
       less = omega arith
 
   -- the newest is at the size
-  odd : lostOf size m d ≡ (m * 2 ^ (e + 1) + (2 ^ e - 1)) * 2 + 1
+  odd : lost_of size m d ≡ (m * 2 ^ (e + 1) + (2 ^ e - 1)) * 2 + 1
   odd =
-      far-is
+      far_is
       ∙ ap₂ (λ (y z : ℕ). m * y + z) (ap (λ (z : ℕ). 2 ^ z) more ∙ pow-add 2 (e + 1) 1) (ones_split e 1)
       ∙ ap (λ (z : ℕ). z + ((2 ^ e - 1) * 2 + 1)) (sym (mul_assoc m (2 ^ (e + 1)) 2))
       ∙ sym (add_assoc (m * 2 ^ (e + 1) * 2) ((2 ^ e - 1) * 2) 1) ∙ ap (λ (z : ℕ). z + 1) (sym (add-mul (m * 2 ^ (e + 1)) (2 ^ e - 1) 2))
@@ -40,29 +40,29 @@ module _ (size m d e : ℕ) (ed : e + 2 + size ≡ d) where
       more : e + 2 ≡ e + 1 + 1
       more = omega arith
 
-  pub far-pos : 0 < lostOf size m d
-  far-pos = subst (λ (z : ℕ). 0 < z) (sym odd) (le-add_left 1 ((m * 2 ^ (e + 1) + (2 ^ e - 1)) * 2))
+  pub far_pos : 0 < lost_of size m d
+  far_pos = subst (λ (z : ℕ). 0 < z) (sym odd) (le-add_left 1 ((m * 2 ^ (e + 1) + (2 ^ e - 1)) * 2))
 
-  pub far-bottom : 0 ≡ bottomOf (lostOf size m d)
-  far-bottom = bottom-unique (lostOf size m d) 0 far-pos (m * 2 ^ (e + 1) + (2 ^ e - 1), odd ∙ sym (mul-one ((m * 2 ^ (e + 1) + (2 ^ e - 1)) * 2 + 1)))
+  pub far_bottom : 0 ≡ bottom_of (lost_of size m d)
+  far_bottom = bottom_unique (lost_of size m d) 0 far_pos (m * 2 ^ (e + 1) + (2 ^ e - 1), odd ∙ sym (mul_one ((m * 2 ^ (e + 1) + (2 ^ e - 1)) * 2 + 1)))
 
   -- the oldest is the oldest that was missing, or the first that was skipped
-  pub far-top : 0 < m → top_of m + (e + 2) ≡ top_of (lostOf size m d)
-  far-top p =
-      let t = top-is m p in
+  pub far_top : 0 < m → top_of m + (e + 2) ≡ top_of (lost_of size m d)
+  far_top p =
+      let t = top_is m p in
       let small : 2 ^ (e + 1) - 1 < 2 ^ (e + 2) = lt_of_lt_of_le (ones_lt (e + 1)) (pow_mono grow) in
       let lo : 2 ^ (top_of m + (e + 2)) ≤ m * 2 ^ (e + 2) + (2 ^ (e + 1) - 1) =
-      le_trans (le_of_eq (pow-add 2 (top_of m) (e + 2))) (le_trans (mul-le-mul_right (2 ^ (e + 2)) t.0) (le-add_right (m * 2 ^ (e + 2)) (2 ^ (e + 1) - 1))) in
+      le_trans (le_of_eq (pow-add 2 (top_of m) (e + 2))) (le_trans (mul_le_mul_right (2 ^ (e + 2)) t.0) (le-add_right (m * 2 ^ (e + 2)) (2 ^ (e + 1) - 1))) in
       let hi : m * 2 ^ (e + 2) + (2 ^ (e + 1) - 1) < 2 ^ suc (top_of m + (e + 2)) =
       lt_of_lt_of_le (digits_lt t.1 small) (le_of_eq (sym (pow-add 2 (suc (top_of m)) (e + 2)) ∙ ap (λ (z : ℕ). 2 ^ z) (suc-add (top_of m) (e + 2)))) in
-      top_unique (m * 2 ^ (e + 2) + (2 ^ (e + 1) - 1)) (top_of m + (e + 2)) (lo, hi) ∙ ap top_of (sym far-is)
+      top_unique (m * 2 ^ (e + 2) + (2 ^ (e + 1) - 1)) (top_of m + (e + 2)) (lo, hi) ∙ ap top_of (sym far_is)
     where
       grow : e + 1 ≤ e + 2
       grow = omega arith
 
-  pub far-skipped : m ≡ 0 → e ≡ top_of (lostOf size m d)
-  far-skipped z =
-      let v : lostOf size m d ≡ 2 ^ (e + 1) - 1 = far-is ∙ ap (λ (y : ℕ). y * 2 ^ (e + 2) + (2 ^ (e + 1) - 1)) z ∙ ap (λ (y : ℕ). y + (2 ^ (e + 1) - 1)) (zero-mul (2 ^ (e + 2))) ∙ zero-add (2 ^ (e + 1) - 1) in
+  pub far_skipped : m ≡ 0 → e ≡ top_of (lost_of size m d)
+  far_skipped z =
+      let v : lost_of size m d ≡ 2 ^ (e + 1) - 1 = far_is ∙ ap (λ (y : ℕ). y * 2 ^ (e + 2) + (2 ^ (e + 1) - 1)) z ∙ ap (λ (y : ℕ). y + (2 ^ (e + 1) - 1)) (zero-mul (2 ^ (e + 2))) ∙ zero-add (2 ^ (e + 1) - 1) in
       let twice : 2 ^ (e + 1) ≡ 2 ^ e * 2 = pow-add 2 e 1 in
       let next : 2 ^ suc e ≡ 2 ^ e * 2 = pow-suc 2 e in
       let some : 0 < 2 ^ e = pow_pos e in
@@ -74,43 +74,43 @@ pub record Near (size d old gone : ℕ) : Type 0 where
   pub none : old ≡ 0 → gone ≡ 0
   pub some : 0 < old → 0 < gone
   pub oldest : 0 < old → size + top_of gone ≡ top_of old + d
-  pub newest : 0 < old → size + bottomOf gone ≡ bottomOf old + d
+  pub newest : 0 < old → size + bottom_of gone ≡ bottom_of old + d
 
 -- old is what leaves, times 2 ^ k
 near_up : (size d k gone : ℕ) → k + d ≡ size → Near size d (gone * 2 ^ k) gone
 near_up size d k gone e = record {
-  none = λ z. le-zero (not-pos gone (λ p. lt_irrefl 0 (subst (λ (y : ℕ). 0 < y) z (pos-times gone k p))));
+  none = λ z. le-zero (not_pos gone (λ p. lt_irrefl 0 (subst (λ (y : ℕ). 0 < y) z (pos_times gone k p))));
   some = pos;
   oldest = λ p. let s = top_shift gone k (pos p) in omega arith;
-  newest = λ p. let s = bottom-shift gone k (pos p) in omega arith;
+  newest = λ p. let s = bottom_shift gone k (pos p) in omega arith;
 }
   where
-    not-pos : (n : ℕ) → (0 < n → ⊥) → n ≤ 0
-    not-pos zero f = le_refl 0
-    not-pos (suc n) f = absurd (f (zero-lt-suc n))
+    not_pos : (n : ℕ) → (0 < n → ⊥) → n ≤ 0
+    not_pos zero f = le_refl 0
+    not_pos (suc n) f = absurd (f (zero-lt-suc n))
 
     pos : 0 < gone * 2 ^ k → 0 < gone
-    pos p = pos-left gone (2 ^ k) p
+    pos p = pos_left gone (2 ^ k) p
 
 -- what leaves is twice old
 near_down : (size d old : ℕ) → size + 1 ≡ d → Near size d old (old * 2)
 near_down size d old e = record {
   none = λ z. ap (λ (y : ℕ). y * 2) z;
-  some = λ p. pos-times old 1 p;
+  some = λ p. pos_times old 1 p;
   oldest = λ p. let s : top_of old + 1 ≡ top_of (old * 2) = top_shift old 1 p in omega arith;
-  newest = λ p. let s : bottomOf old + 1 ≡ bottomOf (old * 2) = bottom-shift old 1 p in omega arith;
+  newest = λ p. let s : bottom_of old + 1 ≡ bottom_of (old * 2) = bottom_shift old 1 p in omega arith;
 }
 
-pub near : (size m d k : ℕ) → 1 ≤ d → d ≤ size + 1 → k ≡ size - d → Near size d (m / 2 ^ k * 2 ^ k) (lostOf size m d)
-unfolding lostOf
+pub near : (size m d k : ℕ) → 1 ≤ d → d ≤ size + 1 → k ≡ size - d → Near size d (m / 2 ^ k * 2 ^ k) (lost_of size m d)
+unfolding lost_of
 near size m d k p q ek = go (eq-or-lt_of_le q)
   where
-    go : (d ≡ size + 1) ⊎ (d < size + 1) → Near size d (m / 2 ^ k * 2 ^ k) (lostOf size m d)
+    go : (d ≡ size + 1) ⊎ (d < size + 1) → Near size d (m / 2 ^ k * 2 ^ k) (lost_of size m d)
     go (inl e) =
         let k0 : 0 ≡ k = omega arith in
-        let old : m ≡ m / 2 ^ k * 2 ^ k = subst (λ (z : ℕ). m ≡ m / 2 ^ z * 2 ^ z) k0 (sym (mul-one (m / 1) ∙ div-one m)) in
+        let old : m ≡ m / 2 ^ k * 2 ^ k = subst (λ (z : ℕ). m ≡ m / 2 ^ z * 2 ^ z) k0 (sym (mul_one (m / 1) ∙ div-one m)) in
         let d1 : d - 1 ≡ size = omega arith in
-        let gone : lostOf size m d ≡ m * 2 =
+        let gone : lost_of size m d ≡ m * 2 =
         ap₂ (λ (y z : ℕ). (m * 2 ^ y + (2 ^ z - 1)) / 2 ^ size) e d1
         ∙ ap (λ (z : ℕ). (m * z + (2 ^ size - 1)) / 2 ^ size) (pow-add 2 size 1 ∙ mul_comm (2 ^ size) 2)
         ∙ ap (λ (z : ℕ). (z + (2 ^ size - 1)) / 2 ^ size) (sym (mul_assoc m 2 (2 ^ size)))
@@ -119,7 +119,7 @@ near size m d k p q ek = go (eq-or-lt_of_le q)
     go (inr h) =
         let kd : k + d ≡ size = omega arith in
         let small : 2 ^ (d - 1) - 1 < 2 ^ d = lt_of_lt_of_le (ones_lt (d - 1)) (pow_mono (sub-le d 1)) in
-        let gone : lostOf size m d ≡ m / 2 ^ k =
+        let gone : lost_of size m d ≡ m / 2 ^ k =
         ap (λ (z : ℕ). (m * 2 ^ d + (2 ^ (d - 1) - 1)) / 2 ^ z) (sym (add_comm d k ∙ kd)) ∙ sym (shr-shr (m * 2 ^ d + (2 ^ (d - 1) - 1)) d k) ∙ ap (λ (z : ℕ). z / 2 ^ k) (high m d small) in
         subst (λ (z : ℕ). Near size d (m / 2 ^ k * 2 ^ k) z) (sym gone) (near_up size d k (m / 2 ^ k) kd)
 
@@ -130,38 +130,38 @@ module _ (h size m d : ℕ) where
     rest : d - 2 - size + 2 + size ≡ d
     rest = omega arith
 
-    pub loss-skipped : {r : SeqRange} → m ≡ 0 → RangeTo h (d - 2) size r → Of r ≡ span_of h size (lostOf size m d)
-    loss-skipped {r} z e =
-        let top = far-skipped size m d (d - 2 - size) rest z in
-        let bottom = far-bottom size m d (d - 2 - size) rest in
-        span-some h size (lostOf size m d) (d - 2) size r (far-pos size m d (d - 2 - size) rest) (omega arith) (omega arith) e
+    pub loss_skipped : {r : SeqRange} → m ≡ 0 → RangeTo h (d - 2) size r → Of r ≡ span_of h size (lost_of size m d)
+    loss_skipped {r} z e =
+        let top = far_skipped size m d (d - 2 - size) rest z in
+        let bottom = far_bottom size m d (d - 2 - size) rest in
+        span_some h size (lost_of size m d) (d - 2) size r (far_pos size m d (d - 2 - size) rest) (omega arith) (omega arith) e
 
-    pub loss-both : {r : SeqRange} {t : ℕ} → 0 < m → t ≡ top_of m → RangeTo h (t + d) size r → Of r ≡ span_of h size (lostOf size m d)
-    loss-both {r} {t} q et e =
-        let top = far-top size m d (d - 2 - size) rest q in
-        let bottom = far-bottom size m d (d - 2 - size) rest in
-        span-some h size (lostOf size m d) (t + d) size r (far-pos size m d (d - 2 - size) rest) (omega arith) (omega arith) e
+    pub loss_both : {r : SeqRange} {t : ℕ} → 0 < m → t ≡ top_of m → RangeTo h (t + d) size r → Of r ≡ span_of h size (lost_of size m d)
+    loss_both {r} {t} q et e =
+        let top = far_top size m d (d - 2 - size) rest q in
+        let bottom = far_bottom size m d (d - 2 - size) rest in
+        span_some h size (lost_of size m d) (t + d) size r (far_pos size m d (d - 2 - size) rest) (omega arith) (omega arith) e
 
   -- nothing was missing at size - d or above
-  loss-stays : 1 ≤ d → d ≤ size + 1 → m < 2 ^ (size - d) → Nothing ≡ span_of h size (lostOf size m d)
-  loss-stays p q b =
-      span_none h size (lostOf size m d) ((near size m d (size - d) p q refl).none (ap (λ (z : ℕ). z * 2 ^ (size - d)) (div-eq_of_lt b) ∙ zero-mul (2 ^ (size - d))))
+  loss_stays : 1 ≤ d → d ≤ size + 1 → m < 2 ^ (size - d) → Nothing ≡ span_of h size (lost_of size m d)
+  loss_stays p q b =
+      span_none h size (lost_of size m d) ((near size m d (size - d) p q refl).none (ap (λ (z : ℕ). z * 2 ^ (size - d)) (div-eq_of_lt b) ∙ zero-mul (2 ^ (size - d))))
 
-  pub loss-empty : 1 ≤ d → d ≤ size + 1 → m ≡ 0 → Nothing ≡ span_of h size (lostOf size m d)
-  loss-empty p q z = loss-stays p q (subst (λ (y : ℕ). y < 2 ^ (size - d)) (sym z) (pow_pos (size - d)))
+  pub loss_empty : 1 ≤ d → d ≤ size + 1 → m ≡ 0 → Nothing ≡ span_of h size (lost_of size m d)
+  loss_empty p q z = loss_stays p q (subst (λ (y : ℕ). y < 2 ^ (size - d)) (sym z) (pow_pos (size - d)))
 
-  pub loss-young : {t : ℕ} → 1 ≤ d → 0 < m → t ≡ top_of m → t + d < size → Nothing ≡ span_of h size (lostOf size m d)
-  loss-young {t} p q et b =
+  pub loss_young : {t : ℕ} → 1 ≤ d → 0 < m → t ≡ top_of m → t + d < size → Nothing ≡ span_of h size (lost_of size m d)
+  loss_young {t} p q et b =
       let up : suc (top_of m) ≤ size - d = omega arith in
-      loss-stays p (omega arith) (lt_of_lt_of_le (top-is m q).1 (pow_mono up))
+      loss_stays p (omega arith) (lt_of_lt_of_le (top_is m q).1 (pow_mono up))
 
   -- `old` is what leaves of the positions that were missing
   module _ (p : 1 ≤ d) (q : d ≤ size + 1) {k : ℕ} (ek : k ≡ size - d) {old : ℕ} (is : old ≡ m / 2 ^ k * 2 ^ k) where
-    leaves : Near size d old (lostOf size m d)
-    leaves = subst (λ (x : ℕ). Near size d x (lostOf size m d)) (sym is) (near size m d k p q ek)
+    leaves : Near size d old (lost_of size m d)
+    leaves = subst (λ (x : ℕ). Near size d x (lost_of size m d)) (sym is) (near size m d k p q ek)
 
-    pub loss-old : {r : SeqRange} {t b : ℕ} → 0 < old → t ≡ top_of old → b ≡ bottomOf old → RangeTo h (t + d) (b + d) r → Of r ≡ span_of h size (lostOf size m d)
-    loss-old {r} {t} {b} o et eb e =
+    pub loss_old : {r : SeqRange} {t b : ℕ} → 0 < old → t ≡ top_of old → b ≡ bottom_of old → RangeTo h (t + d) (b + d) r → Of r ≡ span_of h size (lost_of size m d)
+    loss_old {r} {t} {b} o et eb e =
         let top = leaves.oldest o in
         let bottom = leaves.newest o in
-        span-some h size (lostOf size m d) (t + d) (b + d) r (leaves.some o) (omega arith) (omega arith) e
+        span_some h size (lost_of size m d) (t + d) (b + d) r (leaves.some o) (omega arith) (omega arith) e

@@ -5,12 +5,12 @@ use native.Mathlib.Nat.{add-mul, mul_assoc, mul_comm, mul-mod_left, mod-eq_of_lt
 use native.Mathlib.Omega.{arith}
 use lib.Pow.{pow_pos, pow-add, mod-mod-pow, not_mod, shr_lt}
 use lib.Bits.{bit_and, and_mask, and_high}
-use Rattle.window.specs.Set.{maxWindow}
+use Rattle.window.specs.Set.{max_window}
 
 -- ---- shift
 
-pub shl-out : (x n N : ℕ) → N ≤ n → 0 ≡ (x * 2 ^ n) % 2 ^ N
-shl-out x n N h =
+pub shl_out : (x n N : ℕ) → N ≤ n → 0 ≡ (x * 2 ^ n) % 2 ^ N
+shl_out x n N h =
     let e : n - N + N ≡ n = sub-add_cancel {n = n} {m = N} h in
     sym (ap (λ (y : ℕ). (x * 2 ^ y) % 2 ^ N) (sym e) ∙ ap (λ (y : ℕ). (x * y) % 2 ^ N) (pow-add 2 (n - N) N)
     ∙ ap (λ (y : ℕ). y % 2 ^ N) (sym (mul_assoc x (2 ^ (n - N)) (2 ^ N))) ∙ mul-mod_left (x * 2 ^ (n - N)) (2 ^ N))
@@ -25,21 +25,21 @@ mod_times x y m =
 -- ---- masks
 
 -- the low digits of what fits a set
-pub cut-mask : (x size : ℕ) → size ≤ maxWindow → bit_and (x % 2 ^ maxWindow) (2 ^ size - 1) ≡ x % 2 ^ size
-cut-mask x size h =
-    and_mask (x % 2 ^ maxWindow) size ∙ ap (λ (z : ℕ). x % 2 ^ z % 2 ^ size) (sym (sub-add_cancel {n = maxWindow} {m = size} h)) ∙ mod-mod-pow x (maxWindow - size) size
+pub cut_mask : (x size : ℕ) → size ≤ max_window → bit_and (x % 2 ^ max_window) (2 ^ size - 1) ≡ x % 2 ^ size
+cut_mask x size h =
+    and_mask (x % 2 ^ max_window) size ∙ ap (λ (z : ℕ). x % 2 ^ z % 2 ^ size) (sym (sub-add_cancel {n = max_window} {m = size} h)) ∙ mod-mod-pow x (max_window - size) size
 
 -- the other positions, cut
-pub missing-is : (size n : ℕ) → size ≤ maxWindow → n < 2 ^ size → bit_and ((2 ^ maxWindow - 1) - n) (2 ^ size - 1) ≡ (2 ^ size - 1) - n
-missing-is size n h b =
-    and_mask ((2 ^ maxWindow - 1) - n) size ∙ ap (λ (z : ℕ). ((2 ^ z - 1) - n) % 2 ^ size) (sym (sub-add_cancel {n = maxWindow} {m = size} h)) ∙ not_mod (maxWindow - size) size b
+pub missing_is : (size n : ℕ) → size ≤ max_window → n < 2 ^ size → bit_and ((2 ^ max_window - 1) - n) (2 ^ size - 1) ≡ (2 ^ size - 1) - n
+missing_is size n h b =
+    and_mask ((2 ^ max_window - 1) - n) size ∙ ap (λ (z : ℕ). ((2 ^ z - 1) - n) % 2 ^ size) (sym (sub-add_cancel {n = max_window} {m = size} h)) ∙ not_mod (max_window - size) size b
 
 -- the positions at k and above
-pub from_is : (m k : ℕ) → k ≤ maxWindow → m < 2 ^ maxWindow → bit_and m ((2 ^ maxWindow - 1) - (2 ^ k - 1)) ≡ m / 2 ^ k * 2 ^ k
+pub from_is : (m k : ℕ) → k ≤ max_window → m < 2 ^ max_window → bit_and m ((2 ^ max_window - 1) - (2 ^ k - 1)) ≡ m / 2 ^ k * 2 ^ k
 from_is m k h b =
-    let e : maxWindow - k + k ≡ maxWindow = sub-add_cancel {n = maxWindow} {m = k} h in
-    ap (bit_and m) (less (2 ^ maxWindow) (2 ^ k) (pow_pos k) ∙ ap (λ (z : ℕ). 2 ^ z - 2 ^ k) (sym e)) ∙ and_high m (maxWindow - k) k
-    ∙ ap (λ (z : ℕ). z * 2 ^ k) (mod-eq_of_lt (shr_lt (maxWindow - k) k (subst (λ (z : ℕ). m < 2 ^ z) (sym e) b)))
+    let e : max_window - k + k ≡ max_window = sub-add_cancel {n = max_window} {m = k} h in
+    ap (bit_and m) (less (2 ^ max_window) (2 ^ k) (pow_pos k) ∙ ap (λ (z : ℕ). 2 ^ z - 2 ^ k) (sym e)) ∙ and_high m (max_window - k) k
+    ∙ ap (λ (z : ℕ). z * 2 ^ k) (mod-eq_of_lt (shr_lt (max_window - k) k (subst (λ (z : ℕ). m < 2 ^ z) (sym e) b)))
   where
     less : (a b : ℕ) → 1 ≤ b → (a - 1) - (b - 1) ≡ a - b
     less a b p = omega arith

@@ -10,62 +10,62 @@ use lib.Pow.{pow_pos, pow-lt, ones_lt}
 use borrow.Author.Tests.{leb-true}
 use Rattle.config.specs.Range.{within}
 use Rattle.config.specs.Sequence.{turn, ahead}
-use Rattle.window.specs.Set.{maxWindow, val, setOf}
-use Rattle.window.specs.Window.{Valid, fresh_of, fresh, processed, missingOf}
-use Rattle.window.specs.Arrival.{reach, class_of, movedOf, newOf, lateAt, taken_of, acceptOf}
-use Rattle.window.specs.Marking.{hitsOf, mark_of}
+use Rattle.window.specs.Set.{max_window, val, set_of}
+use Rattle.window.specs.Window.{Valid, fresh_of, fresh, processed, missing_of}
+use Rattle.window.specs.Arrival.{reach, class_of, moved_of, new_of, late_at, taken_of, accept_of}
+use Rattle.window.specs.Marking.{hits_of, mark_of}
 use Rattle.window.specs.declared.window.ReceiveWindow.{ReceiveWindow}
 use Rattle.window.specs.declared.window.SeqRange.{SeqRange}
 use Rattle.window.specs.declared.window.Class.{Class}
 use Rattle.window.specs.declared.window.Class.TheVariants.{New, Late, Duplicate}
 use Rattle.window.proofs.Words.{val_of}
-use Rattle.window.proofs.Hits.{hits-lt}
+use Rattle.window.proofs.Hits.{hits_lt}
 
-module _ (size highest n : ℕ) (p : 1 ≤ size) (q : size ≤ maxWindow) (h : n < 2 ^ size) where
-  valid-set : Valid (record { size = size; highest = highest; bits = setOf n })
-  valid-set = record { some = p; most = q; inside = subst (λ (x : ℕ). x < 2 ^ size) (sym (val_of n)) h }
+module _ (size highest n : ℕ) (p : 1 ≤ size) (q : size ≤ max_window) (h : n < 2 ^ size) where
+  valid_set : Valid (record { size = size; highest = highest; bits = set_of n })
+  valid_set = record { some = p; most = q; inside = subst (λ (x : ℕ). x < 2 ^ size) (sym (val_of n)) h }
 
-pub valid-fresh : (size highest : ℕ) → 1 ≤ size → size ≤ maxWindow → Valid (fresh_of size highest)
-valid-fresh size highest p q = valid-set size highest (2 ^ size - 1) p q (ones_lt size)
+pub valid_fresh : (size highest : ℕ) → 1 ≤ size → size ≤ max_window → Valid (fresh_of size highest)
+valid_fresh size highest p q = valid_set size highest (2 ^ size - 1) p q (ones_lt size)
 
 -- a Late number is in the window
-late-in : (b b' n h : Bool) (x : ℕ) → Late ≡ cond n (New x) (cond ((b && b') && h) Late Duplicate) → (b ≡ true) × (b' ≡ true)
-late-in b b' true h x e = absurd (let z : ◌≡◌ {A = ℕ} 0 1 = cc in omega arith)
-late-in true true false h x e = (refl, refl)
-late-in true false false h x e = absurd (let z : ◌≡◌ {A = ℕ} 0 1 = cc in omega arith)
-late-in false b' false h x e = absurd (let z : ◌≡◌ {A = ℕ} 0 1 = cc in omega arith)
+late_in : (b b' n h : Bool) (x : ℕ) → Late ≡ cond n (New x) (cond ((b && b') && h) Late Duplicate) → (b ≡ true) × (b' ≡ true)
+late_in b b' true h x e = absurd (let z : ◌≡◌ {A = ℕ} 0 1 = cc in omega arith)
+late_in true true false h x e = (refl, refl)
+late_in true false false h x e = absurd (let z : ◌≡◌ {A = ℕ} 0 1 = cc in omega arith)
+late_in false b' false h x e = absurd (let z : ◌≡◌ {A = ℕ} 0 1 = cc in omega arith)
 
 module _ (w : ReceiveWindow) (v : Valid w) where
-  pub valid-all : Valid (fresh_of w.size w.highest)
-  valid-all = valid-fresh w.size w.highest v.some v.most
+  pub valid_all : Valid (fresh_of w.size w.highest)
+  valid_all = valid_fresh w.size w.highest v.some v.most
 
-  pub valid-reset : Valid (fresh w.size)
-  valid-reset = valid-fresh w.size (turn - 1) v.some v.most
+  pub valid_reset : Valid (fresh w.size)
+  valid_reset = valid_fresh w.size (turn - 1) v.some v.most
 
-  pub valid-new : (seq d : ℕ) → Valid (newOf w seq d).window
-  unfolding newOf movedOf
-  valid-new seq d = valid-set w.size seq _ v.some v.most (mod-lt ((val w.bits * 2 + 1) * 2 ^ (d - 1)) (pow_pos w.size))
+  pub valid_new : (seq d : ℕ) → Valid (new_of w seq d).window
+  unfolding new_of moved_of
+  valid_new seq d = valid_set w.size seq _ v.some v.most (mod-lt ((val w.bits * 2 + 1) * 2 ^ (d - 1)) (pow_pos w.size))
 
-  pub valid-late : (k : ℕ) → k < w.size → Valid (lateAt w k).window
-  valid-late k l = valid-set w.size w.highest _ v.some v.most (or_lt w.size (val w.bits) (2 ^ k) v.inside (pow-lt l))
+  pub valid_late : (k : ℕ) → k < w.size → Valid (late_at w k).window
+  valid_late k l = valid_set w.size w.highest _ v.some v.most (or_lt w.size (val w.bits) (2 ^ k) v.inside (pow-lt l))
 
-  pub valid-mark : (r : SeqRange) → Valid (mark_of w r).window
+  pub valid_mark : (r : SeqRange) → Valid (mark_of w r).window
   unfolding mark_of
-  valid-mark r =
-      valid-set w.size w.highest _ v.some v.most
-      (or_lt w.size (val w.bits) (hitsOf r w.highest (missingOf w) w.size) v.inside (hits-lt r w.highest (missingOf w) w.size))
+  valid_mark r =
+      valid_set w.size w.highest _ v.some v.most
+      (or_lt w.size (val w.bits) (hits_of r w.highest (missing_of w) w.size) v.inside (hits_lt r w.highest (missing_of w) w.size))
 
-  pub valid-accept : (seq : ℕ) → Valid (acceptOf w seq).window
-  unfolding acceptOf class_of
-  valid-accept seq = go (class_of w seq) refl
+  pub valid_accept : (seq : ℕ) → Valid (accept_of w seq).window
+  unfolding accept_of class_of
+  valid_accept seq = go (class_of w seq) refl
     where
       go : (c : Class) → c ≡ class_of w seq → Valid (taken_of w seq c).window
-      go (New gap) e = valid-new seq (gap + 1)
+      go (New gap) e = valid_new seq (gap + 1)
       go Late e =
           let back : ℕ = ahead seq w.highest in
           let d : ℕ = ahead w.highest seq in
-          let i = late-in (leb 1 back) (leb back w.size) (within 1 reach d) (not (processed w back)) (d - 1) e in
+          let i = late_in (leb 1 back) (leb back w.size) (within 1 reach d) (not (processed w back)) (d - 1) e in
           let low : 1 ≤ back = leb-true _ _ i.0 in
           let top : back ≤ w.size = leb-true _ _ i.1 in
-          valid-late (back - 1) (omega arith)
+          valid_late (back - 1) (omega arith)
       go Duplicate e = v

@@ -3,8 +3,8 @@ use Rattle.std.specs.Prelude.{Bool, not, ◌&&◌, cond, ℕ, ◌+◌, ◌-◌, 
 use Rattle.std.specs.Int.Bits.{bit_or}
 use Rattle.config.specs.Range.{within}
 use Rattle.config.specs.Sequence.{ahead}
-use Rattle.window.specs.Set.{val, setOf}
-use Rattle.window.specs.Window.{processed, missingOf, span_of}
+use Rattle.window.specs.Set.{val, set_of}
+use Rattle.window.specs.Window.{processed, missing_of, span_of}
 use Rattle.window.specs.declared.window.ReceiveWindow.{ReceiveWindow}
 use Rattle.window.specs.declared.window.Arrival.{Arrival}
 use Rattle.window.specs.declared.window.Class.{Class}
@@ -25,29 +25,29 @@ class_of w seq =
 
 -- What is processed moves d behind. Below it come the old highest, processed, and the d - 1 skipped ones, unprocessed.
 -- Those at `size` and above leave.
-unfoldable pub movedOf : ℕ → ℕ → ℕ → ℕ
-movedOf size n d = ((n * 2 + 1) * 2 ^ (d - 1)) % 2 ^ size
+unfoldable pub moved_of : ℕ → ℕ → ℕ → ℕ
+moved_of size n d = ((n * 2 + 1) * 2 ^ (d - 1)) % 2 ^ size
 
 -- The unprocessed positions that are now more than `size` behind, the first of them as position 0: what was missing, m, and the skipped ones.
-unfoldable pub lostOf : ℕ → ℕ → ℕ → ℕ
-lostOf size m d = (m * 2 ^ d + (2 ^ (d - 1) - 1)) / 2 ^ size
+unfoldable pub lost_of : ℕ → ℕ → ℕ → ℕ
+lost_of size m d = (m * 2 ^ d + (2 ^ (d - 1) - 1)) / 2 ^ size
 
 -- a number d ahead
-unfoldable pub newOf : ReceiveWindow → ℕ → ℕ → Arrival
-newOf w seq d = record {
-  window = record { size = w.size; highest = seq; bits = setOf (movedOf w.size (val w.bits) d) };
+unfoldable pub new_of : ReceiveWindow → ℕ → ℕ → Arrival
+new_of w seq d = record {
+  window = record { size = w.size; highest = seq; bits = set_of (moved_of w.size (val w.bits) d) };
   class = New (d - 1);
-  lost = span_of seq w.size (lostOf w.size (missingOf w) d);
+  lost = span_of seq w.size (lost_of w.size (missing_of w) d);
 }
 
 -- the next number, with nothing missing before it
-unfoldable pub inOrder : ReceiveWindow → ℕ → Bool
-inOrder w seq = eqb (ahead w.highest seq) 1 && eqb (missingOf w) 0
+unfoldable pub in_order : ReceiveWindow → ℕ → Bool
+in_order w seq = eqb (ahead w.highest seq) 1 && eqb (missing_of w) 0
 
 -- a number at position k of the window
-abbrev pub lateAt : ReceiveWindow → ℕ → Arrival
-lateAt w k = record {
-  window = record { size = w.size; highest = w.highest; bits = setOf (bit_or (val w.bits) (2 ^ k)) };
+abbrev pub late_at : ReceiveWindow → ℕ → Arrival
+late_at w k = record {
+  window = record { size = w.size; highest = w.highest; bits = set_of (bit_or (val w.bits) (2 ^ k)) };
   class = Late;
   lost = Nothing;
 }
@@ -57,9 +57,9 @@ abbrev pub unchanged : ReceiveWindow → Arrival
 unchanged w = record { window = w; class = Duplicate; lost = Nothing }
 
 abbrev pub taken_of : ReceiveWindow → ℕ → Class → Arrival
-taken_of w seq (New gap) = newOf w seq (gap + 1)
-taken_of w seq Late = lateAt w (ahead seq w.highest - 1)
+taken_of w seq (New gap) = new_of w seq (gap + 1)
+taken_of w seq Late = late_at w (ahead seq w.highest - 1)
 taken_of w seq Duplicate = unchanged w
 
-unfoldable pub acceptOf : ReceiveWindow → ℕ → Arrival
-acceptOf w seq = taken_of w seq (class_of w seq)
+unfoldable pub accept_of : ReceiveWindow → ℕ → Arrival
+accept_of w seq = taken_of w seq (class_of w seq)

@@ -5,15 +5,15 @@ use Rattle.std.specs.Int.Count.{count_trailing_zeros}
 use Rattle.window.specs.declared.set.Bits.{Bits}
 
 -- how many positions a set has room for: the largest window
-abbrev pub maxWindow : ℕ
-maxWindow = 128
+abbrev pub max_window : ℕ
+max_window = 128
 
 -- the number of a set of two words, and the words of a number: all that says how many words there are
 unfoldable pub val : Bits → ℕ
 val s = s.high * 2 ^ 64 + s.low
 
-unfoldable pub setOf : ℕ → Bits
-setOf n = record { low = n % 2 ^ 64; high = n / 2 ^ 64 }
+unfoldable pub set_of : ℕ → Bits
+set_of n = record { low = n % 2 ^ 64; high = n / 2 ^ 64 }
 
 -- position k is in the set
 abbrev pub has : ℕ → ℕ → Bool
@@ -25,14 +25,14 @@ abbrev pub over : ℕ → ℕ → ℕ
 over zero t = zero
 over (suc m) t = suc t
 
-unfoldable pub topIn : ℕ → ℕ → ℕ
-topIn zero n = zero
-topIn (suc f) n = over (n / 2) (topIn f (n / 2))
+unfoldable pub top_in : ℕ → ℕ → ℕ
+top_in zero n = zero
+top_in (suc f) n = over (n / 2) (top_in f (n / 2))
 
 unfoldable pub top_of : ℕ → ℕ
-unfolding topIn
-top_of n = topIn n n
+unfolding top_in
+top_of n = top_in n n
 
 -- the lowest position: how many digits stand below the lowest that is set
-unfoldable pub bottomOf : ℕ → ℕ
-bottomOf n = count_trailing_zeros n n
+unfoldable pub bottom_of : ℕ → ℕ
+bottom_of n = count_trailing_zeros n n

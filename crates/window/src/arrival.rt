@@ -4,9 +4,9 @@
 ghost use Rattle.std.specs.Prelude.{◌≡◌, true, false, ◌+◌, ◌-◌, ◌*◌, ◌%◌, ◌^◌, ◌≤◌, ◌<◌};
 ghost use Rattle.config.specs.Range.{within};
 ghost use Rattle.config.specs.Sequence.{ahead};
-ghost use Rattle.window.specs.Set.{maxWindow, val, setOf};
+ghost use Rattle.window.specs.Set.{max_window, val, set_of};
 ghost use Rattle.window.specs.Window.{Valid, span_of};
-ghost use Rattle.window.specs.Arrival.{reach, lostOf, class_of, inOrder, acceptOf};
+ghost use Rattle.window.specs.Arrival.{reach, lost_of, class_of, in_order, accept_of};
 
 use super::set::Bits;
 use super::span::range_to;
@@ -55,7 +55,7 @@ pub fn classify(w: ReceiveWindow, seq: SeqNum) -> Class
 // Whether the number is the next one, with nothing missing before it.
 pub fn in_order(w: ReceiveWindow, seq: SeqNum) -> bool
     requires { Valid w }
-    ensures { result ≡ inOrder w seq }
+    ensures { result ≡ in_order w seq }
 {
     let h = w.highest;
     if sequence::distance(h, seq) == 1 {
@@ -66,8 +66,8 @@ pub fn in_order(w: ReceiveWindow, seq: SeqNum) -> bool
 
 // A number in order arrives: the highest alone changes.
 pub fn accept_next(w: ReceiveWindow, seq: SeqNum) -> Arrival
-    requires { Valid w × (inOrder w seq ≡ true) }
-    ensures { result ≡ acceptOf w seq }
+    requires { Valid w × (in_order w seq ≡ true) }
+    ensures { result ≡ accept_of w seq }
 {
     let size = w.size;
     let bits = w.bits;
@@ -85,7 +85,7 @@ pub fn accept_next(w: ReceiveWindow, seq: SeqNum) -> Arrival
 // The class of a number ahead.
 pub fn class_ahead(w: ReceiveWindow, seq: SeqNum) -> Class
     requires { within 1 reach (ahead w.highest seq) ≡ true }
-    ensures { result ≡ (acceptOf w seq).class }
+    ensures { result ≡ (accept_of w seq).class }
 {
     let h = w.highest;
     let d = sequence::distance(h, seq);
@@ -96,8 +96,8 @@ pub fn class_ahead(w: ReceiveWindow, seq: SeqNum) -> Class
 // What leaves a window with the missing positions m when the number h, d ahead, arrives: skipped numbers leave
 // from distance size + 2 on.
 fn lost(h: SeqNum, size: u32, m: Bits, d: u32) -> Span
-    requires { (1 ≤ size) × (size ≤ maxWindow) × (1 ≤ d) × (d ≤ reach) × (val m < 2 ^ size) }
-    ensures { result ≡ span_of h size (lostOf size (val m) d) }
+    requires { (1 ≤ size) × (size ≤ max_window) × (1 ≤ d) × (d ≤ reach) × (val m < 2 ^ size) }
+    ensures { result ≡ span_of h size (lost_of size (val m) d) }
 {
     if set::empty(m) {
         if size + 2 <= d {
@@ -121,7 +121,7 @@ fn lost(h: SeqNum, size: u32, m: Bits, d: u32) -> Span
 // arrival: it stays a call, and the steps beside it are small enough to be inlined at each caller.
 pub fn lost_to(w: ReceiveWindow, seq: SeqNum) -> Span
     requires { Valid w × (within 1 reach (ahead w.highest seq) ≡ true) }
-    ensures { result ≡ (acceptOf w seq).lost }
+    ensures { result ≡ (accept_of w seq).lost }
 {
     let size = w.size;
     let h = w.highest;
@@ -136,7 +136,7 @@ pub fn lost_to(w: ReceiveWindow, seq: SeqNum) -> Span
 // The processed positions after a number d ahead arrived, before those at the size and above leave.
 fn moved(s: Bits, d: u32) -> Bits
     requires { (1 ≤ d) × (d ≤ reach) }
-    ensures { result ≡ setOf (((val s * 2 + 1) * 2 ^ (d - 1)) % 2 ^ maxWindow) }
+    ensures { result ≡ set_of (((val s * 2 + 1) * 2 ^ (d - 1)) % 2 ^ max_window) }
 {
     set::shifted(set::with(set::shifted(s, 1), 0), d - 1)
 }
@@ -144,7 +144,7 @@ fn moved(s: Bits, d: u32) -> Bits
 // The window moved up to a number ahead.
 pub fn moved_to(w: ReceiveWindow, seq: SeqNum) -> ReceiveWindow
     requires { Valid w × (within 1 reach (ahead w.highest seq) ≡ true) }
-    ensures { result ≡ (acceptOf w seq).window }
+    ensures { result ≡ (accept_of w seq).window }
 {
     let size = w.size;
     let h = w.highest;
@@ -161,7 +161,7 @@ pub fn moved_to(w: ReceiveWindow, seq: SeqNum) -> ReceiveWindow
 // A number that is not ahead arrives: it is Late or a Duplicate, and nothing leaves.
 pub fn accept_behind(w: ReceiveWindow, seq: SeqNum) -> Arrival
     requires { Valid w × (within 1 reach (ahead w.highest seq) ≡ false) }
-    ensures { result ≡ acceptOf w seq }
+    ensures { result ≡ accept_of w seq }
 {
     let size = w.size;
     let highest = w.highest;

@@ -5,7 +5,7 @@
 //     | 127 | .. | 65 | 64 |     | 63 | .. | 1 | 0 |
 ghost use Rattle.std.specs.Prelude.{◌≡◌, ◌+◌, ◌-◌, ◌*◌, ◌/◌, ◌%◌, ◌^◌, ◌≤◌, ◌<◌, eqb, ltb};
 ghost use Rattle.std.specs.Int.Bits.{bit_and, bit_or};
-ghost use Rattle.window.specs.Set.{maxWindow, val, setOf, has, top_of, bottomOf};
+ghost use Rattle.window.specs.Set.{max_window, val, set_of, has, top_of, bottom_of};
 
 // How many positions a set has room for: the largest window.
 pub const MAX_WINDOW: u32 = 128;
@@ -22,14 +22,14 @@ pub struct Bits {
 
 // No position.
 pub fn none() -> Bits
-    ensures { result ≡ setOf 0 }
+    ensures { result ≡ set_of 0 }
 {
     Bits { low: 0, high: 0 }
 }
 
 // The positions of both.
 pub fn both(a: Bits, b: Bits) -> Bits
-    ensures { result ≡ setOf (bit_and (val a) (val b)) }
+    ensures { result ≡ set_of (bit_and (val a) (val b)) }
 {
     Bits {
         low: a.low & b.low,
@@ -39,7 +39,7 @@ pub fn both(a: Bits, b: Bits) -> Bits
 
 // The positions of either.
 pub fn either(a: Bits, b: Bits) -> Bits
-    ensures { result ≡ setOf (bit_or (val a) (val b)) }
+    ensures { result ≡ set_of (bit_or (val a) (val b)) }
 {
     Bits {
         low: a.low | b.low,
@@ -49,7 +49,7 @@ pub fn either(a: Bits, b: Bits) -> Bits
 
 // The other positions.
 pub fn flipped(a: Bits) -> Bits
-    ensures { result ≡ setOf ((2 ^ maxWindow - 1) - val a) }
+    ensures { result ≡ set_of ((2 ^ max_window - 1) - val a) }
 {
     Bits {
         low: !a.low,
@@ -69,7 +69,7 @@ pub fn empty(s: Bits) -> bool
 // Each position up by a word and n more; those above the last leave.
 fn word_up(s: Bits, n: u32) -> Bits
     requires { n < 64 }
-    ensures { result ≡ setOf ((val s * 2 ^ (n + 64)) % 2 ^ maxWindow) }
+    ensures { result ≡ set_of ((val s * 2 ^ (n + 64)) % 2 ^ max_window) }
 {
     Bits {
         low: 0,
@@ -80,7 +80,7 @@ fn word_up(s: Bits, n: u32) -> Bits
 // Each position up by n, less than a word; those above the last leave.
 fn bits_up(s: Bits, n: u32) -> Bits
     requires { (1 ≤ n) × (n < 64) }
-    ensures { result ≡ setOf ((val s * 2 ^ n) % 2 ^ maxWindow) }
+    ensures { result ≡ set_of ((val s * 2 ^ n) % 2 ^ max_window) }
 {
     Bits {
         low: s.low << n,
@@ -91,7 +91,7 @@ fn bits_up(s: Bits, n: u32) -> Bits
 // The highest position of a set that has one.
 pub fn top(s: Bits) -> u32
     requires { 0 < val s }
-    ensures { (result ≡ top_of (val s)) × (result < maxWindow) }
+    ensures { (result ≡ top_of (val s)) × (result < max_window) }
 {
     if s.high != 0 {
         return 2 * WORD - 1 - u64::leading_zeros(s.high);
@@ -102,7 +102,7 @@ pub fn top(s: Bits) -> u32
 // The lowest position of a set that has one.
 pub fn bottom(s: Bits) -> u32
     requires { 0 < val s }
-    ensures { result ≡ bottomOf (val s) }
+    ensures { result ≡ bottom_of (val s) }
 {
     if s.low != 0 {
         return u64::trailing_zeros(s.low);
@@ -112,8 +112,8 @@ pub fn bottom(s: Bits) -> u32
 
 // The n lowest positions, one at least.
 pub fn lowest(n: u32) -> Bits
-    requires { (1 ≤ n) × (n ≤ maxWindow) }
-    ensures { result ≡ setOf (2 ^ n - 1) }
+    requires { (1 ≤ n) × (n ≤ max_window) }
+    ensures { result ≡ set_of (2 ^ n - 1) }
 {
     let last = u64::MAX >> ((2 * WORD - n) % WORD);
     if n <= WORD {
@@ -127,7 +127,7 @@ pub fn lowest(n: u32) -> Bits
 
 // Whether no position is at n or above.
 pub fn below(s: Bits, n: u32) -> bool
-    requires { (1 ≤ n) × (n ≤ maxWindow) }
+    requires { (1 ≤ n) × (n ≤ max_window) }
     ensures { result ≡ ltb (val s) (2 ^ n) }
 {
     let last = u64::MAX >> ((2 * WORD - n) % WORD);
@@ -142,7 +142,7 @@ pub fn below(s: Bits, n: u32) -> bool
 
 // Whether a set that is below n has every position there.
 pub fn is_lowest(s: Bits, n: u32) -> bool
-    requires { (1 ≤ n) × (n ≤ maxWindow) × (val s < 2 ^ n) }
+    requires { (1 ≤ n) × (n ≤ max_window) × (val s < 2 ^ n) }
     ensures { result ≡ eqb (val s) (2 ^ n - 1) }
 {
     let last = u64::MAX >> ((2 * WORD - n) % WORD);
@@ -156,7 +156,7 @@ pub fn is_lowest(s: Bits, n: u32) -> bool
 }
 
 pub fn holds(s: Bits, k: u32) -> bool
-    requires { k < maxWindow }
+    requires { k < max_window }
     ensures { result ≡ has (val s) k }
 {
     if k < WORD {
@@ -167,8 +167,8 @@ pub fn holds(s: Bits, k: u32) -> bool
 
 // The set with position k.
 pub fn with(s: Bits, k: u32) -> Bits
-    requires { k < maxWindow }
-    ensures { result ≡ setOf (bit_or (val s) (2 ^ k)) }
+    requires { k < max_window }
+    ensures { result ≡ set_of (bit_or (val s) (2 ^ k)) }
 {
     if k < WORD {
         return Bits {
@@ -184,7 +184,7 @@ pub fn with(s: Bits, k: u32) -> Bits
 
 // Each position up by n, whatever n is; those above the last leave.
 pub fn shifted(s: Bits, n: u32) -> Bits
-    ensures { result ≡ setOf ((val s * 2 ^ n) % 2 ^ maxWindow) }
+    ensures { result ≡ set_of ((val s * 2 ^ n) % 2 ^ max_window) }
 {
     if n == 0 {
         return s;
@@ -200,8 +200,8 @@ pub fn shifted(s: Bits, n: u32) -> Bits
 
 // The n lowest positions.
 pub fn low_ones(n: u32) -> Bits
-    requires { n ≤ maxWindow }
-    ensures { result ≡ setOf (2 ^ n - 1) }
+    requires { n ≤ max_window }
+    ensures { result ≡ set_of (2 ^ n - 1) }
 {
     if n == 0 {
         return none();
@@ -211,8 +211,8 @@ pub fn low_ones(n: u32) -> Bits
 
 // The positions of the set at n and above.
 pub fn from(s: Bits, n: u32) -> Bits
-    requires { n ≤ maxWindow }
-    ensures { result ≡ setOf (val s / 2 ^ n * 2 ^ n) }
+    requires { n ≤ max_window }
+    ensures { result ≡ set_of (val s / 2 ^ n * 2 ^ n) }
 {
     both(s, flipped(low_ones(n)))
 }

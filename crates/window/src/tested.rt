@@ -1,9 +1,9 @@
 // The state test `is_valid`, and what is asked of a state that was tested or marked in it: these require what the test
 // says. A layer above tests once for each of its calls.
 ghost use Rattle.std.specs.Prelude.{◌≡◌, ◌+◌, ◌^◌, ◌≤◌, ◌<◌, eqb};
-ghost use Rattle.window.specs.Set.{maxWindow, val, setOf};
-ghost use Rattle.window.specs.Window.{Valid, valid_of, fresh_of, processed, isProcessed, missingOf, missingSpan, requestOf};
-ghost use Rattle.window.specs.Marking.{hitAt, hitsOf, mark_of};
+ghost use Rattle.window.specs.Set.{max_window, val, set_of};
+ghost use Rattle.window.specs.Window.{Valid, valid_of, fresh_of, processed, is_processed, missing_of, missing_span, request_of};
+ghost use Rattle.window.specs.Marking.{hit_at, hits_of, mark_of};
 
 use super::set;
 use super::set::Bits;
@@ -26,7 +26,7 @@ pub fn is_valid(w: ReceiveWindow) -> bool
 
 // All before the highest processed.
 pub fn starting_at(size: u32, highest: SeqNum) -> ReceiveWindow
-    requires { (1 ≤ size) × (size ≤ maxWindow) }
+    requires { (1 ≤ size) × (size ≤ max_window) }
     ensures { result ≡ fresh_of size highest }
 {
     let bits = set::lowest(size);
@@ -40,7 +40,7 @@ pub fn starting_at(size: u32, highest: SeqNum) -> ReceiveWindow
 // The positions that were not processed.
 pub fn missing_set(w: ReceiveWindow) -> Bits
     requires { Valid w }
-    ensures { result ≡ setOf (missingOf w) }
+    ensures { result ≡ set_of (missing_of w) }
 {
     let bits = w.bits;
     let size = w.size;
@@ -50,7 +50,7 @@ pub fn missing_set(w: ReceiveWindow) -> Bits
 // Whether nothing is missing.
 pub fn complete(w: ReceiveWindow) -> bool
     requires { Valid w }
-    ensures { result ≡ eqb (missingOf w) 0 }
+    ensures { result ≡ eqb (missing_of w) 0 }
 {
     let bits = w.bits;
     let size = w.size;
@@ -60,7 +60,7 @@ pub fn complete(w: ReceiveWindow) -> bool
 // From the oldest to the newest missing number.
 pub fn missing(w: ReceiveWindow) -> Span
     requires { Valid w }
-    ensures { result ≡ missingSpan w }
+    ensures { result ≡ missing_span w }
 {
     let h = w.highest;
     span_of(h, missing_set(w))
@@ -69,7 +69,7 @@ pub fn missing(w: ReceiveWindow) -> Span
 // From the oldest missing number to just before the highest.
 pub fn request(w: ReceiveWindow) -> Span
     requires { Valid w }
-    ensures { result ≡ requestOf w }
+    ensures { result ≡ request_of w }
 {
     let h = w.highest;
     let m = missing_set(w);
@@ -99,7 +99,7 @@ pub fn processed_at(w: ReceiveWindow, back: u32) -> bool
 // Whether the number is the highest, or one of the window's numbers that was processed.
 pub fn is_processed(w: ReceiveWindow, seq: SeqNum) -> bool
     requires { Valid w }
-    ensures { result ≡ isProcessed w seq }
+    ensures { result ≡ is_processed w seq }
 {
     let h = w.highest;
     let size = w.size;
@@ -122,8 +122,8 @@ pub fn mark_all(w: ReceiveWindow) -> ReceiveWindow
 
 // `found`, all below k, with position k where m has it and its number is in the range.
 fn hit(found: Bits, m: Bits, h: SeqNum, range: SeqRange, k: u32) -> Bits
-    requires { (k < maxWindow) × (val found < 2 ^ k) }
-    ensures { result ≡ setOf (val found + hitAt range h (val m) k) }
+    requires { (k < max_window) × (val found < 2 ^ k) }
+    ensures { result ≡ set_of (val found + hit_at range h (val m) k) }
 {
     if set::holds(m, k) {
         if range.contains(number_at(h, k)) {
@@ -135,8 +135,8 @@ fn hit(found: Bits, m: Bits, h: SeqNum, range: SeqRange, k: u32) -> Bits
 
 // The positions of m below `size` whose numbers are in the range.
 fn hits(m: Bits, size: u32, h: SeqNum, range: SeqRange) -> Bits
-    requires { size ≤ maxWindow }
-    ensures { result ≡ setOf (hitsOf range h (val m) size) }
+    requires { size ≤ max_window }
+    ensures { result ≡ set_of (hits_of range h (val m) size) }
 {
     let mut found = set::none();
     let mut k = 0;

@@ -1,7 +1,7 @@
 // The window and its operations. Each takes the window by value and hands it back with its answer.
 ghost use Rattle.std.specs.Prelude.{◌≡◌};
 ghost use Rattle.window.specs.Marking.{in_range};
-ghost use Rattle.window.specs.Answers.{startAnswer, newAnswer, resetAnswer, classAnswer, heard as heardOf, acceptAnswer, processedAnswer, missingAnswer, requestAnswer, markAllAnswer, markAnswer};
+ghost use Rattle.window.specs.Answers.{start_answer, new_answer, reset_answer, class_answer, heard as heard_of, accept_answer, processed_answer, missing_answer, request_answer, mark_all_answer, mark_answer};
 
 use super::set::Bits;
 use super::{arrival, set, tested};
@@ -129,7 +129,7 @@ pub struct Extended {
 
 // The answer to a number that was taken.
 fn heard(taken: Arrival) -> Accepted
-    ensures { result ≡ heardOf taken }
+    ensures { result ≡ heard_of taken }
 {
     let window = taken.window;
     let class = taken.class;
@@ -154,14 +154,14 @@ impl SeqRange {
 impl ReceiveWindow {
     // The highest position is -1, and all before it are processed.
     pub fn new(size: u32) -> Started
-        ensures { result ≡ newAnswer size }
+        ensures { result ≡ new_answer size }
     {
         ReceiveWindow::starting_at(size, FRESH)
     }
 
     // The highest and all before it processed.
     pub fn starting_at(size: u32, highest: SeqNum) -> Started
-        ensures { result ≡ startAnswer size highest }
+        ensures { result ≡ start_answer size highest }
     {
         if range::outside(1, set::MAX_WINDOW as usize, size as usize) {
             return Started::Refused(Refusal::SizeNotAllowed);
@@ -171,7 +171,7 @@ impl ReceiveWindow {
 
     // Back to the fresh window of the same size.
     pub fn reset(self) -> Changed
-        ensures { result ≡ resetAnswer self }
+        ensures { result ≡ reset_answer self }
     {
         if tested::is_valid(self) {
             let size = self.size;
@@ -189,7 +189,7 @@ impl ReceiveWindow {
 
     // What a number is to the window, which stays as it is.
     pub fn classify(self, seq: SeqNum) -> Classified
-        ensures { result ≡ classAnswer self seq }
+        ensures { result ≡ class_answer self seq }
     {
         if tested::is_valid(self) {
             return Classified {
@@ -205,7 +205,7 @@ impl ReceiveWindow {
 
     // A number arrives: it is processed now, unless it is a Duplicate.
     pub fn accept(self, seq: SeqNum) -> Accepted
-        ensures { result ≡ acceptAnswer self seq }
+        ensures { result ≡ accept_answer self seq }
     {
         if tested::is_valid(self) {
             if arrival::in_order(self, seq) {
@@ -231,7 +231,7 @@ impl ReceiveWindow {
 
     // Whether the number is the highest, or one of the window's numbers that was processed.
     pub fn is_processed(self, seq: SeqNum) -> Known
-        ensures { result ≡ processedAnswer self seq }
+        ensures { result ≡ processed_answer self seq }
     {
         if tested::is_valid(self) {
             return Known {
@@ -247,7 +247,7 @@ impl ReceiveWindow {
 
     // From the oldest to the newest missing number.
     pub fn missing(self) -> Extended
-        ensures { result ≡ missingAnswer self }
+        ensures { result ≡ missing_answer self }
     {
         if tested::is_valid(self) {
             return Extended {
@@ -263,7 +263,7 @@ impl ReceiveWindow {
 
     // What a Retransmit Request asks for: from the oldest missing number to just before the highest.
     pub fn request(self) -> Extended
-        ensures { result ≡ requestAnswer self }
+        ensures { result ≡ request_answer self }
     {
         if tested::is_valid(self) {
             return Extended {
@@ -279,7 +279,7 @@ impl ReceiveWindow {
 
     // All numbers of the window are processed now.
     pub fn mark_all(self) -> Changed
-        ensures { result ≡ markAllAnswer self }
+        ensures { result ≡ mark_all_answer self }
     {
         if tested::is_valid(self) {
             return Changed {
@@ -295,7 +295,7 @@ impl ReceiveWindow {
 
     // The missing numbers that are in the range are processed now; the answer spans them.
     pub fn mark_range(self, range: SeqRange) -> Extended
-        ensures { result ≡ markAnswer self range }
+        ensures { result ≡ mark_answer self range }
     {
         if tested::is_valid(self) {
             let marked = tested::mark_range(self, range);

@@ -1,10 +1,10 @@
 -- 01, "Numbers of each operation": a write tests 9, 7, 8, then 13, the sender's state and the payload's. A refused write hands back all as it was.
 use Rattle.std.specs.Prelude.{ℕ, ◌&&◌, List, length}
 use Rattle.config.specs.Entry.{entry}
-use Rattle.config.specs.Settings.{checkOf}
+use Rattle.config.specs.Settings.{check_of}
 use Rattle.config.specs.declared.refusal.Refusal.{Refusal}
 use Rattle.config.specs.declared.settings.StreamConfig.{StreamConfig}
-use Rattle.packet.specs.Write.{valid_of as payloadValid}
+use Rattle.packet.specs.Write.{valid_of as payload_valid}
 use Rattle.packet.specs.declared.writer.PayloadWriter.{PayloadWriter}
 use Rattle.sender.specs.State.{valid_of}
 use Rattle.sender.specs.declared.sender.Sender.{Sender}
@@ -13,9 +13,9 @@ use Rattle.writing.specs.declared.writing.Writing.TheVariants.{Refused}
 use Rattle.writing.specs.declared.writing.Wrote.{Wrote}
 
 -- the sender with the payload, the payload's bytes and the lent history
-abbrev pub writeRefused : Sender → PayloadWriter → List ℕ → List ℕ → Refusal → Wrote × List ℕ × List ℕ
-writeRefused s p b ring why = (record { sender = s; payload = p; answer = Refused why }, b, ring)
+abbrev pub write_refused : Sender → PayloadWriter → List ℕ → List ℕ → Refusal → Wrote × List ℕ × List ℕ
+write_refused s p b ring why = (record { sender = s; payload = p; answer = Refused why }, b, ring)
 
-unfoldable pub writeAnswer : Sender → StreamConfig → ℕ → PayloadWriter → List ℕ → List ℕ → Wrote × List ℕ × List ℕ
-writeAnswer s cfg time p b ring =
-    entry (checkOf cfg) (valid_of s ring && payloadValid p (length b)) (writeRefused s p b ring) (written_by s cfg time p b ring)
+unfoldable pub write_answer : Sender → StreamConfig → ℕ → PayloadWriter → List ℕ → List ℕ → Wrote × List ℕ × List ℕ
+write_answer s cfg time p b ring =
+    entry (check_of cfg) (valid_of s ring && payload_valid p (length b)) (write_refused s p b ring) (written_by s cfg time p b ring)

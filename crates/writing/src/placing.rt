@@ -4,8 +4,8 @@ ghost use Rattle.std.specs.Prelude.{◌≡◌, ◌≤◌};
 ghost use Rattle.history.specs.Queue.{Fit, request};
 ghost use Rattle.history.specs.State.{Answers};
 ghost use Rattle.sender.specs.State.{valid_of};
-ghost use Rattle.sender.specs.Requests.{writtenCount};
-ghost use Rattle.writing.specs.Placing.{beginsOf, markQueued};
+ghost use Rattle.sender.specs.Requests.{written_count};
+ghost use Rattle.writing.specs.Placing.{begins_of, mark_queued};
 
 use config::sequence;
 use config::sequence::SeqNum;
@@ -30,7 +30,7 @@ const WORTH: usize = 8;
 // waits asks for an earlier command. A short history is walked again as fast.
 fn begins(s: Sender, back: usize) -> usize
     requires { Fit s.queue }
-    ensures { result ≡ beginsOf s back }
+    ensures { result ≡ begins_of s back }
 {
     let history = s.history;
     let queue = s.queue;
@@ -58,7 +58,7 @@ fn begins(s: Sender, back: usize) -> usize
 // The state test, and from its walk the header where a write begins that repeats the last `back` written
 // commands, or the oldest where fewer are written.
 pub fn test(s: Sender, ring: &[u32], back: usize) -> Tested
-    ensures { Answers (valid_of s ring.now) s.history ring.now s.unsent (beginsOf s back) result }
+    ensures { Answers (valid_of s ring.now) s.history ring.now s.unsent (begins_of s back) result }
 {
     let history = s.history;
     let queue = s.queue;
@@ -83,8 +83,8 @@ pub fn test(s: Sender, ring: &[u32], back: usize) -> Tested
 // The mark after words were queued; before them it was `from`. The oldest commands may have left, and
 // where the mark's is among them, the mark is the oldest that is held.
 pub fn mark_queued(before: Sender, after: Sender, from: Mark) -> Mark
-    requires { (before.unsent ≤ before.history.count) × (after.unsent ≤ after.history.count) × (writtenCount after ≤ writtenCount before) }
-    ensures { result ≡ markQueued before after from }
+    requires { (before.unsent ≤ before.history.count) × (after.unsent ≤ after.history.count) × (written_count after ≤ written_count before) }
+    ensures { result ≡ mark_queued before after from }
 {
     let had = before.history;
     let held = after.history;

@@ -5,17 +5,17 @@
 // Waiting requests are served first; where one does not fit whole, the write ends. Else a due idle
 // command is queued, and up to R of the last written commands are repeated before the new ones.
 ghost use Rattle.std.specs.Prelude.{◌≡◌, true, false, cond, ◌||◌, ◌+◌, ◌≤◌, ◌<◌, length, eqb, ltb};
-ghost use Rattle.config.specs.Settings.{checkOf};
+ghost use Rattle.config.specs.Settings.{check_of};
 ghost use Rattle.config.specs.declared.answer.Outcome.TheVariants.{Done};
-ghost use Rattle.packet.specs.Write.{valid_of as payloadValid};
+ghost use Rattle.packet.specs.Write.{valid_of as payload_valid};
 ghost use Rattle.history.specs.Headers.{header_at};
 ghost use Rattle.history.specs.State.{Good, Marks};
 ghost use Rattle.history.specs.Queue.{Fit};
-ghost use Rattle.idle.specs.Schedule.{idleStart};
-ghost use Rattle.rows.specs.Rows.{row_of, leaving, packetsFrom};
+ghost use Rattle.idle.specs.Schedule.{idle_start};
+ghost use Rattle.rows.specs.Rows.{row_of, leaving, packets_from};
 ghost use Rattle.sender.specs.State.{valid_of};
-ghost use Rattle.sender.specs.Requests.{notWritten, withQueue};
-ghost use Rattle.writing.specs.Writing.{reachOf, answerTo, rest_of, servedBy, servedOf, idledOf, markAfter, Again, takenOff, new_row, newOf, written_by};
+ghost use Rattle.sender.specs.Requests.{not_written, with_queue};
+ghost use Rattle.writing.specs.Writing.{reach_of, answer_to, rest_of, served_by, served_of, idled_of, mark_after, Again, taken_off, new_row, new_of, written_by};
 
 use super::writing::{Writing, Written, Wrote};
 use command::retransmit::{NOT_IN_BUFFER, RetransmitError, RetransmitRequest};
@@ -39,8 +39,8 @@ fn answer(
     ring: &[u32],
     from: Mark,
 ) -> Row
-    requires { (valid_of s ring.now ≡ true) × (payloadValid p (length buf.old) ≡ true) × Marks s.history ring.now from }
-    ensures { row_of p buf.old (answerTo s ring.now req) ≡ leaving result buf.new }
+    requires { (valid_of s ring.now ≡ true) × (payload_valid p (length buf.old) ≡ true) × Marks s.history ring.now from }
+    ensures { row_of p buf.old (answer_to s ring.now req) ≡ leaving result buf.new }
 {
     let history = s.history;
     let written = history.count - s.unsent;
@@ -61,8 +61,8 @@ fn answer(
 
 // What of a request is left in front after `n` of its commands.
 fn rest(s: Sender, queue: RetransmitQueue, req: RetransmitRequest, n: usize) -> RetransmitQueue
-    requires { Fit queue × (0 < queue.len) × (s.unsent ≤ s.history.count) × (s.history.count ≤ 32768) × (notWritten s req.seq ≡ false → n ≤ reachOf s req) }
-    ensures { withQueue s result ≡ rest_of (withQueue s queue) req n }
+    requires { Fit queue × (0 < queue.len) × (s.unsent ≤ s.history.count) × (s.history.count ≤ 32768) × (not_written s req.seq ≡ false → n ≤ reach_of s req) }
+    ensures { with_queue s result ≡ rest_of (with_queue s queue) req n }
 {
     let history = s.history;
     let written = history.count - s.unsent;
@@ -105,8 +105,8 @@ struct Served {
 
 // Serves the waiting requests, the oldest first.
 fn serve(s: Sender, p: PayloadWriter, buf: &mut [u8], ring: &[u32], from: Mark) -> Served
-    requires { (valid_of s ring.now ≡ true) × (payloadValid p (length buf.old) ≡ true) × Marks s.history ring.now from }
-    ensures { servedOf s ring.now p buf.old ≡ servedBy s result buf.new }
+    requires { (valid_of s ring.now ≡ true) × (payload_valid p (length buf.old) ≡ true) × Marks s.history ring.now from }
+    ensures { served_of s ring.now p buf.old ≡ served_by s result buf.new }
 {
     let mut queue = s.queue;
     let mut left = queue.len;
@@ -141,8 +141,8 @@ fn serve(s: Sender, p: PayloadWriter, buf: &mut [u8], ring: &[u32], from: Mark) 
 
 // Queues an idle command if one is due and no command is unwritten.
 fn queue_idle(s: Sender, cfg: StreamConfig, time: u64, ring: &mut [u32]) -> Sender
-    requires { (checkOf cfg ≡ Done) × (valid_of s ring.old ≡ true) }
-    ensures { (result, ring.new) ≡ idledOf s cfg time ring.old }
+    requires { (check_of cfg ≡ Done) × (valid_of s ring.old ≡ true) }
+    ensures { (result, ring.new) ≡ idled_of s cfg time ring.old }
 {
     let history = s.history;
     let queue = s.queue;
@@ -171,7 +171,7 @@ fn queue_idle(s: Sender, cfg: StreamConfig, time: u64, ring: &mut [u32]) -> Send
 // words among them starts the idle schedule.
 fn written_off(s: Sender, cfg: StreamConfig, time: u64, n: usize, words: usize) -> Sender
     requires { (n ≤ s.unsent) × (words ≤ s.unsent_words) }
-    ensures { result ≡ takenOff s n words (cond (ltb n words) (idleStart cfg time) s.idle) }
+    ensures { result ≡ taken_off s n words (cond (ltb n words) (idle_start cfg time) s.idle) }
 {
     let history = s.history;
     let queue = s.queue;
@@ -208,8 +208,8 @@ fn write_row(
     ring: &[u32],
     again: Repeated,
 ) -> Wrote
-    requires { (valid_of s ring.now ≡ true) × (payloadValid p (length buf.old) ≡ true) × (before ≤ 350) × Again s ring.now p buf.old again }
-    ensures { (result, buf.new) ≡ new_row s cfg time before ring.now again.count (row_of p buf.old (packetsFrom (again.count + s.unsent) ring.now again.at)) }
+    requires { (valid_of s ring.now ≡ true) × (payload_valid p (length buf.old) ≡ true) × (before ≤ 350) × Again s ring.now p buf.old again }
+    ensures { (result, buf.new) ≡ new_row s cfg time before ring.now again.count (row_of p buf.old (packets_from (again.count + s.unsent) ring.now again.at)) }
 {
     let free = packet::tested::free_words(p, buf.len());
     let out = rows::tested::write_entries(p, buf, ring, again.at, again.count + s.unsent);
@@ -229,7 +229,7 @@ fn write_row(
 // The mark after an idle command was queued where one is due: none is while commands are unwritten; else
 // the oldest may have left, and the mark is the oldest that is held.
 fn mark_after(unsent: usize, h: SendHistory, from: Mark) -> Mark
-    ensures { result ≡ markAfter unsent h from }
+    ensures { result ≡ mark_after unsent h from }
 {
     if 0 < unsent {
         return from;
@@ -260,8 +260,8 @@ fn write_new(
     ring: &[u32],
     from: Mark,
 ) -> Wrote
-    requires { (valid_of s ring.now ≡ true) × (payloadValid p (length buf.old) ≡ true) × (before ≤ 350) × Marks s.history ring.now from }
-    ensures { (result, buf.new) ≡ newOf s cfg time before p buf.old ring.now }
+    requires { (valid_of s ring.now ≡ true) × (payload_valid p (length buf.old) ≡ true) × (before ≤ 350) × Marks s.history ring.now from }
+    ensures { (result, buf.new) ≡ new_of s cfg time before p buf.old ring.now }
 {
     if s.unsent == 0 {
         return Wrote {
@@ -311,7 +311,7 @@ pub fn write(
     ring: &mut [u32],
     from: Mark,
 ) -> Wrote
-    requires { (checkOf cfg ≡ Done) × (valid_of s ring.old ≡ true) × (payloadValid p (length buf.old) ≡ true) × Marks s.history ring.old from }
+    requires { (check_of cfg ≡ Done) × (valid_of s ring.old ≡ true) × (payload_valid p (length buf.old) ≡ true) × Marks s.history ring.old from }
     ensures { (result, buf.new, ring.new) ≡ written_by s cfg time p buf.old ring.old }
 {
     let history = s.history;

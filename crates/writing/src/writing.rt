@@ -1,7 +1,7 @@
 // The sender's write. Sender and payload are taken by value and handed back with the answer; the
 // history's words lie in the lent slice `ring`.
 ghost use Rattle.std.specs.Prelude.{◌≡◌};
-ghost use Rattle.writing.specs.Answers.{writeAnswer};
+ghost use Rattle.writing.specs.Answers.{write_answer};
 
 use super::{placing, tested};
 use config::answer::Outcome;
@@ -41,7 +41,7 @@ pub fn write(
     buf: &mut [u8],
     ring: &mut [u32],
 ) -> Wrote
-    ensures { (result, buf.new, ring.new) ≡ writeAnswer s cfg time p buf.old ring.old }
+    ensures { (result, buf.new, ring.new) ≡ write_answer s cfg time p buf.old ring.old }
 {
     match cfg.check() {
         Outcome::Refused(why) => Wrote {

@@ -1,6 +1,6 @@
 -- By cases.
 use mathlib.Core.Path.{sym, ap, ◌∙◌}
-use Rattle.c_link.specs.Export.{reportOf, refusedBy}
+use Rattle.c_link.specs.Export.{report_of, refused_by}
 use borrow.Author.Rules.{rules}
 use Rattle.c_link.proofs.report.Statement.{statement}
 use Rattle.c_link.proofs.report.Tie as tie
@@ -18,10 +18,10 @@ refused-requires : tie.Need-refused-requires
 refused-requires c κs = search rules
 
 returns : tie.Need-returns
-returns c = sym (ap reportOf c.before.ran.given.1)
+returns c = sym (ap report_of c.before.ran.given.1)
 
 returns-2 : tie.Need-returns-2
-returns-2 c = c.refused.ensures ∙ ap refusedBy c.before.number.ensures ∙ sym (ap reportOf c.before.before.before.ran2.given.1)
+returns-2 c = c.refused.ensures ∙ ap refused_by c.before.number.ensures ∙ sym (ap report_of c.before.before.before.ran2.given.1)
 
 pub report-spec : {M : Type 1} → statement M
 report-spec =

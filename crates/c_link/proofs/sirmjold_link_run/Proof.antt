@@ -1,8 +1,8 @@
 -- The settings' number first; then the run is made with the whole of each history.
 use mathlib.Core.Path.{refl, ap}
-use Rattle.c_words.proofs.Entries.{made, settings-refused}
-use Rattle.c_words.proofs.Figures.{passed, figures-small}
-use Rattle.c_link.specs.Export.{reported, runExport}
+use Rattle.c_words.proofs.Entries.{made, settings_refused}
+use Rattle.c_words.proofs.Figures.{passed, figures_small}
+use Rattle.c_link.specs.Export.{reported, run_export}
 use borrow.Author.Rules.{rules}
 use Rattle.c_link.proofs.sirmjold_link_run.Statement.{statement}
 use Rattle.c_link.proofs.sirmjold_link_run.Tie as tie
@@ -11,7 +11,7 @@ number-requires : tie.Need-number-requires
 number-requires c κs = search rules
 
 load-requires : tie.Need-load-requires
-load-requires c κs = figures-small _ (passed _ c.before.number.ensures c.if1.true)
+load-requires c κs = figures_small _ (passed _ c.before.number.ensures c.if1.true)
 
 run-requires : tie.Need-run-requires
 run-requires c κs = search rules
@@ -26,7 +26,7 @@ same-length-2 : tie.Need-same-length-2
 same-length-2 c = search rules
 
 returns : tie.Need-returns
-unfolding runExport
+unfolding run_export
 returns c =
     let q = rw c.before.before.before.before.before.before.before.before.load.ensures at c.before.before.before.before.before.run.ensures in
     made _ _ (passed _ c.before.before.before.before.before.before.before.before.before.before.number.ensures c.before.before.before.before.before.before.before.before.before.if1.true) refl (rw c.report.ensures (ap reported q))
@@ -35,8 +35,8 @@ refused-requires : tie.Need-refused-requires
 refused-requires c κs = search rules
 
 returns-2 : tie.Need-returns-2
-unfolding runExport
-returns-2 c = settings-refused _ _ _ _ c.before.before.number.ensures c.before.if1.false (rw c.refused.ensures)
+unfolding run_export
+returns-2 c = settings_refused _ _ _ _ c.before.before.number.ensures c.before.if1.false (rw c.refused.ensures)
 
 pub sirmjold-link-run-spec : {M : Type 1} → statement M
 sirmjold-link-run-spec =

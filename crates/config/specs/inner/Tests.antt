@@ -6,7 +6,7 @@ use Rattle.std.proofs.lemmas.Bool.{eqb-false, lt-leb}
 -- for omega: from a test to its fact, and back
 pub ruleset tests = (ltb-true, ltb-false, leb-true, leb-false, eqb-true, eqb-false)
 
-pub ruleset lifts = (lt-ltb, le-ltb, le-leb, lt-leb, eq-eqb, ne_eqb)
+pub ruleset lifts = (lt-ltb, le-ltb, le-leb, lt-leb, eq_eqb, ne_eqb)
 
 pub split : (t : Bool) → (t ≡ true) ⊎ (t ≡ false)
 split true = inl refl
@@ -20,8 +20,8 @@ pub and_right : (a b : Bool) → (a && b) ≡ true → b ≡ true
 and_right true b e = e
 and_right false b e = cc
 
-pub ltb-not-leb : (a b : ℕ) → nat_lt a b ≡ not (nat_le b a)
-ltb-not-leb a b = by (split (nat_lt a b))
+pub ltb_not_leb : (a b : ℕ) → nat_lt a b ≡ not (nat_le b a)
+ltb_not_leb a b = by (split (nat_lt a b))
   where
     by : (nat_lt a b ≡ true) ⊎ (nat_lt a b ≡ false) → nat_lt a b ≡ not (nat_le b a)
     by (inl e) = let f : leb b a ≡ false = omega (arith, tests, lifts) in cc

@@ -1,5 +1,5 @@
 -- By cases.
-use Rattle.c_answers.specs.Answers.{deadlineOf, deadlineRefused}
+use Rattle.c_answers.specs.Answers.{deadline_of, deadline_refused}
 use borrow.Author.Rules.{rules}
 use mathlib.Core.Path.{sym, ap, ◌∙◌}
 use Rattle.c_answers.proofs.answers.of_deadline.Statement.{statement}
@@ -21,13 +21,13 @@ refused-deadline-requires : tie.Need-refused-deadline-requires
 refused-deadline-requires c κs = search rules
 
 returns : tie.Need-returns
-returns c = sym (ap deadlineOf c.enum_told.given.1)
+returns c = sym (ap deadline_of c.enum_told.given.1)
 
 returns-2 : tie.Need-returns-2
-returns-2 c = sym (ap deadlineOf c.before.a.given.1)
+returns-2 c = sym (ap deadline_of c.before.a.given.1)
 
 returns-3 : tie.Need-returns-3
-returns-3 c = c.refused-deadline.ensures ∙ ap deadlineRefused c.before.number.ensures ∙ sym (ap deadlineOf c.before.before.before.a2.given.1)
+returns-3 c = c.refused-deadline.ensures ∙ ap deadline_refused c.before.number.ensures ∙ sym (ap deadline_of c.before.before.before.a2.given.1)
 
 pub of-deadline-spec : {M : Type 1} → statement M
 of-deadline-spec =

@@ -1,5 +1,5 @@
 -- By cases.
-use Rattle.c_answers.specs.Answers.{eventOf, eventRefused}
+use Rattle.c_answers.specs.Answers.{event_of, event_refused}
 use borrow.Author.Rules.{rules}
 use mathlib.Core.Path.{sym, ap, ◌∙◌}
 use Rattle.c_answers.proofs.answers.of_event.Statement.{statement}
@@ -30,19 +30,19 @@ refused-event-requires-2 : tie.Need-refused-event-requires-2
 refused-event-requires-2 c κs = search rules
 
 returns : tie.Need-returns
-returns c = c.refused-event.ensures ∙ sym (ap eventOf c.before.enum_told.given.1)
+returns c = c.refused-event.ensures ∙ sym (ap event_of c.before.enum_told.given.1)
 
 returns-2 : tie.Need-returns-2
-returns-2 c = sym (ap eventOf c.before.a.given.1)
+returns-2 c = sym (ap event_of c.before.a.given.1)
 
 returns-3 : tie.Need-returns-3
-returns-3 c = sym (ap eventOf c.before.a2.given.1)
+returns-3 c = sym (ap event_of c.before.a2.given.1)
 
 returns-4 : tie.Need-returns-4
-returns-4 c = sym (ap eventOf c.before.a3.given.1)
+returns-4 c = sym (ap event_of c.before.a3.given.1)
 
 returns-5 : tie.Need-returns-5
-returns-5 c = c.refused-event2.ensures ∙ ap eventRefused c.before.number.ensures ∙ sym (ap eventOf c.before.before.before.a4.given.1)
+returns-5 c = c.refused-event2.ensures ∙ ap event_refused c.before.number.ensures ∙ sym (ap event_of c.before.before.before.a4.given.1)
 
 pub of-event-spec : {M : Type 1} → statement M
 of-event-spec =

@@ -1,5 +1,5 @@
 -- By cases.
-use Rattle.c_answers.specs.Answers.{deliveryOf, deliveryRefused}
+use Rattle.c_answers.specs.Answers.{delivery_of, delivery_refused}
 use borrow.Author.Rules.{rules}
 use mathlib.Core.Path.{sym, ap, ◌∙◌}
 use Rattle.c_answers.proofs.answers.of_hearing.Statement.{statement}
@@ -21,10 +21,10 @@ refused-delivery-requires : tie.Need-refused-delivery-requires
 refused-delivery-requires c κs = search rules
 
 returns : tie.Need-returns
-returns c = c.of-class.ensures ∙ sym (ap deliveryOf c.before.before.a.given.1)
+returns c = c.of-class.ensures ∙ sym (ap delivery_of c.before.before.a.given.1)
 
 returns-2 : tie.Need-returns-2
-returns-2 c = c.refused-delivery.ensures ∙ ap deliveryRefused c.before.number.ensures ∙ sym (ap deliveryOf c.before.before.before.a2.given.1)
+returns-2 c = c.refused-delivery.ensures ∙ ap delivery_refused c.before.number.ensures ∙ sym (ap delivery_of c.before.before.before.a2.given.1)
 
 pub of-hearing-spec : {M : Type 1} → statement M
 of-hearing-spec =

@@ -1,5 +1,5 @@
 -- By cases.
-use Rattle.c_answers.specs.Answers.{outcomeOf, outcomeRefused, outcomeKind}
+use Rattle.c_answers.specs.Answers.{outcome_of, outcome_refused, outcome_kind}
 use borrow.Author.Rules.{rules}
 use mathlib.Core.Path.{sym, ap, ◌∙◌}
 use Rattle.c_answers.proofs.answers.of_outcome.Statement.{statement}
@@ -33,19 +33,19 @@ refused-outcome-requires-2 : tie.Need-refused-outcome-requires-2
 refused-outcome-requires-2 c κs = search rules
 
 returns : tie.Need-returns
-returns c = c.refused-outcome.ensures ∙ sym (ap outcomeOf c.before.enum_told.given.1)
+returns c = c.refused-outcome.ensures ∙ sym (ap outcome_of c.before.enum_told.given.1)
 
 returns-2 : tie.Need-returns-2
-returns-2 c = ap outcomeKind c.of-ignored.ensures ∙ sym (ap outcomeOf c.before.before.a.given.1)
+returns-2 c = ap outcome_kind c.of-ignored.ensures ∙ sym (ap outcome_of c.before.before.a.given.1)
 
 returns-3 : tie.Need-returns-3
-returns-3 c = sym (ap outcomeOf c.before.a2.given.1)
+returns-3 c = sym (ap outcome_of c.before.a2.given.1)
 
 returns-4 : tie.Need-returns-4
-returns-4 c = sym (ap outcomeOf c.enum-told2.given.1)
+returns-4 c = sym (ap outcome_of c.enum-told2.given.1)
 
 returns-5 : tie.Need-returns-5
-returns-5 c = c.refused-outcome2.ensures ∙ ap outcomeRefused c.before.number.ensures ∙ sym (ap outcomeOf c.before.before.before.a3.given.1)
+returns-5 c = c.refused-outcome2.ensures ∙ ap outcome_refused c.before.number.ensures ∙ sym (ap outcome_of c.before.before.before.a3.given.1)
 
 pub of-outcome-spec : {M : Type 1} → statement M
 of-outcome-spec =

@@ -1,5 +1,5 @@
 -- By cases.
-use Rattle.c_answers.specs.Answers.{requestOf, requestRefused}
+use Rattle.c_answers.specs.Answers.{request_of, request_refused}
 use borrow.Author.Rules.{rules}
 use mathlib.Core.Path.{sym, ap, ◌∙◌}
 use Rattle.c_answers.proofs.answers.of_request.Statement.{statement}
@@ -24,16 +24,16 @@ refused-request-requires : tie.Need-refused-request-requires
 refused-request-requires c κs = search rules
 
 returns : tie.Need-returns
-returns c = sym (ap requestOf c.enum_told.given.1)
+returns c = sym (ap request_of c.enum_told.given.1)
 
 returns-2 : tie.Need-returns-2
-returns-2 c = sym (ap requestOf c.enum-told2.given.1)
+returns-2 c = sym (ap request_of c.enum-told2.given.1)
 
 returns-3 : tie.Need-returns-3
-returns-3 c = sym (ap requestOf c.enum-told3.given.1)
+returns-3 c = sym (ap request_of c.enum-told3.given.1)
 
 returns-4 : tie.Need-returns-4
-returns-4 c = c.refused-request.ensures ∙ ap requestRefused c.before.number.ensures ∙ sym (ap requestOf c.before.before.before.a.given.1)
+returns-4 c = c.refused-request.ensures ∙ ap request_refused c.before.number.ensures ∙ sym (ap request_of c.before.before.before.a.given.1)
 
 pub of-request-spec : {M : Type 1} → statement M
 of-request-spec =

@@ -1,5 +1,5 @@
 -- By cases.
-use Rattle.c_answers.specs.Answers.{spanNumbers}
+use Rattle.c_answers.specs.Answers.{span_numbers}
 use borrow.Author.Rules.{rules}
 use mathlib.Core.Path.{sym, ap}
 use Rattle.c_answers.proofs.answers.of_span.Statement.{statement}
@@ -12,10 +12,10 @@ enum-known-a : tie.Need-enum-known-a
 enum-known-a c = search rules
 
 returns : tie.Need-returns
-returns c = sym (ap spanNumbers c.enum_told.given.1)
+returns c = sym (ap span_numbers c.enum_told.given.1)
 
 returns-2 : tie.Need-returns-2
-returns-2 c = sym (ap spanNumbers c.before.a.given.1)
+returns-2 c = sym (ap span_numbers c.before.a.given.1)
 
 pub of-span-spec : {M : Type 1} → statement M
 of-span-spec =

@@ -1,5 +1,5 @@
 -- By cases.
-use Rattle.c_answers.specs.Answers.{wantsOf, wantsRefused}
+use Rattle.c_answers.specs.Answers.{wants_of, wants_refused}
 use borrow.Author.Rules.{rules}
 use mathlib.Core.Path.{sym, ap, ◌∙◌}
 use Rattle.c_answers.proofs.answers.of_wants.Statement.{statement}
@@ -21,10 +21,10 @@ refused-wants-requires : tie.Need-refused-wants-requires
 refused-wants-requires c κs = search rules
 
 returns : tie.Need-returns
-returns c = sym (ap wantsOf c.before.a.given.1)
+returns c = sym (ap wants_of c.before.a.given.1)
 
 returns-2 : tie.Need-returns-2
-returns-2 c = c.refused-wants.ensures ∙ ap wantsRefused c.before.number.ensures ∙ sym (ap wantsOf c.before.before.before.a2.given.1)
+returns-2 c = c.refused-wants.ensures ∙ ap wants_refused c.before.number.ensures ∙ sym (ap wants_of c.before.before.before.a2.given.1)
 
 pub of-wants-spec : {M : Type 1} → statement M
 of-wants-spec =

@@ -1,5 +1,5 @@
 -- By cases.
-use Rattle.c_answers.specs.Answers.{written_of, writtenRefused}
+use Rattle.c_answers.specs.Answers.{written_of, written_refused}
 use borrow.Author.Rules.{rules}
 use mathlib.Core.Path.{sym, ap, ◌∙◌}
 use Rattle.c_answers.proofs.answers.of_writing.Statement.{statement}
@@ -24,7 +24,7 @@ returns : tie.Need-returns
 returns c = sym (ap written_of c.before.before.a.given.1)
 
 returns-2 : tie.Need-returns-2
-returns-2 c = c.refused-written.ensures ∙ ap writtenRefused c.before.number.ensures ∙ sym (ap written_of c.before.before.before.a2.given.1)
+returns-2 c = c.refused-written.ensures ∙ ap written_refused c.before.number.ensures ∙ sym (ap written_of c.before.before.before.a2.given.1)
 
 pub of-writing-spec : {M : Type 1} → statement M
 of-writing-spec =

@@ -1,5 +1,5 @@
 -- By cases.
-use Rattle.c_answers.specs.Sending.{sentWrittenOf, sentWrittenRefused, queuedWritten}
+use Rattle.c_answers.specs.Sending.{sent_written_of, sent_written_refused, queued_written}
 use borrow.Author.Rules.{rules}
 use mathlib.Core.Path.{sym, ap, ◌∙◌}
 use Rattle.c_answers.proofs.sending.of_send_and_write.Statement.{statement}
@@ -22,10 +22,10 @@ of-writing-requires c κs = search rules
 
 returns : tie.Need-returns
 returns c =
-    c.refused-sent-written.ensures ∙ ap sentWrittenRefused c.before.number.ensures ∙ sym (ap sentWrittenOf c.before.before.before.a.given.1)
+    c.refused-sent-written.ensures ∙ ap sent_written_refused c.before.number.ensures ∙ sym (ap sent_written_of c.before.before.before.a.given.1)
 
 returns-2 : tie.Need-returns-2
-returns-2 c = ap queuedWritten c.of-writing.ensures ∙ sym (ap sentWrittenOf c.before.before.a2.given.1)
+returns-2 c = ap queued_written c.of-writing.ensures ∙ sym (ap sent_written_of c.before.before.a2.given.1)
 
 pub of-send-and-write-spec : {M : Type 1} → statement M
 of-send-and-write-spec =

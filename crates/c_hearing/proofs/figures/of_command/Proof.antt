@@ -2,14 +2,14 @@
 use mathlib.Core.Path.{sym, ap, ◌∙◌}
 use Prim.Native.Nat.{ℕ}
 use Rattle.command.specs.declared.parse.Command.{Command}
-use Rattle.read_command.specs.Next.{commandRead}
-use Rattle.c_hearing.specs.Figures.{readWord}
+use Rattle.read_command.specs.Next.{command_read}
+use Rattle.c_hearing.specs.Figures.{read_word}
 use borrow.Author.Rules.{rules}
 use Rattle.c_hearing.proofs.figures.of_command.Statement.{statement}
 use Rattle.c_hearing.proofs.figures.of_command.Tie as tie
 
 abbrev as_read : ℕ → Command → ℕ
-as_read len x = readWord (commandRead len 0 0 x)
+as_read len x = read_word (command_read len 0 0 x)
 
 enum-known-command : tie.Need-enum-known-command
 enum-known-command c = search rules

@@ -1,12 +1,12 @@
 -- With room for its answer, or without.
 use native.Mathlib.Omega.{arith}
-use Rattle.c_hearing.proofs.Turns.{cut-full, cut-answered}
+use Rattle.c_hearing.proofs.Turns.{cut_full, cut_answered}
 use borrow.Author.Rules.{rules}
 use Rattle.c_hearing.proofs.walk.cut.Statement.{statement}
 use Rattle.c_hearing.proofs.walk.cut.Tie as tie
 
 returns : tie.Need-returns
-returns c = cut-full _ _ _ _ c.if1.true
+returns c = cut_full _ _ _ _ c.if1.true
 
 csd-requires : tie.Need-csd-requires
 csd-requires c κs = search rules
@@ -27,7 +27,7 @@ same_length : tie.Need-same-length
 same_length c = search rules
 
 returns-2 : tie.Need-returns-2
-returns-2 c = cut-answered _ _ _ _ (omega arith) _ c.before.before.before.before.before.before.csd.ensures _ c.before.before.before.before.before.read.ensures _ c.before.before.before.before.of_number.ensures _ c.before.before.put.ensures
+returns-2 c = cut_answered _ _ _ _ (omega arith) _ c.before.before.before.before.before.before.csd.ensures _ c.before.before.before.before.before.read.ensures _ c.before.before.before.before.of_number.ensures _ c.before.before.put.ensures
 
 pub cut_spec : {M : Type 1} → statement M
 cut_spec =

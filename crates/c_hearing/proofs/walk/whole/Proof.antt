@@ -1,7 +1,7 @@
 -- With room for its answer, or without.
 use Prim.Native.Nat.{◌+◌, ◌<◌}
 use native.Mathlib.Omega.{arith}
-use Rattle.c_hearing.proofs.Turns.{whole-full, whole-answered}
+use Rattle.c_hearing.proofs.Turns.{whole_full, whole_answered}
 use borrow.Author.Rules.{rules}
 use Rattle.c_hearing.proofs.walk.whole.Statement.{statement}
 use Rattle.c_hearing.proofs.walk.whole.Tie as tie
@@ -11,7 +11,7 @@ few : (c : tie.Else1) → c.before.before.before.before.before.args.count + 1 < 
 few c = omega arith
 
 returns : tie.Need-returns
-returns c = (whole-full _ _ _ _ _ _ _ _ _ _ c.if1.true, c.before.before.before.before.before.requires.0)
+returns c = (whole_full _ _ _ _ _ _ _ _ _ _ c.if1.true, c.before.before.before.before.before.requires.0)
 
 parse-requires : tie.Need-parse-requires
 parse-requires c κs = search rules
@@ -35,7 +35,7 @@ same-length-2 : tie.Need-same-length-2
 same-length-2 c = search rules
 
 returns-2 : tie.Need-returns-2
-returns-2 c = (whole-answered _ _ _ _ _ _ _ _ _ _ (omega arith) _ c.before.before.before.before.before.before.before.before.before.parse.ensures _ _ c.before.before.before.before.before.before.before.give.ensures.0 _ c.before.before.before.before.of-command.ensures _ c.before.before.put.ensures, c.before.before.before.before.before.before.before.give.ensures.1)
+returns-2 c = (whole_answered _ _ _ _ _ _ _ _ _ _ (omega arith) _ c.before.before.before.before.before.before.before.before.before.parse.ensures _ _ c.before.before.before.before.before.before.before.give.ensures.0 _ c.before.before.before.before.of-command.ensures _ c.before.before.put.ensures, c.before.before.before.before.before.before.before.give.ensures.1)
 
 pub whole-spec : {M : Type 1} → statement M
 whole-spec =

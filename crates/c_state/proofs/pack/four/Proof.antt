@@ -1,6 +1,6 @@
 -- Each figure by its digits.
 use mathlib.Core.Path.{refl}
-use Rattle.c_state.specs.Pack.{fourIn}
+use Rattle.c_state.specs.Pack.{four_in}
 use borrow.Author.Rules.{rules}
 use Rattle.c_state.proofs.pack.four.Statement.{statement}
 use Rattle.c_state.proofs.pack.four.Tie as tie
@@ -18,7 +18,7 @@ cast-t11 : tie.Need-overflow-cast-t11
 cast-t11 c = search rules
 
 returns : tie.Need-returns
-unfolding fourIn
+unfolding four_in
 returns c = refl
 
 pub four-spec : {M : Type 1} → statement M

@@ -1,6 +1,6 @@
 -- All but the timer, then the timer.
 use mathlib.Core.Path.{sym, ◌∙◌}
-use Rattle.c_state.proofs.Receivers.{but-timer-flags, but-timer-fails, timer-last}
+use Rattle.c_state.proofs.Receivers.{but_timer_flags, but_timer_fails, timer_last}
 use native.Mathlib.Omega.{arith}
 use borrow.Author.Rules.{rules}
 use Rattle.c_state.proofs.receiver_part.fits.Statement.{statement}
@@ -13,7 +13,7 @@ shared-slice-read-two : tie.Need-shared-slice-read-two
 shared-slice-read-two c = search rules
 
 cast-two : tie.Need-overflow-cast-two
-cast-two c = omega (arith, but-timer-flags _ (sym c.before.before.fits-but-timer.ensures ∙ c.before.if1.true))
+cast-two c = omega (arith, but_timer_flags _ (sym c.before.before.fits-but-timer.ensures ∙ c.before.if1.true))
 
 two-requires : tie.Need-two-requires
 two-requires c κs = search rules
@@ -31,10 +31,10 @@ held-requires : tie.Need-held-requires
 held-requires c κs = search rules
 
 returns : tie.Need-returns
-returns c = c.held.ensures ∙ timer-last _ (sym c.before.before.before.before.before.before.before.fits-but-timer.ensures ∙ c.before.before.before.before.before.before.if1.true) _ _ c.before.before.before.before.two.ensures c.before.before.before.flags-in.ensures
+returns c = c.held.ensures ∙ timer_last _ (sym c.before.before.before.before.before.before.before.fits-but-timer.ensures ∙ c.before.before.before.before.before.before.if1.true) _ _ c.before.before.before.before.two.ensures c.before.before.before.flags-in.ensures
 
 returns-2 : tie.Need-returns-2
-returns-2 c = but-timer-fails _ (sym c.before.fits-but-timer.ensures ∙ c.if1.false)
+returns-2 c = but_timer_fails _ (sym c.before.fits-but-timer.ensures ∙ c.if1.false)
 
 pub fits-spec : {M : Type 1} → statement M
 fits-spec =

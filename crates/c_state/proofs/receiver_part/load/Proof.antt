@@ -1,5 +1,5 @@
 -- Each field is a figure.
-use Rattle.c_state.proofs.Receivers.{receiver-made}
+use Rattle.c_state.proofs.Receivers.{receiver_made}
 use native.Mathlib.Omega.{arith}
 use borrow.Author.Rules.{rules}
 use Rattle.c_state.proofs.receiver_part.load.Statement.{statement}
@@ -36,7 +36,7 @@ asked-in-requires : tie.Need-asked-in-requires
 asked-in-requires c κs = search rules
 
 returns : tie.Need-returns
-returns c = receiver-made _ _ _ _ _ _ _ c.before.before.before.before.before.before.before.four.ensures c.before.before.before.before.before.two.ensures c.before.before.before.before.flags-in.ensures c.before.before.before.window-in.ensures c.before.timer-in.ensures c.asked_in.ensures
+returns c = receiver_made _ _ _ _ _ _ _ c.before.before.before.before.before.before.before.four.ensures c.before.before.before.before.before.two.ensures c.before.before.before.before.flags-in.ensures c.before.before.before.window-in.ensures c.before.timer_in_lem.ensures c.asked_in.ensures
 
 pub load_spec : {M : Type 1} → statement M
 load_spec =

@@ -1,13 +1,13 @@
 -- By the flag.
-use Rattle.config.specs.inner.Choices.{cond-true, cond-false}
+use Rattle.config.specs.inner.Choices.{cond_true, cond_false}
 use Rattle.c_state.proofs.receiver_part.timer_in.Statement.{statement}
 use Rattle.c_state.proofs.receiver_part.timer_in.Tie as tie
 
 returns : tie.Need-returns
-returns c = cond-true _ _ c.if1.true
+returns c = cond_true _ _ c.if1.true
 
 returns-2 : tie.Need-returns-2
-returns-2 c = cond-false _ _ c.if1.false
+returns-2 c = cond_false _ _ c.if1.false
 
 pub timer-in-spec : {M : Type 1} → statement M
 timer-in-spec = tie.close (tie.spec returns returns-2)

@@ -1,5 +1,5 @@
 -- Each field is a figure.
-use Rattle.c_state.proofs.Receivers.{window-made}
+use Rattle.c_state.proofs.Receivers.{window_made}
 use borrow.Author.Rules.{rules}
 use Rattle.c_state.proofs.receiver_part.window_in.Statement.{statement}
 use Rattle.c_state.proofs.receiver_part.window_in.Tie as tie
@@ -20,7 +20,7 @@ shared-slice-read-t8 : tie.Need-shared-slice-read-t8
 shared-slice-read-t8 c = search rules
 
 returns : tie.Need-returns
-returns c = window-made _ _ c.before.before.before.four.ensures
+returns c = window_made _ _ c.before.before.before.four.ensures
 
 pub window-in-spec : {M : Type 1} → statement M
 window-in-spec =

@@ -1,5 +1,5 @@
 -- Each figure in its place.
-use Rattle.c_state.proofs.Receivers.{receiver-words}
+use Rattle.c_state.proofs.Receivers.{receiver_words_lem}
 use native.Mathlib.Omega.{arith}
 use borrow.Author.Rules.{rules}
 use Rattle.c_state.proofs.receiver_part.words_of.Statement.{statement}
@@ -28,7 +28,7 @@ cast-t13 c = search rules
 
 returns : tie.Need-returns
 returns c =
-    receiver-words c.before.before.before.before.before.before.before.before.args.receiver _ _ _ _ _
+    receiver_words_lem c.before.before.before.before.before.before.before.before.args.receiver _ _ _ _ _
     c.before.before.before.before.before.timer-words.ensures
     c.before.before.before.before.asked-words.ensures
     c.before.before.before.number.ensures

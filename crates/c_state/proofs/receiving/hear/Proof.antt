@@ -1,6 +1,6 @@
 -- The state is tested, and then the call is made.
 use mathlib.Core.Path.{sym, ◌∙◌}
-use Rattle.c_state.proofs.Hearings.{heard-tested, heard-refused}
+use Rattle.c_state.proofs.Hearings.{heard_tested, heard_refused_lem}
 use borrow.Author.Rules.{rules}
 use Rattle.c_state.proofs.receiving.hear.Statement.{statement}
 use Rattle.c_state.proofs.receiving.hear.Tie as tie
@@ -18,13 +18,13 @@ same_length : tie.Need-same-length
 same_length c = search rules
 
 returns : tie.Need-returns
-returns c = heard-tested _ _ _ _ _ c.before.before.before.before.before.before.receiver-in.ensures c.before.before.before.before.before.before.before.before.before.requires.1 (sym c.before.before.before.before.before.is-valid.ensures ∙ c.before.before.before.before.if1.true) _ c.before.before.hear-valid.ensures
+returns c = heard_tested _ _ _ _ _ c.before.before.before.before.before.before.receiver-in.ensures c.before.before.before.before.before.before.before.before.before.requires.1 (sym c.before.before.before.before.before.is-valid.ensures ∙ c.before.before.before.before.if1.true) _ c.before.before.hear-valid.ensures
 
 same-length-2 : tie.Need-same-length-2
 same-length-2 c = search rules
 
 returns-2 : tie.Need-returns-2
-returns-2 c = heard-refused _ _ _ _ _ c.before.before.receiver-in.ensures c.before.before.before.before.before.requires.1 (sym c.before.is-valid.ensures ∙ c.if1.false) c.before.before.before.before.before.requires.0
+returns-2 c = heard_refused_lem _ _ _ _ _ c.before.before.receiver-in.ensures c.before.before.before.before.before.requires.1 (sym c.before.is-valid.ensures ∙ c.if1.false) c.before.before.before.before.before.requires.0
 
 pub hear-spec : {M : Type 1} → statement M
 hear-spec = tie.close (tie.spec receiver-in-requires is-valid-requires hear-valid-requires same_length returns same-length-2 returns-2)

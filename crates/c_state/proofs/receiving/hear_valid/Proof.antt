@@ -1,12 +1,12 @@
 -- The number is in order, ahead or behind, and each way meets the contract.
 use mathlib.Core.Path.{sym, ◌∙◌}
-use Rattle.receiver.proofs.Validity.{valid-window}
+use Rattle.receiver.proofs.Validity.{valid_window}
 use borrow.Author.Rules.{rules}
 use Rattle.c_state.proofs.receiving.hear_valid.Statement.{statement}
 use Rattle.c_state.proofs.receiving.hear_valid.Tie as tie
 
 in-order-requires : tie.Need-in-order-requires
-in-order-requires c κs = valid-window _ c.before.before.requires.2
+in-order-requires c κs = valid_window _ c.before.before.requires.2
 
 hear-next-requires : tie.Need-hear-next-requires
 hear-next-requires c κs = (c.before.before.before.before.before.requires.0, c.before.before.before.before.before.requires.1, c.before.before.before.before.before.requires.2, sym c.before.before.in_order.ensures ∙ c.before.if1.true)

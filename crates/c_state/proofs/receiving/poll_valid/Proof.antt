@@ -1,5 +1,5 @@
 -- A timer that is stopped changes nothing.
-use Rattle.c_state.proofs.Hearings.{polled-stopped}
+use Rattle.c_state.proofs.Hearings.{polled_stopped}
 use borrow.Author.Rules.{rules}
 use Rattle.c_state.proofs.receiving.poll_valid.Statement.{statement}
 use Rattle.c_state.proofs.receiving.poll_valid.Tie as tie
@@ -14,7 +14,7 @@ poll-running-requires : tie.Need-poll-running-requires
 poll-running-requires c κs = search rules
 
 returns : tie.Need-returns
-returns c = polled-stopped _ _ c.before.before.before.requires.0 c.before.before.before.requires.1 _ _ c.enum_told.given.1
+returns c = polled_stopped _ _ c.before.before.before.requires.0 c.before.before.before.requires.1 _ _ c.enum_told.given.1
 
 same_length : tie.Need-same-length
 same_length c = search rules

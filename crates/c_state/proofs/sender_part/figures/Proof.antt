@@ -1,5 +1,5 @@
 -- Each figure in its place.
-use Rattle.c_state.proofs.Senders.{figure-words}
+use Rattle.c_state.proofs.Senders.{figure_words_lem}
 use native.Mathlib.Omega.{arith}
 use borrow.Author.Rules.{rules}
 use Rattle.c_state.proofs.sender_part.figures.Statement.{statement}
@@ -55,7 +55,7 @@ word-requires-3 c κs = search rules
 
 returns : tie.Need-returns
 returns c =
-    figure-words c.before.before.before.before.before.before.before.before.before.before.before.before.before.before.before.before.before.before.args.sender _ _ _ _ _
+    figure_words_lem c.before.before.before.before.before.before.before.before.before.before.before.before.before.before.before.before.before.before.args.sender _ _ _ _ _
     c.before.before.before.before.before.before.before.before.before.before.before.before.before.before.before.idle-words.ensures
     c.before.before.before.before.before.before.before.before.before.before.before.word.ensures
     c.before.before.before.before.before.before.word2.ensures

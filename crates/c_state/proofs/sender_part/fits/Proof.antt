@@ -1,6 +1,6 @@
 -- The flag, and the figures beside it.
 use mathlib.Core.Path.{◌∙◌}
-use Rattle.c_state.proofs.Senders.{flag-fails, idle-last}
+use Rattle.c_state.proofs.Senders.{flag_fails, idle_last}
 use borrow.Author.Rules.{rules}
 use Rattle.c_state.proofs.sender_part.fits.Statement.{statement}
 use Rattle.c_state.proofs.sender_part.fits.Tie as tie
@@ -15,7 +15,7 @@ two-requires : tie.Need-two-requires
 two-requires c κs = search rules
 
 returns : tie.Need-returns
-returns c = flag-fails _ _ _ c.before.before.before.four.ensures c.before.before.two.ensures c.if1.true
+returns c = flag_fails _ _ _ c.before.before.before.four.ensures c.before.before.two.ensures c.if1.true
 
 shared-slice-read-held : tie.Need-shared-slice-read-held
 shared-slice-read-held c = search rules
@@ -30,7 +30,7 @@ held-requires : tie.Need-held-requires
 held-requires c κs = search rules
 
 returns-2 : tie.Need-returns-2
-returns-2 c = c.held.ensures ∙ idle-last _ _ _ c.before.before.before.before.before.before.before.before.four.ensures c.before.before.before.before.before.before.before.two.ensures c.before.before.before.before.before.if1.false
+returns-2 c = c.held.ensures ∙ idle_last _ _ _ c.before.before.before.before.before.before.before.before.four.ensures c.before.before.before.before.before.before.before.two.ensures c.before.before.before.before.before.if1.false
 
 pub fits-spec : {M : Type 1} → statement M
 fits-spec =

@@ -1,5 +1,5 @@
 -- Each field is a figure.
-use Rattle.c_state.proofs.Senders.{history-made}
+use Rattle.c_state.proofs.Senders.{history_made}
 use borrow.Author.Rules.{rules}
 use Rattle.c_state.proofs.sender_part.history_in.Statement.{statement}
 use Rattle.c_state.proofs.sender_part.history_in.Tie as tie
@@ -32,7 +32,7 @@ cast-t11 : tie.Need-overflow-cast-t11
 cast-t11 c = search rules
 
 returns : tie.Need-returns
-returns c = history-made c.before.before.before.before.before.before.before.before.before.before.args.words.now _ _ c.before.before.before.before.before.before.before.four.ensures c.before.before.before.before.before.four2.ensures
+returns c = history_made c.before.before.before.before.before.before.before.before.before.before.args.words.now _ _ c.before.before.before.before.before.before.before.four.ensures c.before.before.before.before.before.four2.ensures
 
 pub history-in-spec : {M : Type 1} → statement M
 history-in-spec =

@@ -1,5 +1,5 @@
 -- Part by part.
-use Rattle.c_state.proofs.Senders.{sender-made}
+use Rattle.c_state.proofs.Senders.{sender_made}
 use borrow.Author.Rules.{rules}
 use Rattle.c_state.proofs.sender_part.load.Statement.{statement}
 use Rattle.c_state.proofs.sender_part.load.Tie as tie
@@ -42,13 +42,13 @@ idle-in-requires c κs = search rules
 
 returns : tie.Need-returns
 returns c =
-    sender-made _ _ _ _ _ _ _
+    sender_made _ _ _ _ _ _ _
     c.before.before.before.before.before.before.before.before.before.before.before.four.ensures
     c.before.before.before.before.before.before.before.before.before.four2.ensures
     c.before.before.before.before.before.before.before.before.two.ensures
     c.before.before.before.before.before.before.before.history-in.ensures
     c.before.before.before.before.before.before.queue-in.ensures
-    c.idle-in.ensures
+    c.idle_in_lem.ensures
 
 pub load_spec : {M : Type 1} → statement M
 load_spec =

@@ -1,8 +1,8 @@
 -- Each field is a figure, and the requests are read.
 use mathlib.Core.Path.{ap, ◌∙◌}
-use Rattle.c_state.specs.Sender.{requestsIn}
-use Rattle.c_state.proofs.Parts.{rest-whole, rest-length}
-use Rattle.c_state.proofs.Senders.{queue-made}
+use Rattle.c_state.specs.Sender.{requests_in}
+use Rattle.c_state.proofs.Parts.{rest_whole, rest_length}
+use Rattle.c_state.proofs.Senders.{queue_made}
 use borrow.Author.Rules.{rules}
 use Rattle.c_state.proofs.sender_part.queue_in.Statement.{statement}
 use Rattle.c_state.proofs.sender_part.queue_in.Tie as tie
@@ -26,7 +26,7 @@ part-requests-in-end : tie.Need-slice-bounds-requests-in-end
 part-requests-in-end c = search rules
 
 requests-in-requires : tie.Need-requests-in-requires
-requests-in-requires c κs = rest-length 5 8 c.before.before.before.before.before.args.words.now c.before.before.before.before.before.requires
+requests-in-requires c κs = rest_length 5 8 c.before.before.before.before.before.args.words.now c.before.before.before.before.before.requires
 
 cast-t11 : tie.Need-overflow-cast-t11
 cast-t11 c = search rules
@@ -40,7 +40,7 @@ cast-t13 c = search rules
 returns : tie.Need-returns
 returns c =
     let ws = c.before.before.before.before.before.before.before.before.before.args.words.now in
-    queue-made ws _ _ _ c.before.before.before.before.before.before.four.ensures c.before.before.before.before.before.two.ensures (c.before.before.before.requests-in.ensures ∙ ap requestsIn (rest-whole 5 ws))
+    queue_made ws _ _ _ c.before.before.before.before.before.before.four.ensures c.before.before.before.before.before.two.ensures (c.before.before.before.requests-in.ensures ∙ ap requests_in (rest_whole 5 ws))
 
 pub queue-in-spec : {M : Type 1} → statement M
 queue-in-spec =

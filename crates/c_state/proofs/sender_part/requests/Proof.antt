@@ -1,5 +1,5 @@
 -- Word by word.
-use Rattle.c_state.proofs.Requests.{words-made}
+use Rattle.c_state.proofs.Requests.{words_made}
 use borrow.Author.Rules.{rules}
 use Rattle.c_state.proofs.sender_part.requests.Statement.{statement}
 use Rattle.c_state.proofs.sender_part.requests.Tie as tie
@@ -78,7 +78,7 @@ both-requires-8 c κs = search rules
 
 returns : tie.Need-returns
 returns c =
-    words-made _
+    words_made _
     c.before.before.before.before.before.before.before.before.before.before.before.before.before.before.before.before.before.before.before.before.before.both.ensures
     c.before.before.before.before.before.before.before.before.before.before.before.before.before.before.before.before.before.before.both2.ensures
     c.before.before.before.before.before.before.before.before.before.before.before.before.before.before.before.both3.ensures

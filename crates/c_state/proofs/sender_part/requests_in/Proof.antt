@@ -1,5 +1,5 @@
 -- Word by word.
-use Rattle.c_state.proofs.Requests.{requests-made}
+use Rattle.c_state.proofs.Requests.{requests_made}
 use native.Mathlib.Omega.{arith}
 use borrow.Author.Rules.{rules}
 use Rattle.c_state.proofs.sender_part.requests_in.Statement.{statement}
@@ -103,7 +103,7 @@ second-in-requires-8 c κs = search rules
 
 returns : tie.Need-returns
 returns c =
-    requests-made _ c.before.before.before.before.before.before.before.before.before.before.before.before.before.before.before.before.before.before.before.before.before.before.before.before.before.before.before.before.before.before.before.before.before.requires
+    requests_made _ c.before.before.before.before.before.before.before.before.before.before.before.before.before.before.before.before.before.before.before.before.before.before.before.before.before.before.before.before.before.before.before.before.before.requires
     c.before.before.before.before.before.before.before.before.before.before.before.before.before.before.before.before.before.before.before.before.before.before.before.before.before.before.before.before.before.before.first-in.ensures
     c.before.before.before.before.before.before.before.before.before.before.before.before.before.before.before.before.before.before.before.before.before.before.before.before.before.before.before.before.second-in.ensures
     c.before.before.before.before.before.before.before.before.before.before.before.before.before.before.before.before.before.before.before.before.before.before.before.before.before.before.first-in2.ensures

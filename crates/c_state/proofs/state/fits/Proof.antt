@@ -1,6 +1,6 @@
 -- The receiver's words, then the sender's.
 use mathlib.Core.Path.{sym, ◌∙◌}
-use Rattle.c_state.proofs.Streams.{fits-sender, fits_not}
+use Rattle.c_state.proofs.Streams.{fits_sender, fits_not}
 use borrow.Author.Rules.{rules}
 use Rattle.c_state.proofs.state.fits.Statement.{statement}
 use Rattle.c_state.proofs.state.fits.Tie as tie
@@ -12,7 +12,7 @@ sender-fits-requires : tie.Need-sender-fits-requires
 sender-fits-requires c κs = search rules
 
 returns : tie.Need-returns
-returns c = c.sender-fits.ensures ∙ fits-sender _ (sym c.before.before.receiver-fits.ensures ∙ c.before.if1.true)
+returns c = c.sender-fits.ensures ∙ fits_sender _ (sym c.before.before.receiver-fits.ensures ∙ c.before.if1.true)
 
 returns-2 : tie.Need-returns-2
 returns-2 c = fits_not _ (sym c.before.receiver-fits.ensures ∙ c.if1.false)

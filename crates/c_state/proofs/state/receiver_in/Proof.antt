@@ -1,5 +1,5 @@
 -- The receiver's part is long enough, and its flags are flags.
-use Rattle.c_state.proofs.Streams.{receiver-known, part-lengths, part-flags}
+use Rattle.c_state.proofs.Streams.{receiver_known, part_lengths, part_flags}
 use native.Mathlib.Omega.{arith}
 use borrow.Author.Rules.{rules}
 use Rattle.c_state.proofs.state.receiver_in.Statement.{statement}
@@ -12,12 +12,12 @@ part-load-start : tie.Need-slice-bounds-load-start
 part-load-start c = search rules
 
 part-load-end : tie.Need-slice-bounds-load-end
-part-load-end c = omega (arith, (receiver-known c.before.args.words.now c.before.requires).0)
+part-load-end c = omega (arith, (receiver_known c.before.args.words.now c.before.requires).0)
 
 load-requires : tie.Need-load-requires
 load-requires c κs =
     let ws = c.before.before.args.words.now in
-    ((part-lengths ws (receiver-known ws c.before.before.requires).0).0, part-flags ws c.before.before.requires)
+    ((part_lengths ws (receiver_known ws c.before.before.requires).0).0, part_flags ws c.before.before.requires)
 
 returns : tie.Need-returns
 returns c = c.load.ensures

@@ -2,7 +2,7 @@
 use mathlib.Core.Path.{ap, ◌∙◌}
 use lib.ListN.{length}
 use Rattle.packet.specs.Bytes.{spliced}
-use Rattle.c_state.proofs.Receivers.{length-receiver}
+use Rattle.c_state.proofs.Receivers.{length_receiver}
 use native.Mathlib.Omega.{arith}
 use borrow.Author.Rules.{rules}
 use Rattle.c_state.proofs.state.renew_receiver.Statement.{statement}
@@ -15,7 +15,7 @@ slice-aggregate-renew : tie.Need-slice-aggregate-renew
 slice-aggregate-renew c = search rules
 
 renew-requires : tie.Need-renew-requires
-renew-requires c κs = omega (arith, c.before.before.before.before.requires.0, ap length c.before.before.words_of.ensures, length-receiver c.before.before.before.before.args.receiver)
+renew-requires c κs = omega (arith, c.before.before.before.before.requires.0, ap length c.before.before.words_of.ensures, length_receiver c.before.before.before.before.args.receiver)
 
 same_length : tie.Need-same-length
 same_length c = search rules

@@ -2,7 +2,7 @@
 use mathlib.Core.Path.{ap, ◌∙◌}
 use lib.ListN.{length}
 use Rattle.packet.specs.Bytes.{spliced}
-use Rattle.c_state.proofs.Receivers.{length-receiver}
+use Rattle.c_state.proofs.Receivers.{length_receiver}
 use native.Mathlib.Omega.{arith}
 use borrow.Author.Rules.{rules}
 use Rattle.c_state.proofs.state.store_receiver.Statement.{statement}
@@ -15,7 +15,7 @@ slice-aggregate-put : tie.Need-slice-aggregate-put
 slice-aggregate-put c = search rules
 
 put-requires : tie.Need-put-requires
-put-requires c κs = omega (arith, c.before.before.before.before.requires.0, ap length c.before.before.words_of.ensures, length-receiver c.before.before.before.before.args.receiver)
+put-requires c κs = omega (arith, c.before.before.before.before.requires.0, ap length c.before.before.words_of.ensures, length_receiver c.before.before.before.before.args.receiver)
 
 same_length : tie.Need-same-length
 same_length c = search rules

@@ -2,7 +2,7 @@
 use mathlib.Core.Path.{sym, ap, subst, ◌∙◌}
 use Prim.Native.Nat.{◌<◌}
 use Rattle.receiver.specs.declared.receiver.Receiver.{Receiver}
-use Rattle.c_state.specs.Stream.{withReceiver}
+use Rattle.c_state.specs.Stream.{with_receiver}
 use borrow.Author.Rules.{rules}
 use Rattle.c_state.proofs.state.store_rest.Statement.{statement}
 use Rattle.c_state.proofs.state.store_rest.Tie as tie
@@ -17,7 +17,7 @@ same_length : tie.Need-same-length
 same_length c = search rules
 
 returns : tie.Need-returns
-returns c = c.before.before.store-receiver.ensures ∙ ap (withReceiver c.before.before.before.before.before.before.args.words.now) c.before.before.before.before.rest.ensures
+returns c = c.before.before.store-receiver.ensures ∙ ap (with_receiver c.before.before.before.before.before.before.args.words.now) c.before.before.before.before.rest.ensures
 
 pub store-rest-spec : {M : Type 1} → statement M
 store-rest-spec = tie.close (tie.spec rest-requires store-receiver-requires same_length returns)

@@ -2,10 +2,10 @@
 use mathlib.Core.Path.{ap, ◌∙◌}
 use lib.ListN.{length}
 use Rattle.packet.specs.Bytes.{spliced}
-use Rattle.c_state.specs.Receiver.{withWindow}
-use Rattle.c_state.specs.Stream.{receiverIn}
-use Rattle.c_state.proofs.Receivers.{length-receiver}
-use Rattle.c_state.proofs.Streams.{receiver-known, part-lengths}
+use Rattle.c_state.specs.Receiver.{with_window}
+use Rattle.c_state.specs.Stream.{receiver_in}
+use Rattle.c_state.proofs.Receivers.{length_receiver}
+use Rattle.c_state.proofs.Streams.{receiver_known, part_lengths}
 use native.Mathlib.Omega.{arith}
 use borrow.Author.Rules.{rules}
 use Rattle.c_state.proofs.state.store_window.Statement.{statement}
@@ -18,16 +18,16 @@ part-with-window-start : tie.Need-slice-bounds-with-window-start
 part-with-window-start c = search rules
 
 part-with-window-end : tie.Need-slice-bounds-with-window-end
-part-with-window-end c = omega (arith, (receiver-known c.before.before.args.words.now c.before.before.requires.0).0)
+part-with-window-end c = omega (arith, (receiver_known c.before.before.args.words.now c.before.before.requires.0).0)
 
 with-window-requires : tie.Need-with-window-requires
-with-window-requires c κs = let ws = c.before.before.before.args.words.now in let k = receiver-known ws c.before.before.before.requires.0 in ((part-lengths ws k.0).0, k.1, c.before.before.before.requires.1)
+with-window-requires c κs = let ws = c.before.before.before.args.words.now in let k = receiver_known ws c.before.before.before.requires.0 in ((part_lengths ws k.0).0, k.1, c.before.before.before.requires.1)
 
 slice-aggregate-put : tie.Need-slice-aggregate-put
 slice-aggregate-put c = search rules
 
 put-requires : tie.Need-put-requires
-put-requires c κs = let a = c.before.before.before.before.before.before.args in omega (arith, (receiver-known a.words.now c.before.before.before.before.before.before.requires.0).0, ap length c.before.before.with-window.ensures, length-receiver (withWindow (receiverIn a.words.now) a.window))
+put-requires c κs = let a = c.before.before.before.before.before.before.args in omega (arith, (receiver_known a.words.now c.before.before.before.before.before.before.requires.0).0, ap length c.before.before.with-window.ensures, length_receiver (with_window (receiver_in a.words.now) a.window))
 
 same_length : tie.Need-same-length
 same_length c = search rules

@@ -1,12 +1,12 @@
 -- The words are loaded, the call is made, and the words of its end are stored.
 use mathlib.Core.Path.{refl, sym, ◌∙◌}
-use Rattle.c_stream.specs.Exports.{errorExport}
+use Rattle.c_stream.specs.Exports.{error_export}
 use Rattle.c_state.specs.Stream.{loaded}
-use Rattle.stream.specs.Ends.{errorAnswer}
-use Rattle.c_words.proofs.Entries.{made, words-refused}
-use Rattle.c_state.proofs.Ends.{receiver-whole}
+use Rattle.stream.specs.Ends.{error_answer}
+use Rattle.c_words.proofs.Entries.{made, words_refused}
+use Rattle.c_state.proofs.Ends.{receiver_whole}
 use Rattle.c_state.specs.Theorems.{Wide}
-use Rattle.c_stream.proofs.Places.{error-narrow}
+use Rattle.c_stream.proofs.Places.{error_narrow}
 use native.Mathlib.Omega.{arith}
 use borrow.Author.Rules.{rules}
 use Rattle.c_stream.proofs.exports.sirmjold_stream_on_retransmit_error.Statement.{statement}
@@ -26,8 +26,8 @@ on-retransmit-error-requires c κs = search rules
 
 renew-receiver-requires : tie.Need-renew-receiver-requires
 renew-receiver-requires c κs = (
-  receiver-whole _ (sym c.before.before.before.before.before.before.receiver-fits.ensures ∙ c.before.before.before.before.before.if1.true),
-  error-narrow c.before.before.before.before.before.before.before.before.before.args.s.now (wide c.before.before.before.before.before.before.before.before) _ c.before.before.before.receiver-in.ensures _ _ c.before.before.on-retransmit-error.ensures,
+  receiver_whole _ (sym c.before.before.before.before.before.before.receiver-fits.ensures ∙ c.before.before.before.before.before.if1.true),
+  error_narrow c.before.before.before.before.before.before.before.before.before.args.s.now (wide c.before.before.before.before.before.before.before.before) _ c.before.before.before.receiver-in.ensures _ _ c.before.before.on_retransmit_error.ensures,
 )
 
 of-event-requires : tie.Need-of-event-requires
@@ -37,8 +37,8 @@ same_length : tie.Need-same-length
 same_length c = search rules
 
 returns : tie.Need-returns
-unfolding errorExport errorAnswer loaded
-returns c = made _ _ refl (sym c.before.before.before.before.before.before.before.before.before.before.receiver-fits.ensures ∙ c.before.before.before.before.before.before.before.before.before.if1.true) (rw (c.of-event.ensures, c.before.before.before.renew-receiver.ensures, c.before.before.before.before.before.before.on-retransmit-error.ensures, c.before.before.before.before.before.before.before.receiver-in.ensures))
+unfolding error_export error_answer loaded
+returns c = made _ _ refl (sym c.before.before.before.before.before.before.before.before.before.before.receiver-fits.ensures ∙ c.before.before.before.before.before.before.before.before.before.if1.true) (rw (c.of-event.ensures, c.before.before.before.renew-receiver.ensures, c.before.before.before.before.before.before.on_retransmit_error.ensures, c.before.before.before.before.before.before.before.receiver-in.ensures))
 
 refused-event-requires : tie.Need-refused-event-requires
 refused-event-requires c κs = search rules
@@ -47,8 +47,8 @@ same-length-2 : tie.Need-same-length-2
 same-length-2 c = search rules
 
 returns-2 : tie.Need-returns-2
-unfolding errorExport errorAnswer loaded
-returns-2 c = words-refused _ _ refl (sym c.before.before.receiver-fits.ensures ∙ c.before.if1.false) (rw c.refused-event.ensures)
+unfolding error_export error_answer loaded
+returns-2 c = words_refused _ _ refl (sym c.before.before.receiver-fits.ensures ∙ c.before.if1.false) (rw c.refused-event.ensures)
 
 pub sirmjold-stream-on-retransmit-error-spec : {M : Type 1} → statement M
 sirmjold-stream-on-retransmit-error-spec =

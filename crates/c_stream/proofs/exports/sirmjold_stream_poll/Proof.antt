@@ -1,11 +1,11 @@
 -- Where nothing is due the words stay; else the whole call is made.
 use mathlib.Core.Path.{refl, sym, ◌∙◌}
-use Rattle.c_words.specs.Settings.{settingsOf}
-use Rattle.c_words.proofs.Entries.{made, settings-refused}
-use Rattle.c_words.proofs.Figures.{passed, settings-passed}
-use Rattle.c_state.proofs.Waiting.{waits-fit, waits-same}
-use Rattle.c_stream.specs.Exports.{pollExport}
-use Rattle.c_stream.proofs.Stays.{told-out, told-again, refused-again}
+use Rattle.c_words.specs.Settings.{settings_of}
+use Rattle.c_words.proofs.Entries.{made, settings_refused}
+use Rattle.c_words.proofs.Figures.{passed, settings_passed}
+use Rattle.c_state.proofs.Waiting.{waits_fit, waits_same}
+use Rattle.c_stream.specs.Exports.{poll_export}
+use Rattle.c_stream.proofs.Stays.{told_out, told_again, refused_again}
 use borrow.Author.Rules.{rules}
 use Rattle.c_stream.proofs.exports.sirmjold_stream_poll.Statement.{statement}
 use Rattle.c_stream.proofs.exports.sirmjold_stream_poll.Tie as tie
@@ -23,13 +23,13 @@ same_length : tie.Need-same-length
 same_length c = search rules
 
 returns : tie.Need-returns
-unfolding pollExport
+unfolding poll_export
 returns c =
     let st = c.before.before.before.before.before.before.before.before.args.s.now in
     let cfg = c.before.before.before.before.before.before.before.before.args.cfg.now in
     let taken = passed cfg c.before.before.before.before.before.number.ensures c.before.before.before.before.if1.true in
     let still = sym c.before.before.waits.ensures ∙ c.before.if2.true in
-    made _ _ taken (waits-fit _ st still) (told-out st cfg _ (settingsOf cfg) st refl _ _ (waits-same _ st still (settingsOf cfg) (settings-passed cfg taken)) c.of-event.ensures)
+    made _ _ taken (waits_fit _ st still) (told_out st cfg _ (settings_of cfg) st refl _ _ (waits_same _ st still (settings_of cfg) (settings_passed cfg taken)) c.of-event.ensures)
 
 poll-requires : tie.Need-poll-requires
 poll-requires c κs = search rules
@@ -41,7 +41,7 @@ same-length-2 : tie.Need-same-length-2
 same-length-2 c = search rules
 
 returns-2 : tie.Need-returns-2
-returns-2 c = told-again c.before.before.before.poll.ensures _ c.unpacked.ensures
+returns-2 c = told_again c.before.before.before.poll.ensures _ c.unpacked.ensures
 
 poll-requires-2 : tie.Need-poll-requires-2
 poll-requires-2 c κs = search rules
@@ -56,8 +56,8 @@ same-length-3 : tie.Need-same-length-3
 same-length-3 c = search rules
 
 returns-3 : tie.Need-returns-3
-unfolding pollExport
-returns-3 c = refused-again c.before.before.before.before.poll2.ensures _ _ (settings-refused _ _ _ _ c.before.before.before.before.before.before.before.number.ensures c.before.before.before.before.before.before.if1.false refl) _ _ c.before.unpacked2.ensures c.refused-event.ensures
+unfolding poll_export
+returns-3 c = refused_again c.before.before.before.before.poll2.ensures _ _ (settings_refused _ _ _ _ c.before.before.before.before.before.before.before.number.ensures c.before.before.before.before.before.before.if1.false refl) _ _ c.before.unpacked2.ensures c.refused-event.ensures
 
 pub sirmjold-stream-poll-spec : {M : Type 1} → statement M
 sirmjold-stream-poll-spec =

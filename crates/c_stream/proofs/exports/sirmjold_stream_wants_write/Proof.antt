@@ -1,7 +1,7 @@
 -- The words are loaded, and the call is made.
 use mathlib.Core.Path.{refl, sym, ◌∙◌}
-use Rattle.c_stream.specs.Exports.{wantsExport}
-use Rattle.c_words.proofs.Entries.{made, words-refused}
+use Rattle.c_stream.specs.Exports.{wants_export}
+use Rattle.c_words.proofs.Entries.{made, words_refused}
 use borrow.Author.Rules.{rules}
 use Rattle.c_stream.proofs.exports.sirmjold_stream_wants_write.Statement.{statement}
 use Rattle.c_stream.proofs.exports.sirmjold_stream_wants_write.Tie as tie
@@ -19,15 +19,15 @@ of-wants-requires : tie.Need-of-wants-requires
 of-wants-requires c κs = search rules
 
 returns : tie.Need-returns
-unfolding wantsExport
-returns c = made _ _ refl (sym c.before.before.before.before.fits2.ensures ∙ c.before.before.before.if1.true) (rw (c.of-wants.ensures, c.before.wants-write.ensures, c.before.before.load.ensures))
+unfolding wants_export
+returns c = made _ _ refl (sym c.before.before.before.before.fits2.ensures ∙ c.before.before.before.if1.true) (rw (c.of-wants.ensures, c.before.wants_write.ensures, c.before.before.load.ensures))
 
 refused-wants-requires : tie.Need-refused-wants-requires
 refused-wants-requires c κs = search rules
 
 returns-2 : tie.Need-returns-2
-unfolding wantsExport
-returns-2 c = words-refused _ _ refl (sym c.before.before.fits2.ensures ∙ c.before.if1.false) (rw c.refused-wants.ensures)
+unfolding wants_export
+returns-2 c = words_refused _ _ refl (sym c.before.before.fits2.ensures ∙ c.before.if1.false) (rw c.refused-wants.ensures)
 
 pub sirmjold-stream-wants-write-spec : {M : Type 1} → statement M
 sirmjold-stream-wants-write-spec =

@@ -3,11 +3,11 @@ use mathlib.Core.Path.{sym, ◌∙◌}
 use borrow.Author.Tests.{eqb-true}
 use Rattle.config.specs.inner.Tests.{and_left, and_right}
 use Rattle.c_state.specs.Theorems.{Wide}
-use Rattle.c_words.proofs.Entries.{made, words-refused, settings-refused}
-use Rattle.c_words.proofs.Figures.{passed, figures-small}
-use Rattle.c_stream.specs.Exports.{writeExport}
-use Rattle.c_stream.proofs.Places.{write-narrow}
-use Rattle.c_stream.proofs.Stays.{write-stays}
+use Rattle.c_words.proofs.Entries.{made, words_refused, settings_refused}
+use Rattle.c_words.proofs.Figures.{passed, figures_small}
+use Rattle.c_stream.specs.Exports.{write_export}
+use Rattle.c_stream.proofs.Places.{write_narrow}
+use Rattle.c_stream.proofs.Stays.{write_stays}
 use native.Mathlib.Omega.{arith}
 use borrow.Author.Rules.{rules}
 use Rattle.c_stream.proofs.exports.sirmjold_stream_write_data.Statement.{statement}
@@ -32,7 +32,7 @@ load-requires : tie.Need-load-requires
 load-requires c κs = sym c.before.before.before.before.before.fits2.ensures ∙ and_left _ _ (sym c.before.before.both.ensures ∙ c.before.if2.true)
 
 load-requires-2 : tie.Need-load-requires-2
-load-requires-2 c κs = figures-small _ (passed _ c.before.before.before.before.before.before.before.before.before.before.number.ensures c.before.before.before.before.before.before.before.before.before.if1.true)
+load-requires-2 c κs = figures_small _ (passed _ c.before.before.before.before.before.before.before.before.before.before.number.ensures c.before.before.before.before.before.before.before.before.before.if1.true)
 
 load-requires-3 : tie.Need-load-requires-3
 load-requires-3 c κs = eqb-true _ _ (sym c.before.before.before.before.before.before.before.fits3.ensures ∙ and_right c.before.before.before.before.before.before.before.before.before.fits2.result _ (sym c.before.before.before.before.before.before.both.ensures ∙ c.before.before.before.before.before.if2.true))
@@ -41,7 +41,7 @@ write-data-requires : tie.Need-write-data-requires
 write-data-requires c κs = search rules
 
 store-written-requires : tie.Need-store-written-requires
-store-written-requires c κs = let n = write-narrow c.before.before.before.before.before.before.before.before.before.before.before.before.before.before.before.before.before.before.before.before.before.before.before.before.before.before.before.before.before.args.s.now (wide c.before.before.before.before.before.before.before.before.before.before.before.before.before.before.before.before.before.before.before.before.before.before.before.before.before.before.before.before) _ c.before.before.before.before.before.before.before.before.before.before.before.before.before.before.load.ensures _ _ _ _ _ _ _ _ c.before.before.before.before.before.before.before.write-data.ensures in (sym c.before.before.before.before.before.before.before.before.before.before.before.before.before.before.before.before.before.before.before.before.fits2.ensures ∙ and_left _ _ (sym c.before.before.before.before.before.before.before.before.before.before.before.before.before.before.before.before.before.both.ensures ∙ c.before.before.before.before.before.before.before.before.before.before.before.before.before.before.before.before.if2.true), n.0, n.1, write-stays c.before.before.before.before.before.before.before.before.before.before.before.before.before.before.before.before.before.before.before.before.before.before.before.before.before.before.before.before.before.args.s.now _ c.before.before.before.before.before.before.before.before.before.before.before.before.before.before.load.ensures _ _ _ _ _ _ _ _ c.before.before.before.before.before.before.before.write-data.ensures)
+store-written-requires c κs = let n = write_narrow c.before.before.before.before.before.before.before.before.before.before.before.before.before.before.before.before.before.before.before.before.before.before.before.before.before.before.before.before.before.args.s.now (wide c.before.before.before.before.before.before.before.before.before.before.before.before.before.before.before.before.before.before.before.before.before.before.before.before.before.before.before.before) _ c.before.before.before.before.before.before.before.before.before.before.before.before.before.before.load.ensures _ _ _ _ _ _ _ _ c.before.before.before.before.before.before.before.write_data.ensures in (sym c.before.before.before.before.before.before.before.before.before.before.before.before.before.before.before.before.before.before.before.before.fits2.ensures ∙ and_left _ _ (sym c.before.before.before.before.before.before.before.before.before.before.before.before.before.before.before.before.before.both.ensures ∙ c.before.before.before.before.before.before.before.before.before.before.before.before.before.before.before.before.if2.true), n.0, n.1, write_stays c.before.before.before.before.before.before.before.before.before.before.before.before.before.before.before.before.before.before.before.before.before.before.before.before.before.before.before.before.before.args.s.now _ c.before.before.before.before.before.before.before.before.before.before.before.before.before.before.load.ensures _ _ _ _ _ _ _ _ c.before.before.before.before.before.before.before.write_data.ensures)
 
 store-requires : tie.Need-store-requires
 store-requires c κs = eqb-true _ _ (sym c.before.before.before.before.before.before.before.before.before.before.before.before.before.before.before.before.before.before.before.before.before.before.fits3.ensures ∙ and_right c.before.before.before.before.before.before.before.before.before.before.before.before.before.before.before.before.before.before.before.before.before.before.before.before.fits2.result _ (sym c.before.before.before.before.before.before.before.before.before.before.before.before.before.before.before.before.before.before.before.before.before.both.ensures ∙ c.before.before.before.before.before.before.before.before.before.before.before.before.before.before.before.before.before.before.before.before.if2.true))
@@ -62,8 +62,8 @@ same-length-4 : tie.Need-same-length-4
 same-length-4 c = search rules
 
 returns : tie.Need-returns
-unfolding writeExport
-returns c = let q = rw (c.before.before.before.before.before.before.before.before.before.before.before.before.before.before.before.before.before.before.before.before.before.before.load.ensures, c.before.before.before.before.before.before.before.before.before.before.before.before.before.before.before.before.before.before.before.before.load2.ensures, c.before.before.before.before.before.before.before.before.before.before.before.before.before.before.before.before.before.before.load3.ensures) at c.before.before.before.before.before.before.before.before.before.before.before.before.before.before.before.write-data.ensures in made _ _ (passed _ c.before.before.before.before.before.before.before.before.before.before.before.before.before.before.before.before.before.before.before.before.before.before.before.before.before.before.before.before.before.before.before.number.ensures c.before.before.before.before.before.before.before.before.before.before.before.before.before.before.before.before.before.before.before.before.before.before.before.before.before.before.before.before.before.before.if1.true) (sym (c.before.before.before.before.before.before.before.before.before.before.before.before.before.before.before.before.before.before.before.before.before.before.before.before.before.both.ensures ∙ rw (c.before.before.before.before.before.before.before.before.before.before.before.before.before.before.before.before.before.before.before.before.before.before.before.before.before.before.before.before.fits2.ensures, c.before.before.before.before.before.before.before.before.before.before.before.before.before.before.before.before.before.before.before.before.before.before.before.before.before.before.fits3.ensures)) ∙ c.before.before.before.before.before.before.before.before.before.before.before.before.before.before.before.before.before.before.before.before.before.before.before.before.if2.true) (rw (c.of-writing.ensures, c.before.before.before.before.before.before.before.store-written.ensures, c.before.before.before.store.ensures, ← q))
+unfolding write_export
+returns c = let q = rw (c.before.before.before.before.before.before.before.before.before.before.before.before.before.before.before.before.before.before.before.before.before.before.load.ensures, c.before.before.before.before.before.before.before.before.before.before.before.before.before.before.before.before.before.before.before.before.load2.ensures, c.before.before.before.before.before.before.before.before.before.before.before.before.before.before.before.before.before.before.load3.ensures) at c.before.before.before.before.before.before.before.before.before.before.before.before.before.before.before.write_data.ensures in made _ _ (passed _ c.before.before.before.before.before.before.before.before.before.before.before.before.before.before.before.before.before.before.before.before.before.before.before.before.before.before.before.before.before.before.before.number.ensures c.before.before.before.before.before.before.before.before.before.before.before.before.before.before.before.before.before.before.before.before.before.before.before.before.before.before.before.before.before.before.if1.true) (sym (c.before.before.before.before.before.before.before.before.before.before.before.before.before.before.before.before.before.before.before.before.before.before.before.before.before.both.ensures ∙ rw (c.before.before.before.before.before.before.before.before.before.before.before.before.before.before.before.before.before.before.before.before.before.before.before.before.before.before.before.before.fits2.ensures, c.before.before.before.before.before.before.before.before.before.before.before.before.before.before.before.before.before.before.before.before.before.before.before.before.before.before.fits3.ensures)) ∙ c.before.before.before.before.before.before.before.before.before.before.before.before.before.before.before.before.before.before.before.before.before.before.before.before.if2.true) (rw (c.of-writing.ensures, c.before.before.before.before.before.before.before.store-written.ensures, c.before.before.before.store.ensures, ← q))
 
 refused-written-requires : tie.Need-refused-written-requires
 refused-written-requires c κs = search rules
@@ -75,15 +75,15 @@ same-length-6 : tie.Need-same-length-6
 same-length-6 c = search rules
 
 returns-2 : tie.Need-returns-2
-unfolding writeExport
-returns-2 c = words-refused _ _ (passed _ c.before.before.before.before.before.before.before.before.number.ensures c.before.before.before.before.before.before.before.if1.true) (sym (c.before.before.both.ensures ∙ rw (c.before.before.before.before.before.fits2.ensures, c.before.before.before.fits3.ensures)) ∙ c.before.if2.false) (rw c.refused-written.ensures)
+unfolding write_export
+returns-2 c = words_refused _ _ (passed _ c.before.before.before.before.before.before.before.before.number.ensures c.before.before.before.before.before.before.before.if1.true) (sym (c.before.before.both.ensures ∙ rw (c.before.before.before.before.before.fits2.ensures, c.before.before.before.fits3.ensures)) ∙ c.before.if2.false) (rw c.refused-written.ensures)
 
 refused-written-requires-2 : tie.Need-refused-written-requires-2
 refused-written-requires-2 c κs = search rules
 
 returns-3 : tie.Need-returns-3
-unfolding writeExport
-returns-3 c = settings-refused _ _ _ _ c.before.before.number.ensures c.before.if1.false (rw c.refused-written2.ensures)
+unfolding write_export
+returns-3 c = settings_refused _ _ _ _ c.before.before.number.ensures c.before.if1.false (rw c.refused-written2.ensures)
 
 pub sirmjold-stream-write-data-spec : {M : Type 1} → statement M
 sirmjold-stream-write-data-spec = tie.close (tie.spec number-requires fits-requires fits-requires-2 both-requires load-requires load-requires-2 load-requires-3 write-data-requires store-written-requires store-requires of-writing-requires same_length same-length-2 same-length-3 same-length-4 returns refused-written-requires same-length-5 same-length-6 returns-2 refused-written-requires-2 returns-3)

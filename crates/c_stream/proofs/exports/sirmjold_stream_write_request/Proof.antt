@@ -2,14 +2,14 @@
 use mathlib.Core.Path.{sym, ◌∙◌}
 use borrow.Author.Tests.{eqb-true}
 use Rattle.config.specs.inner.Tests.{and_left, and_right}
-use Rattle.stream.specs.Ends.{takeAnswer}
+use Rattle.stream.specs.Ends.{take_answer}
 use Rattle.c_state.specs.Stream.{loaded}
 use Rattle.c_state.specs.Theorems.{Wide}
-use Rattle.c_state.proofs.Ends.{receiver-whole}
-use Rattle.c_words.proofs.Entries.{made, words-refused, settings-refused}
-use Rattle.c_words.proofs.Figures.{passed, figures-small}
-use Rattle.c_stream.specs.Exports.{takeExport}
-use Rattle.c_stream.proofs.Places.{take-narrow}
+use Rattle.c_state.proofs.Ends.{receiver_whole}
+use Rattle.c_words.proofs.Entries.{made, words_refused, settings_refused}
+use Rattle.c_words.proofs.Figures.{passed, figures_small}
+use Rattle.c_stream.specs.Exports.{take_export}
+use Rattle.c_stream.proofs.Places.{take_narrow}
 use native.Mathlib.Omega.{arith}
 use borrow.Author.Rules.{rules}
 use Rattle.c_stream.proofs.exports.sirmjold_stream_write_request.Statement.{statement}
@@ -34,7 +34,7 @@ receiver-in-requires : tie.Need-receiver-in-requires
 receiver-in-requires c κs = sym c.before.before.before.before.before.receiver-fits.ensures ∙ and_left _ _ (sym c.before.before.both.ensures ∙ c.before.if2.true)
 
 load-requires : tie.Need-load-requires
-load-requires c κs = figures-small _ (passed _ c.before.before.before.before.before.before.before.before.before.number.ensures c.before.before.before.before.before.before.before.before.if1.true)
+load-requires c κs = figures_small _ (passed _ c.before.before.before.before.before.before.before.before.before.number.ensures c.before.before.before.before.before.before.before.before.if1.true)
 
 load-requires-2 : tie.Need-load-requires-2
 load-requires-2 c κs = eqb-true _ _ (sym c.before.before.before.before.before.before.fits2.ensures ∙ and_right c.before.before.before.before.before.before.before.before.receiver-fits.result _ (sym c.before.before.before.before.before.both.ensures ∙ c.before.before.before.before.if2.true))
@@ -43,7 +43,7 @@ write-request-requires : tie.Need-write-request-requires
 write-request-requires c κs = search rules
 
 renew-receiver-requires : tie.Need-renew-receiver-requires
-renew-receiver-requires c κs = (receiver-whole _ (sym c.before.before.before.before.before.before.before.before.before.before.before.before.before.before.before.before.receiver-fits.ensures ∙ and_left _ _ (sym c.before.before.before.before.before.before.before.before.before.before.before.before.before.both.ensures ∙ c.before.before.before.before.before.before.before.before.before.before.before.before.if2.true)), take-narrow c.before.before.before.before.before.before.before.before.before.before.before.before.before.before.before.before.before.before.before.before.before.before.before.before.args.s.now (wide c.before.before.before.before.before.before.before.before.before.before.before.before.before.before.before.before.before.before.before.before.before.before.before) _ c.before.before.before.before.before.before.before.before.before.before.receiver-in.ensures _ _ _ _ _ c.before.before.before.before.before.write-request.ensures)
+renew-receiver-requires c κs = (receiver_whole _ (sym c.before.before.before.before.before.before.before.before.before.before.before.before.before.before.before.before.receiver-fits.ensures ∙ and_left _ _ (sym c.before.before.before.before.before.before.before.before.before.before.before.before.before.both.ensures ∙ c.before.before.before.before.before.before.before.before.before.before.before.before.if2.true)), take_narrow c.before.before.before.before.before.before.before.before.before.before.before.before.before.before.before.before.before.before.before.before.before.before.before.before.args.s.now (wide c.before.before.before.before.before.before.before.before.before.before.before.before.before.before.before.before.before.before.before.before.before.before.before) _ c.before.before.before.before.before.before.before.before.before.before.receiver-in.ensures _ _ _ _ _ c.before.before.before.before.before.write_request.ensures)
 
 store-requires : tie.Need-store-requires
 store-requires c κs = eqb-true _ _ (sym c.before.before.before.before.before.before.before.before.before.before.before.before.before.before.before.before.before.before.fits2.ensures ∙ and_right c.before.before.before.before.before.before.before.before.before.before.before.before.before.before.before.before.before.before.before.before.receiver-fits.result _ (sym c.before.before.before.before.before.before.before.before.before.before.before.before.before.before.before.before.before.both.ensures ∙ c.before.before.before.before.before.before.before.before.before.before.before.before.before.before.before.before.if2.true))
@@ -61,8 +61,8 @@ same-length-3 : tie.Need-same-length-3
 same-length-3 c = search rules
 
 returns : tie.Need-returns
-unfolding takeExport takeAnswer loaded
-returns c = let q = rw (c.before.before.before.before.before.before.before.before.before.before.before.before.before.before.before.before.before.before.receiver-in.ensures, c.before.before.before.before.before.before.before.before.before.before.before.before.before.before.before.before.before.load.ensures, c.before.before.before.before.before.before.before.before.before.before.before.before.before.before.before.load2.ensures) at c.before.before.before.before.before.before.before.before.before.before.before.before.before.write-request.ensures in made _ _ (passed _ c.before.before.before.before.before.before.before.before.before.before.before.before.before.before.before.before.before.before.before.before.before.before.before.before.before.before.before.number.ensures c.before.before.before.before.before.before.before.before.before.before.before.before.before.before.before.before.before.before.before.before.before.before.before.before.before.before.if1.true) (sym (c.before.before.before.before.before.before.before.before.before.before.before.before.before.before.before.before.before.before.before.before.before.both.ensures ∙ rw (c.before.before.before.before.before.before.before.before.before.before.before.before.before.before.before.before.before.before.before.before.before.before.before.before.receiver-fits.ensures, c.before.before.before.before.before.before.before.before.before.before.before.before.before.before.before.before.before.before.before.before.before.before.fits2.ensures)) ∙ c.before.before.before.before.before.before.before.before.before.before.before.before.before.before.before.before.before.before.before.before.if2.true) (rw (c.of-request.ensures, c.before.before.before.before.before.before.before.renew-receiver.ensures, c.before.before.before.store.ensures, ← q))
+unfolding take_export take_answer loaded
+returns c = let q = rw (c.before.before.before.before.before.before.before.before.before.before.before.before.before.before.before.before.before.before.receiver-in.ensures, c.before.before.before.before.before.before.before.before.before.before.before.before.before.before.before.before.before.load.ensures, c.before.before.before.before.before.before.before.before.before.before.before.before.before.before.before.load2.ensures) at c.before.before.before.before.before.before.before.before.before.before.before.before.before.write_request.ensures in made _ _ (passed _ c.before.before.before.before.before.before.before.before.before.before.before.before.before.before.before.before.before.before.before.before.before.before.before.before.before.before.before.number.ensures c.before.before.before.before.before.before.before.before.before.before.before.before.before.before.before.before.before.before.before.before.before.before.before.before.before.before.if1.true) (sym (c.before.before.before.before.before.before.before.before.before.before.before.before.before.before.before.before.before.before.before.before.before.both.ensures ∙ rw (c.before.before.before.before.before.before.before.before.before.before.before.before.before.before.before.before.before.before.before.before.before.before.before.before.receiver-fits.ensures, c.before.before.before.before.before.before.before.before.before.before.before.before.before.before.before.before.before.before.before.before.before.before.fits2.ensures)) ∙ c.before.before.before.before.before.before.before.before.before.before.before.before.before.before.before.before.before.before.before.before.if2.true) (rw (c.of-request.ensures, c.before.before.before.before.before.before.before.renew-receiver.ensures, c.before.before.before.store.ensures, ← q))
 
 refused-request-requires : tie.Need-refused-request-requires
 refused-request-requires c κs = search rules
@@ -74,15 +74,15 @@ same-length-5 : tie.Need-same-length-5
 same-length-5 c = search rules
 
 returns-2 : tie.Need-returns-2
-unfolding takeExport takeAnswer loaded
-returns-2 c = words-refused _ _ (passed _ c.before.before.before.before.before.before.before.before.number.ensures c.before.before.before.before.before.before.before.if1.true) (sym (c.before.before.both.ensures ∙ rw (c.before.before.before.before.before.receiver-fits.ensures, c.before.before.before.fits2.ensures)) ∙ c.before.if2.false) (rw c.refused-request.ensures)
+unfolding take_export take_answer loaded
+returns-2 c = words_refused _ _ (passed _ c.before.before.before.before.before.before.before.before.number.ensures c.before.before.before.before.before.before.before.if1.true) (sym (c.before.before.both.ensures ∙ rw (c.before.before.before.before.before.receiver-fits.ensures, c.before.before.before.fits2.ensures)) ∙ c.before.if2.false) (rw c.refused-request.ensures)
 
 refused-request-requires-2 : tie.Need-refused-request-requires-2
 refused-request-requires-2 c κs = search rules
 
 returns-3 : tie.Need-returns-3
-unfolding takeExport takeAnswer loaded
-returns-3 c = settings-refused _ _ _ _ c.before.before.number.ensures c.before.if1.false (rw c.refused-request2.ensures)
+unfolding take_export take_answer loaded
+returns-3 c = settings_refused _ _ _ _ c.before.before.number.ensures c.before.if1.false (rw c.refused-request2.ensures)
 
 pub sirmjold-stream-write-request-spec : {M : Type 1} → statement M
 sirmjold-stream-write-request-spec = tie.close (tie.spec number-requires receiver-fits-requires fits-requires both-requires receiver-in-requires load-requires load-requires-2 write-request-requires renew-receiver-requires store-requires of-request-requires same_length same-length-2 same-length-3 returns refused-request-requires same-length-4 same-length-5 returns-2 refused-request-requires-2 returns-3)

@@ -1,24 +1,24 @@
 -- Each test is one of the definition.
-use Rattle.c_window.proofs.Windows.{window-short, window-large, window-last}
+use Rattle.c_window.proofs.Windows.{window_short, window_large, window_last}
 use native.Mathlib.Omega.{arith}
 use borrow.Author.Rules.{rules}
 use Rattle.c_window.proofs.exports.fits.Statement.{statement}
 use Rattle.c_window.proofs.exports.fits.Tie as tie
 
 returns : tie.Need-returns
-returns c = window-short _ c.if1.true
+returns c = window_short _ c.if1.true
 
 shared-slice-read-if2 : tie.Need-shared-slice-read-if2
 shared-slice-read-if2 c = search rules
 
 returns-2 : tie.Need-returns-2
-returns-2 c = window-large _ c.if2.true
+returns-2 c = window_large _ c.if2.true
 
 shared-slice-read-result : tie.Need-shared-slice-read-result
 shared-slice-read-result c = search rules
 
 returns-3 : tie.Need-returns-3
-returns-3 c = window-last _ (omega arith) (omega arith)
+returns-3 c = window_last _ (omega arith) (omega arith)
 
 pub fits-spec : {M : Type 1} → statement M
 fits-spec =

@@ -1,6 +1,6 @@
 -- By cases.
 use mathlib.Core.Path.{sym, ap}
-use Rattle.c_window.specs.Window.{isDuplicate}
+use Rattle.c_window.specs.Window.{is_duplicate}
 use borrow.Author.Rules.{rules}
 use Rattle.c_window.proofs.exports.is_duplicate.Statement.{statement}
 use Rattle.c_window.proofs.exports.is_duplicate.Tie as tie
@@ -15,13 +15,13 @@ enum-told-3 : tie.Need-enum-told-3
 enum-told-3 c = search rules
 
 returns : tie.Need-returns
-returns c = sym (ap isDuplicate c.enum_told.given.1)
+returns c = sym (ap is_duplicate c.enum_told.given.1)
 
 returns-2 : tie.Need-returns-2
-returns-2 c = sym (ap isDuplicate c.enum-told2.given.1)
+returns-2 c = sym (ap is_duplicate c.enum-told2.given.1)
 
 returns-3 : tie.Need-returns-3
-returns-3 c = sym (ap isDuplicate c.enum-told3.given.1)
+returns-3 c = sym (ap is_duplicate c.enum-told3.given.1)
 
 pub is-duplicate-spec : {M : Type 1} → statement M
 is-duplicate-spec = tie.close (tie.spec enum_told enum-told-2 enum-told-3 returns returns-2 returns-3)

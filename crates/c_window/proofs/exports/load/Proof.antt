@@ -1,11 +1,11 @@
 -- Words that pass the test fit.
-use Rattle.c_window.proofs.Windows.{window-known}
+use Rattle.c_window.proofs.Windows.{window_known}
 use borrow.Author.Rules.{rules}
 use Rattle.c_window.proofs.exports.load.Statement.{statement}
 use Rattle.c_window.proofs.exports.load.Tie as tie
 
 known-requires : tie.Need-known-requires
-known-requires c κs = window-known _ c.before.requires
+known-requires c κs = window_known _ c.before.requires
 
 returns : tie.Need-returns
 returns c = search rules

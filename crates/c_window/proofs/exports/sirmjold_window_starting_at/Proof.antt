@@ -1,6 +1,6 @@
 -- The new window is stored.
-use Rattle.c_window.specs.Window.{startExport}
-use Rattle.c_words.proofs.Entries.{made, words-refused}
+use Rattle.c_window.specs.Window.{start_export}
+use Rattle.c_words.proofs.Entries.{made, words_refused}
 use borrow.Author.Rules.{rules}
 use borrow.Author.Tests.{eq-eqb, ne_eqb}
 use mathlib.Core.Path.{refl}
@@ -17,14 +17,14 @@ same_length : tie.Need-same-length
 same_length c = search rules
 
 returns : tie.Need-returns
-unfolding startExport
+unfolding start_export
 returns c =
     let q = rw c.before.before.before.starting-at.ensures at c.before.before.start.ensures in
-    made _ _ refl (eq-eqb _ 4 c.before.before.before.before.before.if1.true) q
+    made _ _ refl (eq_eqb _ 4 c.before.before.before.before.before.if1.true) q
 
 returns-2 : tie.Need-returns-2
-unfolding startExport
-returns-2 c = words-refused _ _ refl (ne_eqb _ 4 c.if1.false) refl
+unfolding start_export
+returns-2 c = words_refused _ _ refl (ne_eqb _ 4 c.if1.false) refl
 
 pub sirmjold-window-starting-at-spec : {M : Type 1} → statement M
 sirmjold-window-starting-at-spec =

@@ -1,5 +1,5 @@
 -- By cases.
-use Rattle.c_window.proofs.Windows.{started-window, started-refused}
+use Rattle.c_window.proofs.Windows.{started_window, started_refused}
 use borrow.Author.Rules.{rules}
 use Rattle.c_window.proofs.exports.start.Statement.{statement}
 use Rattle.c_window.proofs.exports.start.Tie as tie
@@ -20,10 +20,10 @@ same_length : tie.Need-same-length
 same_length c = search rules
 
 returns : tie.Need-returns
-returns c = started-window c.before.before.before.before.before.before.before.before.args.started _ _ c.before.before.before.before.before.started.given.1 _ c.before.before.store.ensures
+returns c = started_window c.before.before.before.before.before.before.before.before.args.started _ _ c.before.before.before.before.before.started.given.1 _ c.before.before.store.ensures
 
 returns-2 : tie.Need-returns-2
-returns-2 c = started-refused c.before.before.before.before.before.args.started _ _ c.before.before.started2.given.1 _ c.number.ensures
+returns-2 c = started_refused c.before.before.before.before.before.args.started _ _ c.before.before.started2.given.1 _ c.number.ensures
 
 pub start_spec : {M : Type 1} → statement M
 start_spec =

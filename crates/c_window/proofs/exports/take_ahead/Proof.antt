@@ -1,7 +1,7 @@
 -- The three answers are those to the number.
 use mathlib.Core.Path.{ap, ◌∙◌}
 use Rattle.window.proofs.Accepts.{taken_is}
-use Rattle.c_window.specs.Window.{takenInto}
+use Rattle.c_window.specs.Window.{taken_into}
 use borrow.Author.Rules.{rules}
 use Rattle.c_window.proofs.exports.take_ahead.Statement.{statement}
 use Rattle.c_window.proofs.exports.take_ahead.Tie as tie
@@ -22,7 +22,7 @@ same_length : tie.Need-same-length
 same_length c = search rules
 
 returns : tie.Need-returns
-returns c = c.before.before.take.ensures ∙ ap takenInto (taken_is _ c.before.before.before.before.before.moved_to.ensures c.before.before.before.before.class-ahead.ensures c.before.before.before.before.before.before.lost-to.ensures)
+returns c = c.before.before.take.ensures ∙ ap taken_into (taken_is _ c.before.before.before.before.before.moved_to.ensures c.before.before.before.before.class-ahead.ensures c.before.before.before.before.before.before.lost-to.ensures)
 
 pub take-ahead-spec : {M : Type 1} → statement M
 take-ahead-spec = tie.close (tie.spec lost-to-requires moved-to-requires class-ahead-requires take-requires same_length returns)

@@ -1,10 +1,10 @@
 -- Each call by the tests that it makes.
-use Rattle.c_window.proofs.Refusals.{start-keeps, accept-keeps}
+use Rattle.c_window.proofs.Refusals.{start_keeps, accept_keeps}
 use Rattle.c_window.proofs.theorems.refused_keeps.Statement.{statement}
 use Rattle.c_window.proofs.theorems.refused_keeps.Tie as tie
 
 returns : tie.Need-returns
-returns c = record { start = λ w size highest. (start-keeps w size highest).kept; accept = λ w seq. (accept-keeps w seq).kept }
+returns c = record { start = λ w size highest. (start_keeps w size highest).kept; accept = λ w seq. (accept_keeps w seq).kept }
 
 pub refused-keeps-spec : {M : Type 1} → statement M
 refused-keeps-spec = tie.close (tie.spec returns)

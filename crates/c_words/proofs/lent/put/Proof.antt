@@ -6,8 +6,8 @@ use lib.Seq.{take_all}
 use native.Mathlib.Omega.{arith}
 use borrow.Author.Rules.{rules}
 use Rattle.packet.specs.Bytes.{spliced}
-use Rattle.packet.proofs.Splice.{spliced-nil}
-use Rattle.read_command.proofs.Stores.{put-turn}
+use Rattle.packet.proofs.Splice.{spliced_nil}
+use Rattle.read_command.proofs.Stores.{put_turn}
 use Rattle.c_words.proofs.lent.put.Statement.{statement}
 use Rattle.c_words.proofs.lent.put.Tie as tie
 
@@ -18,7 +18,7 @@ abbrev decreases-loop : tie.decreases-loop
 decreases-loop from to₀ at k₀ to k = length from - k
 
 loop-holds : tie.Need-loop-init invariant-loop decreases-loop
-loop-holds c = (omega arith, omega arith, sym (spliced-nil _ _ (omega arith)), omega arith)
+loop-holds c = (omega arith, omega arith, sym (spliced_nil _ _ (omega arith)), omega arith)
 
 mul-to : tie.Need-overflow-mul-to invariant-loop decreases-loop
 mul-to c = search rules
@@ -47,7 +47,7 @@ loop-again c =
     let l = c.before.before.loop in (
       omega arith,
       omega arith,
-      rw l.invariant.2 (put-turn a.to.now a.from.now a.at l.k l.invariant.0 (omega arith)),
+      rw l.invariant.2 (put_turn a.to.now a.from.now a.at l.k l.invariant.0 (omega arith)),
       simp length-set (omega arith),
     )
 

@@ -9,8 +9,8 @@ use native.Mathlib.Omega.{arith}
 use borrow.Author.Rules.{rules}
 use borrow.Author.Tests.{eqb-true}
 use Rattle.packet.specs.Bytes.{spliced}
-use Rattle.packet.proofs.Splice.{spliced-nil}
-use Rattle.read_command.proofs.Stores.{put-turn}
+use Rattle.packet.proofs.Splice.{spliced_nil}
+use Rattle.read_command.proofs.Stores.{put_turn}
 use Rattle.c_words.proofs.lent.stand.Statement.{statement}
 use Rattle.c_words.proofs.lent.stand.Tie as tie
 
@@ -21,7 +21,7 @@ abbrev decreases-loop : tie.decreases-loop
 decreases-loop from to at k₀ k = length from - k
 
 loop-holds : tie.Need-loop-init invariant-loop decreases-loop
-loop-holds c = (omega arith, omega arith, sym (spliced-nil _ _ (omega arith)))
+loop-holds c = (omega arith, omega arith, sym (spliced_nil _ _ (omega arith)))
 
 add-if1 : tie.Need-overflow-add-if1 invariant-loop decreases-loop
 add-if1 c = omega arith
@@ -56,7 +56,7 @@ loop-again c =
       sym (set-get_or a.to.now (a.at + l.k) 0)
           ∙ ap (set a.to.now (a.at + l.k)) c.if1.false
           ∙ ap (λ (x : List ℕ). set x (a.at + l.k) (get_or a.from.now l.k 0)) l.invariant.2
-          ∙ put-turn a.to.now a.from.now a.at l.k l.invariant.0 (omega arith),
+          ∙ put_turn a.to.now a.from.now a.at l.k l.invariant.0 (omega arith),
     )
 
 returns-2 : tie.Need-returns-2 invariant-loop decreases-loop

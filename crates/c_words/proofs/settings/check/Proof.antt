@@ -1,7 +1,7 @@
 -- The settings' test looks at three of them.
 use native.Mathlib.Omega.{arith}
 use mathlib.Core.Path.{◌∙◌}
-use Rattle.c_words.proofs.Figures.{own-test}
+use Rattle.c_words.proofs.Figures.{own_test}
 use borrow.Author.Rules.{rules}
 use Rattle.c_words.proofs.settings.check.Statement.{statement}
 use Rattle.c_words.proofs.settings.check.Tie as tie
@@ -22,7 +22,7 @@ check-requires : tie.Need-check-requires
 check-requires c κs = search rules
 
 returns : tie.Need-returns
-returns c = c.check.ensures ∙ own-test _
+returns c = c.check.ensures ∙ own_test _
 
 pub check-spec : {M : Type 1} → statement M
 check-spec =

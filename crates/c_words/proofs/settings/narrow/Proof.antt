@@ -1,5 +1,5 @@
 -- Three words together, and one.
-use Rattle.c_words.proofs.Figures.{too_wide, last-figure}
+use Rattle.c_words.proofs.Figures.{too_wide, last_figure}
 use native.Mathlib.Omega.{arith}
 use borrow.Author.Rules.{rules}
 use Rattle.c_words.proofs.settings.narrow.Statement.{statement}
@@ -21,7 +21,7 @@ shared-slice-read-result : tie.Need-shared-slice-read-result
 shared-slice-read-result c = search rules
 
 returns-2 : tie.Need-returns-2
-returns-2 c = last-figure _ (omega arith)
+returns-2 c = last_figure _ (omega arith)
 
 pub narrow-spec : {M : Type 1} → statement M
 narrow-spec = tie.close (tie.spec shared-slice-read-if1 shared-slice-read-if1-2 shared-slice-read-if1-3 returns shared-slice-read-result returns-2)

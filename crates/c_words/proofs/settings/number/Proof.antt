@@ -2,10 +2,10 @@
 use native.Mathlib.Omega.{arith}
 use mathlib.Core.Path.{sym, ap, ◌∙◌}
 use mathlib.Core.Bool.{Bool}
-use Rattle.config.specs.Entry.{onState}
-use Rattle.config.specs.Refusals.{outcomeNumber}
+use Rattle.config.specs.Entry.{on_state}
+use Rattle.config.specs.Refusals.{outcome_number}
 use Rattle.config.specs.declared.answer.Outcome.TheVariants.{Done, Refused}
-use Rattle.c_words.proofs.Figures.{not_eight, own-refused, own-passed}
+use Rattle.c_words.proofs.Figures.{not_eight, own_refused, own_passed}
 use borrow.Author.Rules.{rules}
 use Rattle.c_words.proofs.settings.number.Statement.{statement}
 use Rattle.c_words.proofs.settings.number.Tie as tie
@@ -32,10 +32,10 @@ fit-requires : tie.Need-fit-requires
 fit-requires c κs = search rules
 
 returns-2 : tie.Need-returns-2
-returns-2 c = c.number.ensures ∙ own-refused _ (omega arith) _ (sym c.before.before.why.given.1 ∙ c.before.before.before.before.check.ensures)
+returns-2 c = c.number.ensures ∙ own_refused _ (omega arith) _ (sym c.before.before.why.given.1 ∙ c.before.before.before.before.check.ensures)
 
 returns-3 : tie.Need-returns-3
-returns-3 c = c.fit.ensures ∙ ap (λ (t : Bool). outcomeNumber (onState t Refused Done)) c.before.narrow.ensures ∙ own-passed _ (omega arith) (sym c.before.before.enum_told.given.1 ∙ c.before.before.before.before.check.ensures)
+returns-3 c = c.fit.ensures ∙ ap (λ (t : Bool). outcome_number (on_state t Refused Done)) c.before.narrow.ensures ∙ own_passed _ (omega arith) (sym c.before.before.enum_told.given.1 ∙ c.before.before.before.before.check.ensures)
 
 pub number-spec : {M : Type 1} → statement M
 number-spec =

@@ -1,6 +1,6 @@
 -- The test of the reason chooses as the definition does.
 use mathlib.Core.Path.{sym, ◌∙◌}
-use Rattle.command.proofs.Written.{error-undefined, error-defined}
+use Rattle.command.proofs.Written.{error_undefined, error_defined}
 use borrow.Author.Rules.{rules}
 use Rattle.command.proofs.tested.write_error.Statement.{statement}
 use Rattle.command.proofs.tested.write_error.Tie as tie
@@ -26,11 +26,11 @@ same_length c = search rules
 returns : tie.Need-returns
 returns c =
     let test = c.before.before.before.before.before in
-    c.before.before.command.ensures ∙ error-defined _ _ _ test.before.before.before.requires (sym test.before.is-defined.ensures ∙ test.if1.true)
+    c.before.before.command.ensures ∙ error_defined _ _ _ test.before.before.before.requires (sym test.before.is-defined.ensures ∙ test.if1.true)
 
 returns-2 : tie.Need-returns-2
 returns-2 c =
-    error-undefined _ _ _ c.before.before.before.requires (sym c.before.is-defined.ensures ∙ c.if1.false)
+    error_undefined _ _ _ c.before.before.before.requires (sym c.before.is-defined.ensures ∙ c.if1.false)
 
 pub write-error-spec : {M : Type 1} → statement M
 write-error-spec =

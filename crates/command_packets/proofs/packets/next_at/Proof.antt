@@ -1,7 +1,7 @@
 -- The item at the front of the bytes from `at` on is the cursor's there, its places moved by `at`; the place after a whole
 -- command lies in the payload.
 use native.Mathlib.Omega.{arith}
-use Rattle.command_packets.proofs.Agree.{front_at, front-inside}
+use Rattle.command_packets.proofs.Agree.{front_at, front_inside}
 use borrow.Author.Rules.{rules}
 use Rattle.command_packets.proofs.packets.next_at.Statement.{statement}
 use Rattle.command_packets.proofs.packets.next_at.Tie as tie
@@ -17,7 +17,7 @@ enum-known-header c = search rules
 
 add-t9 : tie.Need-overflow-add-t9
 add-t9 c =
-    let inside = front-inside c.before.before.before.before.before.before.args.payload.now c.before.before.before.before.before.before.args.at _ _ c.before.before.before.before.from.ensures c.before.before.before.first.ensures _ _ _ c.before.header.given.1 in
+    let inside = front_inside c.before.before.before.before.before.before.args.payload.now c.before.before.before.before.before.before.args.at _ _ c.before.before.before.before.from.ensures c.before.before.before.first.ensures _ _ _ c.before.header.given.1 in
     record { fits = omega arith }
 
 returns : tie.Need-returns

@@ -1,5 +1,5 @@
 -- Past the end `drop` leaves nothing.
-use Rattle.command_packets.proofs.Parts.{from-inside, from_past}
+use Rattle.command_packets.proofs.Parts.{from_inside, from_past}
 use borrow.Author.Rules.{rules}
 use Rattle.command_packets.proofs.unread.from.Statement.{statement}
 use Rattle.command_packets.proofs.unread.from.Tie as tie
@@ -14,7 +14,7 @@ part-result-end : tie.Need-slice-bounds-result-end
 part-result-end c = search rules
 
 returns : tie.Need-returns
-returns c = from-inside _ _ c.before.if1.true
+returns c = from_inside _ _ c.before.if1.true
 
 slice-aggregate-result : tie.Need-slice-aggregate-result
 slice-aggregate-result c = search rules

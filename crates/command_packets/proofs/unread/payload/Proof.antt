@@ -1,5 +1,5 @@
 -- A whole command's bytes are the cursor core's.
-use Rattle.command_packets.proofs.Parts.{payload-whole}
+use Rattle.command_packets.proofs.Parts.{payload_whole}
 use borrow.Author.Rules.{rules}
 use Rattle.command_packets.proofs.unread.payload.Statement.{statement}
 use Rattle.command_packets.proofs.unread.payload.Tie as tie
@@ -11,7 +11,7 @@ body-requires : tie.Need-body-requires
 body-requires c κs = search rules
 
 returns : tie.Need-returns
-returns c = payload-whole _ _ _ _ _ _ c.before.before.item.given.1 c.body.ensures
+returns c = payload_whole _ _ _ _ _ _ c.before.before.item.given.1 c.body.ensures
 
 enum_told : tie.Need-enum-told
 enum_told c = search rules

@@ -7,7 +7,7 @@ use borrow.Author.Rules.{rules}
 use lib.ListN.{length, drop}
 use Rattle.command.specs.Messages.{whole_of}
 use Rattle.fronts.specs.Commands.{above}
-use Rattle.fronts.proofs.Fronts.{turn-fits, turn-whole, above-turn, above-found, above-none, four-enough}
+use Rattle.fronts.proofs.Fronts.{turn_fits, turn_whole, above_turn, above_found, above_none, four_enough}
 use Rattle.fronts.proofs.tested.fit.Statement.{statement}
 use Rattle.fronts.proofs.tested.fit.Tie as tie
 
@@ -19,7 +19,7 @@ abbrev decreases-loop : tie.decreases-loop
 decreases-loop words max at₀ at = length words - at
 
 returns : tie.Need-returns invariant-loop decreases-loop
-returns c = four-enough _ _ c.if1.true c.before.before.requires
+returns c = four_enough _ _ c.if1.true c.before.before.requires
 
 loop-holds : tie.Need-loop-init invariant-loop decreases-loop
 loop-holds c = (omega arith, search rules, refl)
@@ -36,12 +36,12 @@ message-words-requires c κs = search rules
 returns-2 : tie.Need-returns-2 invariant-loop decreases-loop
 returns-2 c =
     let turn = c.before.before.before in
-    above-found _ _ turn.loop-test.true turn.before.loop.invariant.1 _ c.before.message-words.ensures.0 _ _ turn.before.loop.invariant.2 c.if2.true
+    above_found _ _ turn.loop-test.true turn.before.loop.invariant.1 _ c.before.message-words.ensures.0 _ _ turn.before.loop.invariant.2 c.if2.true
 
 add_at : tie.Need-overflow-add-at invariant-loop decreases-loop
 add_at c =
     let turn = c.before.before.before in
-    omega (arith, turn-fits _ _ turn.loop-test.true turn.before.loop.invariant.1 _ c.before.message-words.ensures.0)
+    omega (arith, turn_fits _ _ turn.loop-test.true turn.before.loop.invariant.1 _ c.before.message-words.ensures.0)
 
 loop-less : tie.Need-loop-smaller invariant-loop decreases-loop
 loop-less c = search rules
@@ -51,10 +51,10 @@ loop-again c =
     let turn = c.before.before.before in
     let l = turn.before.loop in
     let m = c.before.message-words.ensures.0 in
-    (omega (arith, turn-fits _ _ turn.loop-test.true l.invariant.1 _ m), turn-whole _ _ turn.loop-test.true l.invariant.1 _ m, above-turn _ _ turn.loop-test.true l.invariant.1 _ m _ _ l.invariant.2 c.if2.false)
+    (omega (arith, turn_fits _ _ turn.loop-test.true l.invariant.1 _ m), turn_whole _ _ turn.loop-test.true l.invariant.1 _ m, above_turn _ _ turn.loop-test.true l.invariant.1 _ m _ _ l.invariant.2 c.if2.false)
 
 returns-3 : tie.Need-returns-3 invariant-loop decreases-loop
-returns-3 c = above-none _ _ _ _ c.loop-test.false c.before.loop.invariant.2
+returns-3 c = above_none _ _ _ _ c.loop-test.false c.before.loop.invariant.2
 
 pub fit_spec : {M : Type 1} → statement M
 fit_spec =

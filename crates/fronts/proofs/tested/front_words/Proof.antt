@@ -2,7 +2,7 @@
 use native.Mathlib.Omega.{arith}
 use borrow.Author.Rules.{rules}
 use lib.ListN.{length-take}
-use Rattle.fronts.proofs.Fronts.{front-taken, part_of}
+use Rattle.fronts.proofs.Fronts.{front_taken, part_of}
 use Rattle.fronts.proofs.tested.front_words.Statement.{statement}
 use Rattle.fronts.proofs.tested.front_words.Tie as tie
 
@@ -19,7 +19,7 @@ returns-2 : tie.Need-returns-2
 returns-2 c =
     let s = c.before.before.before.before in
     let p = part_of s.args.n _ s.requires in
-    let e = front-taken s.args.n s.args.words.now (omega arith) s.requires _ c.whole_words.ensures in
+    let e = front_taken s.args.n s.args.words.now (omega arith) s.requires _ c.whole_words.ensures in
     (e, omega (arith, p.fits), omega (arith, p.few))
 
 pub front-words-spec : {M : Type 1} → statement M

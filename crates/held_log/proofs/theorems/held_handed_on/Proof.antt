@@ -1,6 +1,6 @@
 -- The contract is the theorem of `proofs/Stretches.antt`, from the theorems that are called.
 use borrow.Author.Rules.{rules}
-use Rattle.held_log.proofs.Stretches.{held-handed-on}
+use Rattle.held_log.proofs.Stretches.{held_handed_on}
 use Rattle.held_log.proofs.theorems.held_handed_on.Statement.{statement}
 use Rattle.held_log.proofs.theorems.held_handed_on.Tie as tie
 
@@ -11,7 +11,7 @@ receiver-promise-requires : tie.Need-receiver-promise-requires
 receiver-promise-requires c κs = search rules
 
 returns : tie.Need-returns
-returns c = held-handed-on c.before.receiver-answers.ensures c.receiver-promise.ensures
+returns c = held_handed_on c.before.receiver-answers.ensures c.receiver_promise.ensures
 
 pub held-handed_on-spec : {M : Type 1} → statement M
 held-handed_on-spec = tie.close (tie.spec receiver-answers-requires receiver-promise-requires returns)

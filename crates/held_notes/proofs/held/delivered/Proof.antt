@@ -1,6 +1,6 @@
 -- By what the receiver answered.
 use native.Mathlib.Omega.{arith}
-use Rattle.held_notes.proofs.Calls.{refuses, by-hearing}
+use Rattle.held_notes.proofs.Calls.{refuses, by_hearing}
 use borrow.Author.Rules.{rules}
 use Rattle.held_notes.proofs.held.delivered.Statement.{statement}
 use Rattle.held_notes.proofs.held.delivered.Tie as tie
@@ -24,10 +24,10 @@ unchanged-requires : tie.Need-unchanged-requires
 unchanged-requires c κs = search rules
 
 returns-2 : tie.Need-returns-2
-returns-2 c = by-hearing _ c.heard.result (search rules) _ c.before.before.hearing.given.1 (omega arith) c.heard.ensures
+returns-2 c = by_hearing _ c.heard.result (search rules) _ c.before.before.hearing.given.1 (omega arith) c.heard.ensures
 
 returns-3 : tie.Need-returns-3
-returns-3 c = by-hearing _ c.unchanged.result (search rules) _ c.before.enum_told.given.1 (omega arith) c.unchanged.ensures
+returns-3 c = by_hearing _ c.unchanged.result (search rules) _ c.before.enum_told.given.1 (omega arith) c.unchanged.ensures
 
 pub delivered-spec : {M : Type 1} → statement M
 delivered-spec =

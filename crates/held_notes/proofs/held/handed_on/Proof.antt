@@ -1,5 +1,5 @@
 -- By the class.
-use Rattle.held_notes.proofs.Calls.{by-class, plays-none}
+use Rattle.held_notes.proofs.Calls.{by_class, plays_none}
 use borrow.Author.Rules.{rules}
 use Rattle.held_notes.proofs.held.handed_on.Statement.{statement}
 use Rattle.held_notes.proofs.held.handed_on.Tie as tie
@@ -20,13 +20,13 @@ enum-told-3 : tie.Need-enum-told-3
 enum-told-3 c = search rules
 
 returns : tie.Need-returns
-returns c = by-class _ _ _ c.before.enum_told.given.1 c.played.ensures
+returns c = by_class _ _ _ c.before.enum_told.given.1 c.played.ensures
 
 returns-2 : tie.Need-returns-2
-returns-2 c = by-class _ _ _ c.before.enum-told2.given.1 c.played2.ensures
+returns-2 c = by_class _ _ _ c.before.enum-told2.given.1 c.played2.ensures
 
 returns-3 : tie.Need-returns-3
-returns-3 c = by-class _ _ _ c.enum-told3.given.1 (plays-none _)
+returns-3 c = by_class _ _ _ c.enum-told3.given.1 (plays_none _)
 
 pub handed_on-spec : {M : Type 1} → statement M
 handed_on-spec =

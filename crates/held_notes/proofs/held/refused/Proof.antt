@@ -1,5 +1,5 @@
 -- The state, no notes, and 12.
-use Rattle.held_notes.specs.Answers.{refusedOf}
+use Rattle.held_notes.specs.Answers.{refused_of}
 use borrow.Author.Rules.{rules}
 use Rattle.held_notes.proofs.held.refused.Statement.{statement}
 use Rattle.held_notes.proofs.held.refused.Tie as tie
@@ -8,7 +8,7 @@ no-notes-requires : tie.Need-no-notes-requires
 no-notes-requires c κs = search rules
 
 returns : tie.Need-returns
-unfolding refusedOf
+unfolding refused_of
 returns c = rw c.no-notes.ensures
 
 pub refused-spec : {M : Type 1} → statement M

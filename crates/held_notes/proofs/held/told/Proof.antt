@@ -1,6 +1,6 @@
 -- By the event.
 use native.Mathlib.Omega.{arith}
-use Rattle.held_notes.proofs.Calls.{refuses, by-event}
+use Rattle.held_notes.proofs.Calls.{refuses, by_event}
 use borrow.Author.Rules.{rules}
 use Rattle.held_notes.proofs.held.told.Statement.{statement}
 use Rattle.held_notes.proofs.held.told.Tie as tie
@@ -42,19 +42,19 @@ unchanged-requires-3 : tie.Need-unchanged-requires-3
 unchanged-requires-3 c κs = search rules
 
 returns-2 : tie.Need-returns-2
-returns-2 c = by-event _ c.unchanged.result (search rules) c.before.enum_told.given.1 (omega arith) c.unchanged.ensures
+returns-2 c = by_event _ c.unchanged.result (search rules) c.before.enum_told.given.1 (omega arith) c.unchanged.ensures
 
 returns-3 : tie.Need-returns-3
-returns-3 c = by-event _ c.silence-all.result (search rules) c.before.enum-told2.given.1 (omega arith) c.silence-all.ensures
+returns-3 c = by_event _ c.silence-all.result (search rules) c.before.enum-told2.given.1 (omega arith) c.silence-all.ensures
 
 returns-4 : tie.Need-returns-4
-returns-4 c = by-event _ c.silence-all2.result (search rules) c.before.enum-told3.given.1 (omega arith) c.silence-all2.ensures
+returns-4 c = by_event _ c.silence-all2.result (search rules) c.before.enum-told3.given.1 (omega arith) c.silence-all2.ensures
 
 returns-5 : tie.Need-returns-5
-returns-5 c = by-event _ c.unchanged2.result (search rules) c.before.enum-told4.given.1 (omega arith) c.unchanged2.ensures
+returns-5 c = by_event _ c.unchanged2.result (search rules) c.before.enum-told4.given.1 (omega arith) c.unchanged2.ensures
 
 returns-6 : tie.Need-returns-6
-returns-6 c = by-event _ c.unchanged3.result (search rules) c.before.enum-told5.given.1 (omega arith) c.unchanged3.ensures
+returns-6 c = by_event _ c.unchanged3.result (search rules) c.before.enum-told5.given.1 (omega arith) c.unchanged3.ensures
 
 pub told-spec : {M : Type 1} → statement M
 told-spec =

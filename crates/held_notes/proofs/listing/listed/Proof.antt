@@ -3,8 +3,8 @@ use mathlib.Core.Path.{refl, sym, ◌∙◌}
 use mathlib.Core.Logic.{⊎_elim}
 use Prim.Native.Nat.{◌-◌}
 use native.Mathlib.Omega.{arith}
-use Rattle.held_notes.specs.State.{allNotes, notesBelow}
-use Rattle.held_notes.proofs.Lists.{Listed, few, listed-held, listed-not, listed-all}
+use Rattle.held_notes.specs.State.{all_notes, notes_below}
+use Rattle.held_notes.proofs.Lists.{Listed, few, listed_held, listed_not, listed_all}
 use Rattle.held_notes.proofs.listing.listed.Statement.{statement}
 use Rattle.held_notes.proofs.listing.listed.Tie as tie
 
@@ -13,10 +13,10 @@ invariant-loop held items₀ count₀ note₀ items count note =
     Listed held note items count
 
 abbrev decreases-loop : tie.decreases-loop
-decreases-loop held items₀ count₀ note₀ items count note = allNotes - note
+decreases-loop held items₀ count₀ note₀ items count note = all_notes - note
 
 loop-holds : tie.Need-loop-init invariant-loop decreases-loop
-unfolding notesBelow
+unfolding notes_below
 loop-holds c = (omega arith, refl, refl)
 
 holds-requires : tie.Need-holds-requires invariant-loop decreases-loop
@@ -45,14 +45,14 @@ loop-again c =
     let i = c.before.before.before.loop in
     let e = c.before.holds.ensures in
     ⊎_elim
-    (λ (f, m, n). listed-held c.before.before.before.before.args.held i.note i.items i.count i.invariant (omega arith) (sym e ∙ f.taken) c.if1.items c.if1.count m n)
-    (λ (f, m, n). listed-not c.before.before.before.before.args.held i.note i.items i.count i.invariant (omega arith) (sym e ∙ f.left) c.if1.items c.if1.count m n)
+    (λ (f, m, n). listed_held c.before.before.before.before.args.held i.note i.items i.count i.invariant (omega arith) (sym e ∙ f.taken) c.if1.items c.if1.count m n)
+    (λ (f, m, n). listed_not c.before.before.before.before.args.held i.note i.items i.count i.invariant (omega arith) (sym e ∙ f.left) c.if1.items c.if1.count m n)
     c.if1.branch
 
 returns : tie.Need-returns invariant-loop decreases-loop
 returns c =
     let i = c.before.loop in
-    listed-all c.before.before.args.held i.note i.items i.count i.invariant (omega arith)
+    listed_all c.before.before.args.held i.note i.items i.count i.invariant (omega arith)
 
 pub listed-spec : {M : Type 1} → statement M
 listed-spec =

@@ -1,7 +1,7 @@
 -- One bit of one word is set.
 use native.Mathlib.Omega.{arith}
 use borrow.Author.Rules.{rules}
-use Rattle.held_notes.proofs.Bits.{has-with}
+use Rattle.held_notes.proofs.Bits.{has_with}
 use Rattle.held_notes.proofs.set.with.Statement.{statement}
 use Rattle.held_notes.proofs.set.with.Tie as tie
 
@@ -21,7 +21,7 @@ array-write-after : tie.Need-array-write-after
 array-write-after c = search rules
 
 returns : tie.Need-returns
-returns c = has-with c.args.t1 c.args.note (omega arith)
+returns c = has_with c.args.t1 c.args.note (omega arith)
 
 pub with-spec : {M : Type 1} → statement M
 with-spec =

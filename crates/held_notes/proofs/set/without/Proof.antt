@@ -1,7 +1,7 @@
 -- One bit of one word is cleared.
 use native.Mathlib.Omega.{arith}
 use borrow.Author.Rules.{rules}
-use Rattle.held_notes.proofs.Bits.{has-without}
+use Rattle.held_notes.proofs.Bits.{has_without}
 use Rattle.held_notes.proofs.set.without.Statement.{statement}
 use Rattle.held_notes.proofs.set.without.Tie as tie
 
@@ -21,7 +21,7 @@ array-write-after : tie.Need-array-write-after
 array-write-after c = search rules
 
 returns : tie.Need-returns
-returns c = has-without c.args.t1 c.args.note (omega arith)
+returns c = has_without c.args.t1 c.args.note (omega arith)
 
 pub without-spec : {M : Type 1} → statement M
 without-spec =

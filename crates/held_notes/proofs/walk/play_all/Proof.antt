@@ -6,7 +6,7 @@ use borrow.Author.Rules.{rules}
 use lib.ListN.{length}
 use Rattle.packet.specs.Bytes.{words_of}
 use Rattle.command.specs.inner.Messages.{step_fits}
-use Rattle.held_notes.proofs.Walks.{ToPlay, words-fewer, some, all-played, one-played}
+use Rattle.held_notes.proofs.Walks.{ToPlay, words_fewer, some, all_played, one_played}
 use Rattle.held_notes.proofs.walk.play_all.Statement.{statement}
 use Rattle.held_notes.proofs.walk.play_all.Tie as tie
 
@@ -29,7 +29,7 @@ message-in-requires c κs = search rules
 returns : tie.Need-returns invariant-loop decreases-loop
 returns c =
     let w = c.before in
-    all-played _ _ _ _ _ w.message-in.ensures c.if1.true _ _ w.before.loop.invariant.1
+    all_played _ _ _ _ _ w.message-in.ensures c.if1.true _ _ w.before.loop.invariant.1
 
 word-at-requires : tie.Need-word-at-requires invariant-loop decreases-loop
 word-at-requires c κs = search rules
@@ -38,7 +38,7 @@ play-requires : tie.Need-play-requires invariant-loop decreases-loop
 play-requires c κs = search rules
 
 add_at : tie.Need-overflow-add-at invariant-loop decreases-loop
-add_at c = omega (arith, fits c, words-fewer c.before.before.before.before.before.before.args.body.now)
+add_at c = omega (arith, fits c, words_fewer c.before.before.before.before.before.before.args.body.now)
 
 loop-less : tie.Need-loop-smaller invariant-loop decreases-loop
 loop-less c = omega (arith, fits c, some _ c.before.before.if1.false)
@@ -46,7 +46,7 @@ loop-less c = omega (arith, fits c, some _ c.before.before.if1.false)
 loop-again : tie.Need-loop-preserved invariant-loop decreases-loop
 loop-again c =
     let w = c.before.before.before in
-    (fits c, one-played _ _ _ _ _ w.before.loop.invariant.0 w.message-in.ensures (some _ c.before.before.if1.false) _ c.before.word_at.ensures _ _ _ c.play.ensures w.before.loop.invariant.1)
+    (fits c, one_played _ _ _ _ _ w.before.loop.invariant.0 w.message-in.ensures (some _ c.before.before.if1.false) _ c.before.word_at.ensures _ _ _ c.play.ensures w.before.loop.invariant.1)
 
 pub play-all-spec : {M : Type 1} → statement M
 play-all-spec =

@@ -3,7 +3,7 @@ use Rattle.std.proofs.Common.{◌≡◌, ◌+◌, ◌-◌, ◌*◌, ◌/◌, ◌
 use Rattle.config.specs.Sequence.{turn}
 use Rattle.history.specs.Ring.{slot_of}
 use Rattle.history.specs.inner.Walk.{Past}
-use Rattle.history.proofs.Past.{past-start, past_to, one_more, further, fewer-left, less-number, place_after, number-next, header-right, past-wrong, past-turn, ran-lost, ran_on}
+use Rattle.history.proofs.Past.{past_start, past_to, one_more, further, fewer_left, less_number, place_after, number_next, header_right, past_wrong, past_turn, ran_lost, ran_on}
 use Rattle.history.proofs.headers.any_leg.Statement.{statement}
 use Rattle.history.proofs.headers.any_leg.Tie as tie
 
@@ -26,7 +26,7 @@ less :
     (c.wrapping-sub-usize2.result + a.loop.want / turn * turn) % 18446744073709551616 ≡ get_or a.before.before.args.ring.now a.loop.i 0
 less c =
     let a = c.before.before.before.before in
-    less-number _ _ _ _ _ _ c.before.before.before.wrapping-sub-usize.ensures c.before.wrapping-add-usize.ensures c.wrapping-sub-usize2.ensures
+    less_number _ _ _ _ _ _ c.before.before.before.wrapping-sub-usize.ensures c.before.wrapping-add-usize.ensures c.wrapping-sub-usize2.ensures
     (omega (arith, c.before.before.shared-slice-known2.given a.loop.i))
     a.loop.invariant.3
 
@@ -45,11 +45,11 @@ over :
 over c =
     let e = c.before in
     let l = e.before.before.before.before.before.loop.invariant in
-    past-turn _ _ _ _ _ _ _ _ l.5 _ _ _ _
-    (header-right _ _ _ (omega arith) (less e.before) e.if1.false)
+    past_turn _ _ _ _ _ _ _ _ l.5 _ _ _ _
+    (header_right _ _ _ (omega arith) (less e.before) e.if1.false)
     e.if1.false
     (behind e)
-    (number-next _ _ l.4 c.wrapping-add-u32.ensures).0
+    (number_next _ _ l.4 c.wrapping-add-u32.ensures).0
     refl
     l.1
 
@@ -57,7 +57,7 @@ mul-want : tie.Need-overflow-mul-want invariant-loop decreases-loop
 mul-want c = search rules
 
 loop-holds : tie.Need-loop-init invariant-loop decreases-loop
-loop-holds c = (omega arith, omega arith, omega arith, omega arith, omega arith, past-start _ _ _ _ _ (omega arith))
+loop-holds c = (omega arith, omega arith, omega arith, omega arith, omega arith, past_start _ _ _ _ _ (omega arith))
 
 add-wrapping-sub-usize : tie.Need-overflow-add-wrapping-sub-usize invariant-loop decreases-loop
 add-wrapping-sub-usize c = search rules
@@ -71,9 +71,9 @@ wrapping-sub-usize-requires c κs = search rules
 mul-wrapping-add-usize : tie.Need-overflow-mul-wrapping-add-usize invariant-loop decreases-loop
 mul-wrapping-add-usize c = search rules
 
-shared-slice-read-wrapping-add-usize :
+shared_slice_read_wrapping_add_usize :
     tie.Need-shared-slice-read-wrapping-add-usize invariant-loop decreases-loop
-shared-slice-read-wrapping-add-usize c = search rules
+shared_slice_read_wrapping_add_usize c = search rules
 
 cast-wrapping-add-usize : tie.Need-overflow-cast-wrapping-add-usize invariant-loop decreases-loop
 cast-wrapping-add-usize c = omega (arith, c.shared-slice-known2.given c.before.before.loop.i)
@@ -93,7 +93,7 @@ wrong-requires c κs = search rules
 returns : tie.Need-returns invariant-loop decreases-loop
 returns c =
     let l = c.before.before.before.before.before.before.loop.invariant in
-    ran-lost _ _ _ _ _ c.wrong.ensures (past-wrong _ _ _ _ _ _ _ _ l.5 _ _ l.0 (omega arith) (less c.before.before) c.before.if1.true (omega arith))
+    ran_lost _ _ _ _ _ c.wrong.ensures (past_wrong _ _ _ _ _ _ _ _ l.5 _ _ l.0 (omega arith) (less c.before.before) c.before.if1.true (omega arith))
 
 wrapping-add-u32-requires : tie.Need-wrapping-add-u32-requires invariant-loop decreases-loop
 wrapping-add-u32-requires c κs = search rules
@@ -102,14 +102,14 @@ add-passed : tie.Need-overflow-add-passed invariant-loop decreases-loop
 add-passed c = search rules
 
 loop-less : tie.Need-loop-smaller invariant-loop decreases-loop
-loop-less c = fewer-left _ _ c.before.before.before.before.before.before.before.before.loop.invariant.0
+loop-less c = fewer_left _ _ c.before.before.before.before.before.before.before.before.loop.invariant.0
 
 loop-again : tie.Need-loop-preserved invariant-loop decreases-loop
 loop-again c =
     let w = c.before.before in
     let a = w.before.before.before.before.before.before in
     let l = further _ _ _ _ a.loop.invariant.1 (behind w.before) in
-    let n = number-next _ _ a.loop.invariant.4 w.wrapping-add-u32.ensures in (
+    let n = number_next _ _ a.loop.invariant.4 w.wrapping-add-u32.ensures in (
       one_more _ _ a.loop.invariant.0 c.before.if2.false,
       l,
       c.if3.false,
@@ -139,7 +139,7 @@ any-leg-spec =
     cast-wrapping-sub-usize
     wrapping-sub-usize-requires
     mul-wrapping-add-usize
-    shared-slice-read-wrapping-add-usize
+    shared_slice_read_wrapping_add_usize
     cast-wrapping-add-usize
     wrapping-add-usize-requires
     add-wrapping-sub-usize-2

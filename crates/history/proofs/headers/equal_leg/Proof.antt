@@ -3,8 +3,8 @@ use Rattle.std.proofs.Common.{◌≡◌, ℕ, ◌+◌, ◌-◌, ◌/◌, ◌%◌
 use Rattle.config.specs.Sequence.{turn}
 use Rattle.history.specs.Ring.{slot_of}
 use Rattle.history.specs.inner.Walk.{Past}
-use Rattle.history.proofs.Slots.{slot-to}
-use Rattle.history.proofs.Past.{past-start, past_to, one_more, further, fewer-left, header-parts, gone-by, number-next, header-right, past-wrong, past-turn, ran-lost, ran_on}
+use Rattle.history.proofs.Slots.{slot_to}
+use Rattle.history.proofs.Past.{past_start, past_to, one_more, further, fewer_left, header_parts, gone_by_lem, number_next, header_right, past_wrong, past_turn, ran_lost, ran_on}
 use Rattle.history.proofs.headers.equal_leg.Statement.{statement}
 use Rattle.history.proofs.headers.equal_leg.Tie as tie
 
@@ -40,16 +40,16 @@ goes :
 goes c =
     let a = c.before.before.before in
     let l = a.loop.invariant in
-    let n = number-next _ _ l.4 c.wrapping-add-u32.ensures in
-    let t = gone-by _ _ _ _ _ _ l.0 l.1 c.before.if2.false l.3 in
-    (t.0, t.1, n.2, t.2, past-turn _ _ _ _ _ _ _ _ l.5 _ _ _ _ t.3 a.before.before.if1.false refl n.0 t.4 l.1)
+    let n = number_next _ _ l.4 c.wrapping-add-u32.ensures in
+    let t = gone_by_lem _ _ _ _ _ _ l.0 l.1 c.before.if2.false l.3 in
+    (t.0, t.1, n.2, t.2, past_turn _ _ _ _ _ _ _ _ l.5 _ _ _ _ t.3 a.before.before.if1.false refl n.0 t.4 l.1)
 
 -- the next header is another one
 stays : (c : tie.Then2 invariant-loop decreases-loop) → let l = c.before.before.loop in End c.before.before l.i l.passed l.header
 stays c =
     let l = c.before.before.loop.invariant in
     let m = l.6 c.if2.true in
-    (m.0, omega arith, l.4, m.1, rw (slot-to _ _ _ l.1 l.2) l.5)
+    (m.0, omega arith, l.4, m.1, rw (slot_to _ _ _ l.1 l.2) l.5)
 
 ended : (c : tie.Joined2 invariant-loop decreases-loop) → End c.before.before c.if2.i c.if2.passed c.if2.header
 ended c =
@@ -64,9 +64,9 @@ ended c =
 mul-wrapping-sub-usize : tie.Need-overflow-mul-wrapping-sub-usize invariant-loop decreases-loop
 mul-wrapping-sub-usize c = search rules
 
-shared-slice-read-wrapping-sub-usize :
+shared_slice_read_wrapping_sub_usize :
     tie.Need-shared-slice-read-wrapping-sub-usize invariant-loop decreases-loop
-shared-slice-read-wrapping-sub-usize c = search rules
+shared_slice_read_wrapping_sub_usize c = search rules
 
 cast-wrapping-sub-usize : tie.Need-overflow-cast-wrapping-sub-usize invariant-loop decreases-loop
 cast-wrapping-sub-usize c = omega (arith, c.shared-slice-known2.given c.before.before.args.at)
@@ -83,7 +83,7 @@ wrong-requires c κs = search rules
 returns : tie.Need-returns invariant-loop decreases-loop
 returns c =
     let s = c.before.before.before.before.before in
-    ran-lost _ _ _ _ _ c.wrong.ensures (past-wrong _ _ _ _ _ _ _ _ (past-start _ _ _ 0 _ refl) _ _ s.requires.2 (omega arith) c.before.before.wrapping-sub-usize.ensures c.before.if1.true (omega arith))
+    ran_lost _ _ _ _ _ c.wrong.ensures (past_wrong _ _ _ _ _ _ _ _ (past_start _ _ _ 0 _ refl) _ _ s.requires.2 (omega arith) c.before.before.wrapping-sub-usize.ensures c.before.if1.true (omega arith))
 
 add_step : tie.Need-overflow-add-step invariant-loop decreases-loop
 add_step c = search rules
@@ -97,14 +97,14 @@ shared-slice-read-header c = search rules
 loop-holds : tie.Need-loop-init invariant-loop decreases-loop
 loop-holds c =
     let start = c.before.before.before.before.before in
-    let h = header-right _ _ _ (omega arith) c.before.before.wrapping-sub-usize.ensures c.before.if1.false in
-    let p = header-parts _ _ _ h c.before.if1.false in (
+    let h = header_right _ _ _ (omega arith) c.before.before.wrapping-sub-usize.ensures c.before.if1.false in
+    let p = header_parts _ _ _ h c.before.if1.false in (
       start.requires.2,
       omega arith,
       start.requires.0,
       p.0,
       omega (arith, c.shared-slice-known3.given start.args.at),
-      past-start _ _ _ _ _ p.1,
+      past_start _ _ _ _ _ p.1,
       λ f. absurd (f refl),
     )
 
@@ -124,7 +124,7 @@ add-passed : tie.Need-overflow-add-passed invariant-loop decreases-loop
 add-passed c = search rules
 
 loop-less : tie.Need-loop-smaller invariant-loop decreases-loop
-loop-less c = fewer-left _ _ c.before.before.before.before.before.loop.invariant.0
+loop-less c = fewer_left _ _ c.before.before.before.before.before.loop.invariant.0
 
 loop-again : tie.Need-loop-preserved invariant-loop decreases-loop
 loop-again c =
@@ -135,7 +135,7 @@ loop-again c =
       one_more _ _ a.loop.invariant.0 c.before.if3.false,
       l,
       c.if4.false,
-      (number-next _ _ a.loop.invariant.4 w.wrapping-add-u32.ensures).1 ∙ a.loop.invariant.3,
+      (number_next _ _ a.loop.invariant.4 w.wrapping-add-u32.ensures).1 ∙ a.loop.invariant.3,
       g.2,
       past_to _ _ _ _ _ _ _ _ _ l c.if4.false g.4,
       λ _. (g.0, g.3),
@@ -160,7 +160,7 @@ equal-leg-spec =
     invariant-loop
     decreases-loop
     mul-wrapping-sub-usize
-    shared-slice-read-wrapping-sub-usize
+    shared_slice_read_wrapping_sub_usize
     cast-wrapping-sub-usize
     mul-wrapping-sub-usize-2
     wrapping-sub-usize-requires

@@ -1,7 +1,7 @@
 -- Each turn is a leg, and the place that it ends at is gone round to; the entries passed and those of the leg are passed together.
 use Rattle.std.proofs.Common.{◌-◌, ◌<◌, ◌≤◌, length, refl, arith, rules}
 use Rattle.history.specs.inner.Walk.{Past}
-use Rattle.history.proofs.Past.{past-here, walk-stops, walk-short, past-walk, walked-lost, walked_all}
+use Rattle.history.proofs.Past.{past_here, walk_stops, walk_short, past_walk, walked_lost, walked_all}
 use Rattle.history.proofs.headers.walk.Statement.{statement}
 use Rattle.history.proofs.headers.walk.Tie as tie
 
@@ -17,7 +17,7 @@ abbrev decreases-loop : tie.decreases-loop
 decreases-loop ring k at₀ seq₀ prev₀ words₀ left₀ guess₀ at seq prev words left guess = left
 
 loop-holds : tie.Need-loop-init invariant-loop decreases-loop
-loop-holds c = (omega arith, omega arith, omega arith, omega arith, past-here _ _ _ _ _ _)
+loop-holds c = (omega arith, omega arith, omega arith, omega arith, past_here _ _ _ _ _ _)
 
 next-leg-requires : tie.Need-next-leg-requires invariant-loop decreases-loop
 next-leg-requires c κs = search rules
@@ -28,7 +28,7 @@ lost-requires c κs = search rules
 returns : tie.Need-returns invariant-loop decreases-loop
 returns c =
     let l = c.before.before.before.before.loop in
-    walked-lost _ _ _ _ c.lost.ensures (walk-stops _ _ _ _ _ _ _ _ _ _ _ l.invariant.4 l.invariant.0 ((c.before.before.next-leg.ensures l.prev).stops c.before.if1.true))
+    walked_lost _ _ _ _ c.lost.ensures (walk_stops _ _ _ _ _ _ _ _ _ _ _ l.invariant.4 l.invariant.0 ((c.before.before.next-leg.ensures l.prev).stops c.before.if1.true))
 
 lost-requires-2 : tie.Need-lost-requires-2 invariant-loop decreases-loop
 lost-requires-2 c κs = search rules
@@ -37,7 +37,7 @@ returns-2 : tie.Need-returns-2 invariant-loop decreases-loop
 returns-2 c =
     let l = c.before.before.before.before.before.before.loop in
     let r = (c.before.before.before.before.next-leg.ensures l.prev).goes c.before.before.before.if1.false in
-    walked-lost _ _ _ _ c.lost2.ensures (walk-short _ _ _ _ _ _ _ _ _ _ _ l.invariant.4 l.invariant.0 l.invariant.3 _ _ _ _ _ r c.before.if2.true)
+    walked_lost _ _ _ _ c.lost2.ensures (walk_short _ _ _ _ _ _ _ _ _ _ _ l.invariant.4 l.invariant.0 l.invariant.3 _ _ _ _ _ r c.before.if2.true)
 
 slot-requires : tie.Need-slot-requires invariant-loop decreases-loop
 slot-requires c κs = search rules
@@ -66,7 +66,7 @@ loop-again c =
       slot.1,
       omega arith,
       omega arith,
-      rw slot.0 (past-walk _ _ _ _ _ _ _ _ _ _ _ l.invariant.4 l.invariant.0 l.invariant.3 _ _ _ _ _ r c.before.before.before.before.before.if2.false),
+      rw slot.0 (past_walk _ _ _ _ _ _ _ _ _ _ _ l.invariant.4 l.invariant.0 l.invariant.3 _ _ _ _ _ r c.before.before.before.before.before.if2.false),
     )
 
 returns-3 : tie.Need-returns-3 invariant-loop decreases-loop

@@ -1,6 +1,6 @@
 -- One run up to the end of the ring or of the words, and one from the start of the ring for the rest.
 use Rattle.std.proofs.Common.{◌≡◌, ◌+◌, ◌-◌, length, arith, rules}
-use Rattle.history.proofs.Runs.{run-one, run-two}
+use Rattle.history.proofs.Runs.{run_one, run_two}
 use Rattle.history.proofs.ring.put.Statement.{statement}
 use Rattle.history.proofs.ring.put.Tie as tie
 
@@ -26,7 +26,7 @@ returns c =
     let a = at-end.before.before.before.args in
     let r = at-end.run_end.result in
     let e : length a.ring.now ≡ a.at + r = omega arith in
-    run-two _ _ _ a.words.now (length a.ring.now) a.at r (length a.words.now - r) e (omega arith) _
+    run_two _ _ _ a.words.now (length a.ring.now) a.at r (length a.words.now - r) e (omega arith) _
     at-run.put-run.ensures.1
     c.before.before.put-run2.ensures.1
 
@@ -37,7 +37,7 @@ returns-2 : tie.Need-returns-2
 returns-2 c =
     let at-end = c.before.before.before.before.before in
     let ws = at-end.before.before.before.args.words.now in
-    run-one _ _ ws _ _ at-end.run_end.result (omega arith) c.before.before.before.put-run.ensures.1
+    run_one _ _ ws _ _ at-end.run_end.result (omega arith) c.before.before.before.put-run.ensures.1
 
 pub put_spec : {M : Type 1} → statement M
 put_spec =

@@ -1,7 +1,7 @@
 -- Each turn stores the next word at the next place, so that storing what is left still gives the whole.
 use Rattle.std.proofs.Common.{◌≡◌, ◌+◌, ◌-◌, ◌≤◌, length, drop, refl, arith, length-set, rules}
-use Rattle.history.specs.Ring.{slot_of, ringStored}
-use Rattle.history.proofs.Runs.{run-start, run-turn}
+use Rattle.history.specs.Ring.{slot_of, ring_stored}
+use Rattle.history.proofs.Runs.{run_start, run_turn}
 use Rattle.history.proofs.ring.put_run.Statement.{statement}
 use Rattle.history.proofs.ring.put_run.Tie as tie
 
@@ -9,7 +9,7 @@ abbrev invariant-loop : tie.invariant-loop
 invariant-loop ring₀ at words from n k₀ ring k =
     (k ≤ n)
     × (length ring ≡ length ring₀)
-    × (ringStored ring (slot_of (length ring₀) at k) (drop (from + k) words) ≡ ringStored ring₀ at (drop from words))
+    × (ring_stored ring (slot_of (length ring₀) at k) (drop (from + k) words) ≡ ring_stored ring₀ at (drop from words))
 
 abbrev decreases-loop : tie.decreases-loop
 decreases-loop ring₀ at words from n k₀ ring k = n - k
@@ -17,7 +17,7 @@ decreases-loop ring₀ at words from n k₀ ring k = n - k
 loop-holds : tie.Need-loop-init invariant-loop decreases-loop
 loop-holds c =
     let a = c.args in
-    (omega arith, refl, run-start a.ring.now a.words.now a.at a.from (omega arith))
+    (omega arith, refl, run_start a.ring.now a.words.now a.at a.from (omega arith))
 
 add-ring : tie.Need-overflow-add-ring invariant-loop decreases-loop
 add-ring c = search rules
@@ -49,7 +49,7 @@ loop-again c =
     let l = c.before.before.loop in (
       omega arith,
       simp length-set (omega arith),
-      run-turn l.ring a.words.now _ (length a.ring.now) a.at a.from l.k l.invariant.1 (omega arith) (omega arith) l.invariant.2,
+      run_turn l.ring a.words.now _ (length a.ring.now) a.at a.from l.k l.invariant.1 (omega arith) (omega arith) l.invariant.2,
     )
 
 same_length : tie.Need-same-length invariant-loop decreases-loop

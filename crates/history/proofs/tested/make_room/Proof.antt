@@ -1,7 +1,7 @@
 use Rattle.std.proofs.Common.{◌≡◌, ◌+◌, ◌-◌, ◌≤◌, refl, arith, rules}
 use Rattle.history.specs.State.{Good}
 use Rattle.history.specs.Push.{popped}
-use Rattle.history.proofs.Room.{staying, pop-less, room-turn, room-made, room-all}
+use Rattle.history.proofs.Room.{staying, pop_less, room_turn, room_made, room_all}
 use Rattle.history.proofs.tested.make_room.Statement.{statement}
 use Rattle.history.proofs.tested.make_room.Tie as tie
 
@@ -25,23 +25,23 @@ sub-if2 c = search rules
 
 returns : tie.Need-returns invariant-loop decreases-loop
 returns c =
-    let l = c.before.before.before.before.loop in room-made _ _ _ _ l.invariant.0 _ c.if2.true l.invariant.3
+    let l = c.before.before.before.before.loop in room_made _ _ _ _ l.invariant.0 _ c.if2.true l.invariant.3
 
 pop-oldest-requires : tie.Need-pop-oldest-requires invariant-loop decreases-loop
 pop-oldest-requires c κs = (c.before.before.before.before.loop.invariant.0, omega arith)
 
 loop-less : tie.Need-loop-smaller invariant-loop decreases-loop
-loop-less c = pop-less _ _ _ _ c.before.before.before.if1.true c.pop-oldest.ensures
+loop-less c = pop_less _ _ _ _ c.before.before.before.if1.true c.pop-oldest.ensures
 
 loop-again : tie.Need-loop-preserved invariant-loop decreases-loop
 loop-again c =
     let l = c.before.before.before.before.before.loop in
-    let t = room-turn _ _ _ _ l.invariant.0 c.before.before.before.if1.true _ _ c.pop-oldest.ensures c.before.if2.false l.invariant.3 in
+    let t = room_turn _ _ _ _ l.invariant.0 c.before.before.before.if1.true _ _ c.pop-oldest.ensures c.before.if2.false l.invariant.3 in
     (t.0, t.1, omega (arith, t.2, t.3), t.4)
 
 returns-2 : tie.Need-returns-2 invariant-loop decreases-loop
 returns-2 c =
-    let l = c.before.before.loop in room-all _ _ _ _ l.invariant.0 _ l.invariant.1 c.if1.false l.invariant.2 l.invariant.3
+    let l = c.before.before.loop in room_all _ _ _ _ l.invariant.0 _ l.invariant.1 c.if1.false l.invariant.2 l.invariant.3
 
 pub make-room-spec : {M : Type 1} → statement M
 make-room-spec =

@@ -2,7 +2,7 @@
 use Rattle.std.proofs.Common.{◌≡◌, ◌-◌, ◌≤◌, sym, refl, ◌∙◌, arith, rules}
 use native.Mathlib.Nat.{sub-zero}
 use Rattle.history.specs.Queue.{requests, waiting, asks}
-use Rattle.history.proofs.Queues.{asks-found, asks-passed, asks_none}
+use Rattle.history.proofs.Queues.{asks_found, asks_passed, asks_none}
 use Rattle.history.proofs.tested.pending.Statement.{statement}
 use Rattle.history.proofs.tested.pending.Tie as tie
 
@@ -26,7 +26,7 @@ element-copy-out-r c = search rules
 
 returns : tie.Need-returns invariant-loop decreases-loop
 returns c =
-    sym (asks-found _ _ _ _ _ c.before.before.before.slot.ensures.0 refl c.before.before.before.before.loop-test.true c.if1.true) ∙ c.before.before.before.before.before.loop.invariant.1
+    sym (asks_found _ _ _ _ _ c.before.before.before.slot.ensures.0 refl c.before.before.before.before.loop-test.true c.if1.true) ∙ c.before.before.before.before.before.loop.invariant.1
 
 add-i : tie.Need-overflow-add-i invariant-loop decreases-loop
 add-i c = search rules
@@ -36,7 +36,7 @@ loop-less c = search rules
 
 loop-again : tie.Need-loop-preserved invariant-loop decreases-loop
 loop-again c =
-    (omega arith, sym (asks-passed _ _ _ _ _ c.before.before.before.slot.ensures.0 refl c.before.before.before.before.loop-test.true c.if1.false) ∙ c.before.before.before.before.before.loop.invariant.1)
+    (omega arith, sym (asks_passed _ _ _ _ _ c.before.before.before.slot.ensures.0 refl c.before.before.before.before.loop-test.true c.if1.false) ∙ c.before.before.before.before.before.loop.invariant.1)
 
 returns-2 : tie.Need-returns-2 invariant-loop decreases-loop
 returns-2 c = sym (asks_none _ _ _ c.loop-test.false) ∙ c.before.loop.invariant.1

@@ -1,7 +1,7 @@
--- Room is made for the header and the words; they are stored behind the newest, as `ringStored` stores them.
+-- Room is made for the header and the words; they are stored behind the newest, as `ring_stored` stores them.
 use Rattle.std.proofs.Common.{arith, length-set, rules}
-use Rattle.history.proofs.Room.{push-fits}
-use Rattle.history.proofs.Pushes.{push-done}
+use Rattle.history.proofs.Room.{push_fits}
+use Rattle.history.proofs.Pushes.{push_done}
 use Rattle.history.proofs.tested.push.Statement.{statement}
 use Rattle.history.proofs.tested.push.Tie as tie
 
@@ -9,7 +9,7 @@ add-need : tie.Need-overflow-add-need
 add-need c = search rules
 
 make-room-requires : tie.Need-make-room-requires
-make-room-requires c κs = let p = c.before.before.before.requires in (p.0, omega arith, push-fits _ _ _ p.0 p.1)
+make-room-requires c κs = let p = c.before.before.before.requires in (p.0, omega arith, push_fits _ _ _ p.0 p.1)
 
 slot-requires : tie.Need-slot-requires
 slot-requires c κs = let f = c.make-room.ensures.good in omega arith
@@ -62,7 +62,7 @@ returns c =
     let at-slot2 = at-put.before.before in
     let at_slot = at-slot2.before.before in
     let f = at_slot.before.make-room.ensures in
-    push-done _ _ _ _ _ _ _ _ f.same f.good.ring
+    push_done _ _ _ _ _ _ _ _ f.same f.good.ring
     at_slot.slot.ensures.0
     at-slot2.before.next-seq.ensures
     at-slot2.slot2.ensures.0

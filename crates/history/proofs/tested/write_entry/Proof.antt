@@ -1,6 +1,6 @@
 -- The run up to the end and the run from the start are the entry's words, in order.
 use Rattle.std.proofs.Common.{arith, rules}
-use Rattle.history.proofs.Written.{entry-written}
+use Rattle.history.proofs.Written.{entry_written}
 use Rattle.history.proofs.tested.write_entry.Statement.{statement}
 use Rattle.history.proofs.tested.write_entry.Tie as tie
 
@@ -61,7 +61,7 @@ returns c =
     let at-seq = at-run.before.before in
     let start = at-seq.before.before.before.before in
     let p = start.requires in
-    entry-written start.args.p start.args.buf.now start.args.ring.now start.args.at _ _ _ _ _ p.1 (omega (arith, p.4, p.2)) (omega (arith, p.2))
+    entry_written start.args.p start.args.buf.now start.args.ring.now start.args.at _ _ _ _ _ p.1 (omega (arith, p.4, p.2)) (omega (arith, p.2))
     at-seq.before.pl.ensures
     at-seq.seq.ensures
     at-run.before.slot.ensures.0

@@ -1,7 +1,7 @@
 -- A chamber that rests polls for nothing and sends nothing, and its step is as if it had.
 use mathlib.Core.Path.{sym, ◌∙◌}
 use native.Mathlib.Omega.{arith}
-use Rattle.link.proofs.Resting.{back-rests}
+use Rattle.link.proofs.Resting.{back_rests}
 use borrow.Author.Rules.{rules}
 use Rattle.link.proofs.halves.back.Statement.{statement}
 use Rattle.link.proofs.halves.back.Tie as tie
@@ -10,7 +10,7 @@ chamber-rests-requires : tie.Need-chamber-rests-requires
 chamber-rests-requires c κs = search rules
 
 returns : tie.Need-returns
-returns c = (back-rests _ _ _ _ _ _ (sym c.before.chamber-rests.ensures ∙ c.if1.true), omega arith)
+returns c = (back_rests _ _ _ _ _ _ (sym c.before.chamber-rests.ensures ∙ c.if1.true), omega arith)
 
 replied-requires : tie.Need-replied-requires
 replied-requires c κs = search rules

@@ -7,9 +7,9 @@ use Rattle.link.proofs.halves.replied.Statement.{statement}
 use Rattle.link.proofs.halves.replied.Tie as tie
 use Rattle.link.proofs.halves.replied.Reads as reads
 use Rattle.link.proofs.halves.replied.Lts as lts
-use Rattle.link_tally.proofs.arriving.arrive.Reads as arrive-reads
-use Rattle.link.proofs.turns.chamber_turn.Reads as chamber-turn-reads
-use Rattle.link.proofs.turns.part.Reads as part-reads
+use Rattle.link_tally.proofs.arriving.arrive.Reads as arrive_reads
+use Rattle.link.proofs.turns.chamber_turn.Reads as chamber_turn_reads
+use Rattle.link.proofs.turns.part.Reads as part_reads
 
 slice-aggregate-chamber-turn : tie.Need-slice-aggregate-chamber-turn
 slice-aggregate-chamber-turn c = search rules
@@ -24,7 +24,7 @@ part-requires : tie.Need-part-requires
 part-requires c κs = search rules
 
 arrive-requires : tie.Need-arrive-requires
-arrive-requires c κs = halving.part-short _ _ _ c.part.ensures c.before.before.before.before.before.buf2.given
+arrive-requires c κs = halving.part_short _ _ _ c.part.ensures c.before.before.before.before.before.buf2.given
 
 same_length : tie.Need-same-length
 same_length c = c.before.before.before.before.before.other.given

@@ -1,7 +1,7 @@
 -- A console that rests sends nothing, and its step is as if it had.
 use mathlib.Core.Path.{sym, ◌∙◌}
 use native.Mathlib.Omega.{arith}
-use Rattle.link.proofs.Resting.{there-rests}
+use Rattle.link.proofs.Resting.{there_rests}
 use borrow.Author.Rules.{rules}
 use Rattle.link.proofs.halves.there.Statement.{statement}
 use Rattle.link.proofs.halves.there.Tie as tie
@@ -12,7 +12,7 @@ console-rests-requires c κs = search rules
 returns : tie.Need-returns
 returns c =
     let start = c.before.before.before.before in
-    (there-rests start.args.console start.args.chamber start.args.cfg start.args.time _ _ _ _ _ _ (sym c.before.console-rests.ensures ∙ c.if1.true), record { handed = omega arith; losses = omega arith })
+    (there_rests start.args.console start.args.chamber start.args.cfg start.args.time _ _ _ _ _ _ (sym c.before.console-rests.ensures ∙ c.if1.true), record { handed = omega arith; losses = omega arith })
 
 spoken-requires : tie.Need-spoken-requires
 spoken-requires c κs = search rules

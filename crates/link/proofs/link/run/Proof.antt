@@ -1,15 +1,15 @@
 -- Each refusal by its law; a run that starts is its steps from the state that both starts leave.
 use mathlib.Core.Path.{◌≡◌, refl, sym, ap, ◌∙◌}
 use native.Mathlib.Omega.{arith}
-use Rattle.link.proofs.Running.{run-settings, run-over, run-lengths, run-start, run-starts}
+use Rattle.link.proofs.Running.{run_settings, run_over, run_lengths, run_start, run_starts}
 use borrow.Author.Rules.{rules}
 use Rattle.link.proofs.link.run.Statement.{statement}
 use Rattle.link.proofs.link.run.Tie as tie
 use Rattle.link.proofs.link.run.Reads as reads
 use Rattle.link.proofs.link.run.Lts as lts
-use Rattle.config.proofs.settings.StreamConfig.check.Reads as check-reads
-use Rattle.link.proofs.link.steps.Reads as steps-reads
-use Rattle.stream.proofs.stream.DataStream.new.Reads as new-reads
+use Rattle.config.proofs.settings.StreamConfig.check.Reads as check_reads
+use Rattle.link.proofs.link.steps.Reads as steps_reads
+use Rattle.stream.proofs.stream.DataStream.new.Reads as new_reads
 
 check-requires : tie.Need-check-requires
 check-requires c κs = search rules
@@ -21,10 +21,10 @@ enum_told : tie.Need-enum-told
 enum_told c = search rules
 
 returns : tie.Need-returns
-returns c = run-over _ _ _ _ _ _ _ _ _ _ (sym c.before.before.before.check.ensures ∙ c.before.enum_told.given.1) c.if1.true
+returns c = run_over _ _ _ _ _ _ _ _ _ _ (sym c.before.before.before.check.ensures ∙ c.before.enum_told.given.1) c.if1.true
 
 returns-2 : tie.Need-returns-2
-returns-2 c = run-lengths _ _ _ _ _ _ _ _ _ _ (sym c.before.before.before.before.check.ensures ∙ c.before.before.enum_told.given.1) c.if2.true
+returns-2 c = run_lengths _ _ _ _ _ _ _ _ _ _ (sym c.before.before.before.before.check.ensures ∙ c.before.before.enum_told.given.1) c.if2.true
 
 new-requires : tie.Need-new-requires
 new-requires c κs = search rules
@@ -42,7 +42,7 @@ steps-requires : tie.Need-steps-requires
 steps-requires c κs = search rules
 
 returns-3 : tie.Need-returns-3
-returns-3 c = run-settings _ _ _ _ _ _ _ _ _ _ _ (sym c.before.before.before.check.ensures ∙ c.before.why.given.1)
+returns-3 c = run_settings _ _ _ _ _ _ _ _ _ _ _ (sym c.before.before.before.check.ensures ∙ c.before.why.given.1)
 
 same_length : tie.Need-same-length
 same_length c = c.before.before.before.before.before.ring.given
@@ -50,7 +50,7 @@ same_length c = c.before.before.before.before.before.ring.given
 returns-4 : tie.Need-returns-4
 returns-4 c =
     let start = c.before.before.before.before.before.before.before.before.before.before.before.before.before.before.before in
-    run-start start.args.cfg start.args.window start.args.words start.args.places start.args.seed start.args.drop start.args.figure start.args.budget _ _ (sym c.before.before.before.before.before.before.before.before.before.before.before.before.check.ensures ∙ c.before.before.before.before.before.before.before.before.before.before.enum_told.given.1) c.before.before.before.before.before.before.new.result _ c.before.before.before.before.before.before.new.ensures _ c.before.answer.given.1
+    run_start start.args.cfg start.args.window start.args.words start.args.places start.args.seed start.args.drop start.args.figure start.args.budget _ _ (sym c.before.before.before.before.before.before.before.before.before.before.before.before.check.ensures ∙ c.before.before.before.before.before.before.before.before.before.before.enum_told.given.1) c.before.before.before.before.before.before.new.result _ c.before.before.before.before.before.before.new.ensures _ c.before.answer.given.1
 
 same-length-2 : tie.Need-same-length-2
 same-length-2 c = c.before.before.before.ring2.given ∙ c.before.before.before.before.before.before.before.before.before.before.before.before.before.before.before.before.ring.given
@@ -61,7 +61,7 @@ same-length-3 c = c.before.other2.given ∙ c.before.before.before.before.before
 returns-5 : tie.Need-returns-5
 returns-5 c =
     let start = c.before.before.before.before.before.before.before.before.before.before.before.before.before.before.before.before.before.before.before.before.before.before.before.before.before.before in
-    run-starts start.args.cfg start.args.window start.args.words start.args.places start.args.seed start.args.drop start.args.figure start.args.budget _ _ (sym c.before.before.before.before.before.before.before.before.before.before.before.before.before.before.before.before.before.before.before.before.before.before.before.check.ensures ∙ c.before.before.before.before.before.before.before.before.before.before.before.before.before.before.before.before.before.before.before.before.before.enum_told.given.1) c.before.before.before.before.before.before.before.before.before.before.before.before.before.before.before.before.before.new.result _ c.before.before.before.before.before.before.before.before.before.before.before.before.before.before.before.before.before.new.ensures c.before.before.before.before.before.before.before.before.before.before.before.before.enum-told2.given.1 c.before.before.before.before.before.before.before.before.before.before.before.before.before.before.before.before.before.before.before.before.if1.false c.before.before.before.before.before.before.before.before.before.before.before.before.before.before.before.before.before.before.before.if2.false
+    run_starts start.args.cfg start.args.window start.args.words start.args.places start.args.seed start.args.drop start.args.figure start.args.budget _ _ (sym c.before.before.before.before.before.before.before.before.before.before.before.before.before.before.before.before.before.before.before.before.before.before.before.check.ensures ∙ c.before.before.before.before.before.before.before.before.before.before.before.before.before.before.before.before.before.before.before.before.before.enum_told.given.1) c.before.before.before.before.before.before.before.before.before.before.before.before.before.before.before.before.before.new.result _ c.before.before.before.before.before.before.before.before.before.before.before.before.before.before.before.before.before.new.ensures c.before.before.before.before.before.before.before.before.before.before.before.before.enum-told2.given.1 c.before.before.before.before.before.before.before.before.before.before.before.before.before.before.before.before.before.before.before.before.if1.false c.before.before.before.before.before.before.before.before.before.before.before.before.before.before.before.before.before.before.before.if2.false
     c.before.before.before.before.before.before.before.before.before.before.new2.result _ c.before.before.before.before.before.before.before.before.before.before.new2.ensures _ refl _ c.before.before.before.before.steps.ensures
 
 pub run_spec : {M : Type 1} → statement M

@@ -7,9 +7,9 @@ use Rattle.link.proofs.link.step.Statement.{statement}
 use Rattle.link.proofs.link.step.Tie as tie
 use Rattle.link.proofs.link.step.Reads as reads
 use Rattle.link.proofs.link.step.Lts as lts
-use Rattle.link.proofs.halves.back.Reads as back-reads
-use Rattle.link.proofs.halves.there.Reads as there-reads
-use Rattle.load.proofs.load.Load.draw.Reads as draw-reads
+use Rattle.link.proofs.halves.back.Reads as back_reads
+use Rattle.link.proofs.halves.there.Reads as there_reads
+use Rattle.load.proofs.load.Load.draw.Reads as draw_reads
 
 draw-requires : tie.Need-draw-requires
 draw-requires c κs = search rules

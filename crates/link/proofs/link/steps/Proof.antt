@@ -4,23 +4,23 @@ use mathlib.Core.Path.{◌≡◌, refl, sym, ap, ◌∙◌}
 use native.Mathlib.Omega.{arith}
 use lib.ListN.{length}
 use borrow.Author.Rules.{rules}
-use Rattle.link_rules.specs.Link.{run_of, mostSteps}
-use Rattle.link.specs.Turns.{endsOf, Fits}
+use Rattle.link_rules.specs.Link.{run_of, most_steps}
+use Rattle.link.specs.Turns.{ends_of, Fits}
 use Rattle.link.proofs.Running.{run_none, run_more, run_end}
 use Rattle.link.proofs.link.steps.Statement.{statement}
 use Rattle.link.proofs.link.steps.Tie as tie
 use Rattle.link.proofs.link.steps.Reads as reads
 use Rattle.link.proofs.link.steps.Lts as lts
-use Rattle.link.proofs.link.step.Reads as step-reads
+use Rattle.link.proofs.link.step.Reads as step_reads
 
 abbrev invariant-loop : tie.invariant-loop
 invariant-loop cfg figure budget ring₀ other₀ s₀ done₀ ring other s done =
     (done ≤ budget)
-    × (budget ≤ mostSteps)
+    × (budget ≤ most_steps)
     × Fits s done
     × (length ring ≡ length ring₀)
     × (length other ≡ length other₀)
-    × (endsOf s done ring other ≡ run_of cfg figure (endsOf s₀ 0 ring₀ other₀) done)
+    × (ends_of s done ring other ≡ run_of cfg figure (ends_of s₀ 0 ring₀ other₀) done)
 
 abbrev decreases-loop : tie.decreases-loop
 decreases-loop cfg figure budget ring₀ other₀ s₀ done₀ ring other s done = budget - done

@@ -7,9 +7,9 @@ use Rattle.link.proofs.turns.chamber_turn.Statement.{statement}
 use Rattle.link.proofs.turns.chamber_turn.Tie as tie
 use Rattle.link.proofs.turns.chamber_turn.Reads as reads
 use Rattle.link.proofs.turns.chamber_turn.Lts as lts
-use Rattle.link_tally.proofs.arriving.event_loss.Reads as event-loss-reads
-use Rattle.link.proofs.turns.write.Reads as write-reads
-use Rattle.stream.proofs.stream.DataStream.poll.Reads as poll-reads
+use Rattle.link_tally.proofs.arriving.event_loss.Reads as event_loss_reads
+use Rattle.link.proofs.turns.write.Reads as write_reads
+use Rattle.stream.proofs.stream.DataStream.poll.Reads as poll_reads
 
 poll-requires : tie.Need-poll-requires
 poll-requires c κs = search rules
@@ -27,7 +27,7 @@ same-length-2 : tie.Need-same-length-2
 same-length-2 c = c.before.ring.given
 
 returns : tie.Need-returns
-returns c = (turning.chamber-is _ _ _ _ _ c.before.before.before.before.before.before.before.before.before.before.before.before.requires _ c.before.before.before.before.before.before.before.before.before.poll.ensures _ c.before.before.before.before.write.ensures.0, turning.poll-loss-is _ _ _ _ c.before.before.before.before.before.before.before.before.before.poll.ensures _ _ c.before.before.before.before.before.event-loss.ensures.0 c.before.before.before.before.write.ensures.1, omega (arith, c.before.before.before.before.before.event-loss.ensures.1, c.before.before.before.before.write.ensures.1))
+returns c = (turning.chamber_is _ _ _ _ _ c.before.before.before.before.before.before.before.before.before.before.before.before.requires _ c.before.before.before.before.before.before.before.before.before.poll.ensures _ c.before.before.before.before.write.ensures.0, turning.poll_loss_is _ _ _ _ c.before.before.before.before.before.before.before.before.before.poll.ensures _ _ c.before.before.before.before.before.event_loss_lem.ensures.0 c.before.before.before.before.write.ensures.1, omega (arith, c.before.before.before.before.before.event_loss_lem.ensures.1, c.before.before.before.before.write.ensures.1))
 
 pub chamber-turn-spec : {M : Type 1} → statement M
 chamber-turn-spec =

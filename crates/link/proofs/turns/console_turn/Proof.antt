@@ -7,9 +7,9 @@ use Rattle.link.proofs.turns.console_turn.Statement.{statement}
 use Rattle.link.proofs.turns.console_turn.Tie as tie
 use Rattle.link.proofs.turns.console_turn.Reads as reads
 use Rattle.link.proofs.turns.console_turn.Lts as lts
-use Rattle.link.proofs.turns.begin.Reads as begin-reads
-use Rattle.link.proofs.turns.queue.Reads as queue-reads
-use Rattle.link.proofs.turns.write.Reads as write-reads
+use Rattle.link.proofs.turns.begin.Reads as begin_reads
+use Rattle.link.proofs.turns.queue.Reads as queue_reads
+use Rattle.link.proofs.turns.write.Reads as write_reads
 
 queue-requires : tie.Need-queue-requires
 queue-requires c κs = search rules
@@ -29,7 +29,7 @@ same-length-2 c = c.before.ring2.given ∙ c.before.before.before.before.before.
 returns : tie.Need-returns
 returns c =
     let start = c.before.before.before.before.before.before.before.before.before.before.before.before.before.before.before.before.before in
-    turning.console-is start.args.s start.args.cfg start.args.time _ _ start.args.waiting c.before.before.before.before.before.before.before.before.before.before.before.before.before.queue.result _ c.before.before.before.before.before.before.before.before.before.before.before.before.before.queue.ensures c.before.before.before.before.before.before.before.before.before.begin.result _ c.before.before.before.before.before.before.before.before.before.begin.ensures _ c.before.before.before.before.write.ensures.0
+    turning.console_is start.args.s start.args.cfg start.args.time _ _ start.args.waiting c.before.before.before.before.before.before.before.before.before.before.before.before.before.queue.result _ c.before.before.before.before.before.before.before.before.before.before.before.before.before.queue.ensures c.before.before.before.before.before.before.before.before.before.begin.result _ c.before.before.before.before.before.before.before.before.before.begin.ensures _ c.before.before.before.before.write.ensures.0
 
 pub console-turn-spec : {M : Type 1} → statement M
 console-turn-spec =

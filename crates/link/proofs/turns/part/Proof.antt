@@ -12,13 +12,13 @@ use Rattle.link.proofs.turns.part.Reads as reads
 use Rattle.link.proofs.turns.part.Lts as lts
 
 returns : tie.Need-returns
-returns c = turning.part-all c.before.args.len c.before.args.buf.now c.if1.true
+returns c = turning.part_all c.before.args.len c.before.args.buf.now c.if1.true
 
 slice-aggregate-result : tie.Need-slice-aggregate-result
 slice-aggregate-result c = sym (length-take-le _ _ c.before.if1.false)
 
 returns-2 : tie.Need-returns-2
-returns-2 c = turning.part-some c.before.before.args.len c.before.before.args.buf.now _ refl
+returns-2 c = turning.part_some c.before.before.args.len c.before.before.args.buf.now _ refl
 
 pub part-spec : {M : Type 1} → statement M
 part-spec = tie.close (tie.spec returns slice-aggregate-result returns-2)

@@ -7,9 +7,9 @@ use Rattle.link_tally.proofs.arriving.hear.Statement.{statement}
 use Rattle.link_tally.proofs.arriving.hear.Tie as tie
 use Rattle.link_tally.proofs.arriving.hear.Reads as reads
 use Rattle.link_tally.proofs.arriving.hear.Lts as lts
-use Rattle.link_tally.proofs.arriving.hands_on.Reads as hands-on-reads
-use Rattle.link_tally.proofs.arriving.span_loss.Reads as span-loss-reads
-use Rattle.stream.proofs.stream.DataStream.on_ump_data.Reads as on-ump-data-reads
+use Rattle.link_tally.proofs.arriving.hands_on.Reads as hands_on_reads
+use Rattle.link_tally.proofs.arriving.span_loss.Reads as span_loss_reads
+use Rattle.stream.proofs.stream.DataStream.on_ump_data.Reads as on_ump_data_reads
 
 on-ump-data-requires : tie.Need-on-ump-data-requires
 on-ump-data-requires c κs = search rules
@@ -33,10 +33,10 @@ add-t17 : tie.Need-overflow-add-t17
 add-t17 c = omega (arith, c.before.span-loss.ensures.1, c.before.before.before.before.before.before.before.before.before.before.requires.losses)
 
 returns : tie.Need-returns
-returns c = tallies.hear-refused _ _ _ [] _ _ c.before.before.before.on-ump-data.ensures _ c.enum_told.given.1
+returns c = tallies.hear_refused _ _ _ [] _ _ c.before.before.before.on_ump_data.ensures _ c.enum_told.given.1
 
 returns-2 : tie.Need-returns-2
-returns-2 c = tallies.hear-delivered _ _ _ [] _ _ c.before.before.before.before.before.before.before.before.on-ump-data.ensures _ c.before.before.before.before.before.answer.given.1 _ _ c.before.before.before.hands_on.ensures.0 c.before.span-loss.ensures.0
+returns-2 c = tallies.hear_delivered _ _ _ [] _ _ c.before.before.before.before.before.before.before.before.on_ump_data.ensures _ c.before.before.before.before.before.answer.given.1 _ _ c.before.before.before.hands_on.ensures.0 c.before.span-loss.ensures.0
 
 pub hear-spec : {M : Type 1} → statement M
 hear-spec =

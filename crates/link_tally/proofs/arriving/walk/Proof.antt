@@ -4,15 +4,15 @@ use mathlib.Core.Path.{◌≡◌, refl, ◌∙◌}
 use native.Mathlib.Omega.{arith}
 use lib.ListN.{length}
 use borrow.Author.Rules.{rules}
-use Rattle.link_tally.proofs.Walking.{ended, walk_end, walk-cut, walk-on, walk-far, walk-few}
+use Rattle.link_tally.proofs.Walking.{ended, walk_end, walk_cut, walk_on, walk_far, walk_few}
 use Rattle.link_tally.proofs.arriving.walk.Statement.{statement}
 use Rattle.link_tally.proofs.arriving.walk.Tie as tie
 use Rattle.link_tally.proofs.arriving.walk.Reads as reads
 use Rattle.link_tally.proofs.arriving.walk.Lts as lts
-use Rattle.command.proofs.parse.parse.Reads as parse-reads
-use Rattle.link_tally.proofs.arriving.command.Reads as command-reads
-use Rattle.packet.proofs.cursor.Cursor.next.Reads as next-reads
-use Rattle.packet.proofs.cursor.body.Reads as body-Reads
+use Rattle.command.proofs.parse.parse.Reads as parse_reads
+use Rattle.link_tally.proofs.arriving.command.Reads as command_reads
+use Rattle.packet.proofs.cursor.Cursor.next.Reads as next_reads
+use Rattle.packet.proofs.cursor.body.Reads as body_Reads
 
 abbrev invariant-loop : tie.invariant-loop
 invariant-loop cfg time ring payload a₀ at₀ a at = (a.handed + 4 ≤ at) × (a.losses + 4 ≤ at) × (at ≤ 1404) × (length payload ≤ 1400) × (ended cfg time ring payload a at ≡ ended cfg time ring payload a₀ 4)
@@ -40,7 +40,7 @@ enum-told-2 c = c.match.keys2
 returns-2 : tie.Need-returns-2 invariant-loop decreases-loop
 returns-2 c =
     let i = c.before.before.before.loop.invariant in
-    (walk-cut _ _ _ _ _ _ _ c.before.before.next.ensures _ c.enum-told2.given.1 ∙ i.4, record { handed = omega (arith, i.0, i.2); losses = omega (arith, i.1, i.2) })
+    (walk_cut _ _ _ _ _ _ _ c.before.before.next.ensures _ c.enum-told2.given.1 ∙ i.4, record { handed = omega (arith, i.0, i.2); losses = omega (arith, i.1, i.2) })
 
 enum-known-header : tie.Need-enum-known-header invariant-loop decreases-loop
 enum-known-header c = c.match.keys3
@@ -57,19 +57,19 @@ command-requires c κs = let i = c.before.before.before.before.before.before.loo
 loop-less : tie.Need-loop-smaller invariant-loop decreases-loop
 loop-less c =
     let i = c.before.before.before.before.before.before.before.loop.invariant in
-    let f = walk-far _ _ _ c.before.before.before.before.before.before.next.ensures _ _ _ c.before.before.before.before.header.given.1 in
+    let f = walk_far _ _ _ c.before.before.before.before.before.before.next.ensures _ _ _ c.before.before.before.before.header.given.1 in
     omega (arith, i.2, i.3, f.0, f.1)
 
 loop-again : tie.Need-loop-preserved invariant-loop decreases-loop
 loop-again c =
     let i = c.before.before.before.before.before.before.before.loop.invariant in
-    let f = walk-far _ _ _ c.before.before.before.before.before.before.next.ensures _ _ _ c.before.before.before.before.header.given.1 in
-    let g = walk-few c.before.before.before.before.before.before.before.loop.a c.before.before.before.before.before.before.before.before.before.before.args.cfg c.before.before.before.before.before.before.before.before.before.before.args.time c.before.before.before.before.before.before.before.before.before.before.args.ring.now c.before.parse.result _ c.command.ensures in (
+    let f = walk_far _ _ _ c.before.before.before.before.before.before.next.ensures _ _ _ c.before.before.before.before.header.given.1 in
+    let g = walk_few c.before.before.before.before.before.before.before.loop.a c.before.before.before.before.before.before.before.before.before.before.args.cfg c.before.before.before.before.before.before.before.before.before.before.args.time c.before.before.before.before.before.before.before.before.before.before.args.ring.now c.before.parse.result _ c.command.ensures in (
       omega (arith, i.0, f.0, g.0),
       omega (arith, i.1, f.0, g.1),
       omega (arith, i.3, f.1),
       i.3,
-      walk-on _ _ _ _ _ _ _ c.before.before.before.before.before.before.next.ensures _ _ _ c.before.before.before.before.header.given.1 _ c.before.before.body.ensures _ c.before.parse.ensures _ c.command.ensures ∙ i.4,
+      walk_on _ _ _ _ _ _ _ c.before.before.before.before.before.before.next.ensures _ _ _ c.before.before.before.before.header.given.1 _ c.before.before.body.ensures _ c.before.parse.ensures _ c.command.ensures ∙ i.4,
     )
 
 pub walk-spec : {M : Type 1} → statement M

@@ -1,5 +1,5 @@
 -- Four words one after the other are one run.
-use Rattle.loss_sheet.proofs.Counts.{four-words}
+use Rattle.loss_sheet.proofs.Counts.{four_words}
 use borrow.Author.Rules.{rules}
 use native.Mathlib.Omega.{arith}
 use Rattle.loss_sheet.proofs.figures.put.Statement.{statement}
@@ -30,7 +30,7 @@ same_length : tie.Need-same-length
 same_length c = search rules
 
 returns : tie.Need-returns
-returns c = four-words _ _ _ _ _ _ c.before.before.before.before.before.before.before.before.before.before.before.before.before.before.before.before.before.args.f (omega arith) c.before.before.before.before.before.before.before.before.before.before.before.before.before.before.put_word.ensures c.before.before.before.before.before.before.before.before.before.before.put-word2.ensures c.before.before.before.before.before.before.put-word3.ensures c.before.before.put-word4.ensures
+returns c = four_words _ _ _ _ _ _ c.before.before.before.before.before.before.before.before.before.before.before.before.before.before.before.before.before.args.f (omega arith) c.before.before.before.before.before.before.before.before.before.before.before.before.before.before.put_word.ensures c.before.before.before.before.before.before.before.before.before.before.put-word2.ensures c.before.before.before.before.before.before.put-word3.ensures c.before.before.put-word4.ensures
 
 pub put_spec : {M : Type 1} → statement M
 put_spec =

@@ -3,7 +3,7 @@ use mathlib.Core.Path.{◌≡◌, refl, ◌∙◌}
 use Prim.Native.Nat.{◌-◌, ◌≤◌}
 use lib.ListN.{length, drop}
 use Rattle.loss_sheet.specs.Sheet.{all_below}
-use Rattle.loss_sheet.proofs.Ring.{below-bad, below_next, below_end}
+use Rattle.loss_sheet.proofs.Ring.{below_bad, below_next, below_end}
 use borrow.Author.Rules.{rules}
 use native.Mathlib.Omega.{arith}
 use Rattle.loss_sheet.proofs.sheet.all_below.Statement.{statement}
@@ -25,7 +25,7 @@ shared-slice-read-if1 : tie.Need-shared-slice-read-if1 invariant-loop decreases-
 shared-slice-read-if1 c = search rules
 
 returns : tie.Need-returns invariant-loop decreases-loop
-returns c = let l = c.before.before.before.loop in below-bad _ _ l.i (omega arith) c.if1.true ∙ l.invariant.1
+returns c = let l = c.before.before.before.loop in below_bad _ _ l.i (omega arith) c.if1.true ∙ l.invariant.1
 
 add-i : tie.Need-overflow-add-i invariant-loop decreases-loop
 add-i c = search rules

@@ -5,9 +5,9 @@ use lib.ListN.{length, take, length-take}
 use Rattle.sheet_blocks.specs.Bytes.{spliced}
 use Rattle.sheet_blocks.specs.Records.{entries}
 use Rattle.loss_sheet.specs.Figures.{figures}
-use Rattle.loss_sheet.specs.Sheet.{pushedAll, held, sheetBytes}
+use Rattle.loss_sheet.specs.Sheet.{pushed_all, held, sheet_bytes}
 use Rattle.loss_sheet.specs.inner.Fits.{Good}
-use Rattle.loss_sheet.proofs.Runs.{good_turn, n-turn, all-turn, out-turn, all_done, out-done}
+use Rattle.loss_sheet.proofs.Runs.{good_turn, n_turn, all_turn, out_turn, all_done, out_done}
 use borrow.Author.Rules.{rules}
 use native.Mathlib.Omega.{arith}
 use Rattle.loss_sheet.proofs.sheet.run.Statement.{statement}
@@ -20,8 +20,8 @@ invariant-loop ring₀ block k out₀ used g₀ at₀ left₀ ring out g at left
     × (g.figures ≡ figures (take g.sheet.len ring))
     × (length ring ≡ length ring₀)
     × (length out ≡ length out₀)
-    × (pushedAll g.sheet ring (entries block left at) ≡ pushedAll g₀.sheet ring₀ (entries block k 0))
-    × (spliced out at (sheetBytes g₀.sheet.n (held g.sheet ring) (entries block left at)) ≡ spliced out₀ 0 (sheetBytes g₀.sheet.n (held g₀.sheet ring₀) (entries block k 0)))
+    × (pushed_all g.sheet ring (entries block left at) ≡ pushed_all g₀.sheet ring₀ (entries block k 0))
+    × (spliced out at (sheet_bytes g₀.sheet.n (held g.sheet ring) (entries block left at)) ≡ spliced out₀ 0 (sheet_bytes g₀.sheet.n (held g₀.sheet ring₀) (entries block k 0)))
     × (g.sheet.n ≡ g₀.sheet.n)
 
 abbrev decreases-loop : tie.decreases-loop
@@ -68,9 +68,9 @@ loop-again c =
       p.1,
       omega arith,
       omega arith,
-      all-turn _ _ _ _ _ p.0 a.block.now l.left l.at (omega arith) w _ l.invariant.5,
-      out-turn _ _ _ _ _ p.0 a.block.now l.left l.at (omega arith) w _ _ _ _ _ l.invariant.1 l.invariant.7 p.1 c.before.before.put.ensures (omega arith) l.invariant.6,
-      n-turn _ _ _ _ _ p.0 _ l.invariant.7,
+      all_turn _ _ _ _ _ p.0 a.block.now l.left l.at (omega arith) w _ l.invariant.5,
+      out_turn _ _ _ _ _ p.0 a.block.now l.left l.at (omega arith) w _ _ _ _ _ l.invariant.1 l.invariant.7 p.1 c.before.before.put.ensures (omega arith) l.invariant.6,
+      n_turn _ _ _ _ _ p.0 _ l.invariant.7,
     )
 
 same_length : tie.Need-same-length invariant-loop decreases-loop
@@ -84,7 +84,7 @@ returns c =
     let l = c.before.before.loop in
     let a = c.before.before.before.before.before.before.before.before.args in (
       all_done a.block.now l.left l.at (omega arith) _ _ _ l.invariant.5,
-      out-done a.block.now l.left l.at (omega arith) _ _ _ _ (omega arith) l.invariant.6,
+      out_done a.block.now l.left l.at (omega arith) _ _ _ _ (omega arith) l.invariant.6,
     )
 
 pub run_spec : {M : Type 1} → statement M

@@ -1,6 +1,6 @@
 -- Each test is one of the definition's, in its order.
 use mathlib.Core.Path.{sym, ◌∙◌}
-use Rattle.loss_sheet.proofs.States.{start-size, start-ring, started}
+use Rattle.loss_sheet.proofs.States.{start_size, start_ring, started}
 use borrow.Author.Rules.{rules}
 use native.Mathlib.Omega.{arith}
 use Rattle.loss_sheet.proofs.sheet.start.Statement.{statement}
@@ -13,13 +13,13 @@ number-requires : tie.Need-number-requires
 number-requires c κs = search rules
 
 returns : tie.Need-returns
-returns c = start-size _ _ _ c.number.ensures (sym c.before.before.outside.ensures ∙ c.before.if1.true)
+returns c = start_size _ _ _ c.number.ensures (sym c.before.before.outside.ensures ∙ c.before.if1.true)
 
 number-requires-2 : tie.Need-number-requires-2
 number-requires-2 c κs = search rules
 
 returns-2 : tie.Need-returns-2
-returns-2 c = start-ring _ _ (sym c.before.before.before.outside.ensures ∙ c.before.before.if1.false) _ c.number2.ensures c.before.if2.true
+returns-2 c = start_ring _ _ (sym c.before.before.before.outside.ensures ∙ c.before.before.if1.false) _ c.number2.ensures c.before.if2.true
 
 zero-requires : tie.Need-zero-requires
 zero-requires c κs = search rules

@@ -1,6 +1,6 @@
 -- The entry is the definition's.
 use mathlib.Core.Path.{ap, ◌∙◌}
-use Rattle.script.specs.Answers.{unlessRefused}
+use Rattle.script.specs.Answers.{unless_refused}
 use borrow.Author.Rules.{rules}
 use Rattle.made_calls.proofs.numbers.event.Statement.{statement}
 use Rattle.made_calls.proofs.numbers.event.Tie as tie
@@ -24,7 +24,7 @@ made-requires : tie.Need-made-requires
 made-requires c κs = search rules
 
 returns : tie.Need-returns
-returns c = c.made.ensures ∙ ap (unlessRefused _) c.before.of.ensures
+returns c = c.made.ensures ∙ ap (unless_refused _) c.before.of.ensures
 
 pub event-spec : {M : Type 1} → statement M
 event-spec =

@@ -1,7 +1,7 @@
 -- Four stores are one run of four bytes.
 use native.Mathlib.Omega.{arith}
 use lib.ListN.{length-set}
-use Rattle.packet.proofs.Splice.{spliced-four}
+use Rattle.packet.proofs.Splice.{spliced_four}
 use borrow.Author.Rules.{rules}
 use Rattle.packet.proofs.bytes.put_word.Statement.{statement}
 use Rattle.packet.proofs.bytes.put_word.Tie as tie
@@ -43,7 +43,7 @@ same_length : tie.Need-same-length
 same_length c = search rules
 
 returns : tie.Need-returns
-returns c = spliced-four _ _ _ _ _ _ (search rules)
+returns c = spliced_four _ _ _ _ _ _ (search rules)
 
 pub put-word-spec : {M : Type 1} → statement M
 put-word-spec =

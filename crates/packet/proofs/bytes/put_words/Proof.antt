@@ -5,7 +5,7 @@ use native.Mathlib.Omega.{arith}
 use borrow.Author.Rules.{rules}
 use lib.ListN.{length, drop, length-drop}
 use Rattle.packet.specs.Bytes.{bytes_of, spliced}
-use Rattle.packet.proofs.Words.{words-turn, words-done}
+use Rattle.packet.proofs.Words.{words_turn, words_done}
 use Rattle.packet.proofs.bytes.put_words.Statement.{statement}
 use Rattle.packet.proofs.bytes.put_words.Tie as tie
 
@@ -47,14 +47,14 @@ loop-again c =
       omega arith,
       omega arith,
       omega arith,
-      words-turn _ _ _ _ _ _ in-loop.loop-test.true (simp length-drop (omega arith)) c.before.before.put_word.ensures at-loop.invariant.3,
+      words_turn _ _ _ _ _ _ in-loop.loop-test.true (simp length-drop (omega arith)) c.before.before.put_word.ensures at-loop.invariant.3,
     )
 
 same_length : tie.Need-same-length invariant-loop decreases-loop
 same_length c = search rules
 
 returns : tie.Need-returns invariant-loop decreases-loop
-returns c = words-done _ _ _ _ _ (omega arith) c.loop-test.false c.before.loop.invariant.3
+returns c = words_done _ _ _ _ _ (omega arith) c.loop-test.false c.before.loop.invariant.3
 
 pub put-words-spec : {M : Type 1} → statement M
 put-words-spec =

@@ -1,6 +1,6 @@
 -- A part of the payload is `take` after `drop`, also where the payload ends before the command.
 use native.Mathlib.Omega.{arith}
-use Rattle.packet.proofs.Reading.{body-none, body-rest, body-part}
+use Rattle.packet.proofs.Reading.{body_none, body_rest, body_part}
 use borrow.Author.Rules.{rules}
 use Rattle.packet.proofs.cursor.body.Statement.{statement}
 use Rattle.packet.proofs.cursor.body.Tie as tie
@@ -15,7 +15,7 @@ part-result-end : tie.Need-slice-bounds-result-end
 part-result-end c = search rules
 
 returns : tie.Need-returns
-returns c = body-none _ _ _ (omega arith)
+returns c = body_none _ _ _ (omega arith)
 
 sub-result-2 : tie.Need-overflow-sub-result-2
 sub-result-2 c = search rules
@@ -27,7 +27,7 @@ part-result-end-2 : tie.Need-slice-bounds-result-end-2
 part-result-end-2 c = search rules
 
 returns-2 : tie.Need-returns-2
-returns-2 c = body-none _ _ _ (omega arith)
+returns-2 c = body_none _ _ _ (omega arith)
 
 add-from : tie.Need-overflow-add-from
 add-from c = search rules
@@ -48,7 +48,7 @@ part-result-end-3 : tie.Need-slice-bounds-result-end-3
 part-result-end-3 c = search rules
 
 returns-3 : tie.Need-returns-3
-returns-3 c = body-rest _ _ _ (omega arith) (omega arith)
+returns-3 c = body_rest _ _ _ (omega arith) (omega arith)
 
 add-end : tie.Need-overflow-add-end
 add-end c = search rules
@@ -63,7 +63,7 @@ part-result-end-4 : tie.Need-slice-bounds-result-end-4
 part-result-end-4 c = search rules
 
 returns-4 : tie.Need-returns-4
-returns-4 c = body-part _ _ _ (omega arith) _ c.before.before.size.ensures.0
+returns-4 c = body_part _ _ _ (omega arith) _ c.before.before.size.ensures.0
 
 pub body-spec : {M : Type 1} → statement M
 body-spec =

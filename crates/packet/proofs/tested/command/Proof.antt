@@ -1,6 +1,6 @@
 -- What fits is known in words, so each test chooses as the definition does.
 use native.Mathlib.Omega.{arith}
-use Rattle.packet.proofs.Written.{written-no-fit, written-long, written-done}
+use Rattle.packet.proofs.Written.{written_no_fit, written_long, written_done}
 use borrow.Author.Rules.{rules}
 use Rattle.packet.proofs.tested.command.Statement.{statement}
 use Rattle.packet.proofs.tested.command.Tie as tie
@@ -12,10 +12,10 @@ refuse-fit-requires : tie.Need-refuse-fit-requires
 refuse-fit-requires c κs = search rules
 
 returns : tie.Need-returns
-returns c = written-no-fit _ _ _ (search rules) _ c.refuse-fit.ensures (omega arith)
+returns c = written_no_fit _ _ _ (search rules) _ c.refuse-fit.ensures (omega arith)
 
 returns-2 : tie.Need-returns-2
-returns-2 c = written-long _ _ _ (search rules) (omega arith) (omega arith)
+returns-2 c = written_long _ _ _ (search rules) (omega arith) (omega arith)
 
 put-requires : tie.Need-put-requires
 put-requires c κs = search rules
@@ -24,7 +24,7 @@ same_length : tie.Need-same-length
 same_length c = c.before.buf.given
 
 returns-3 : tie.Need-returns-3
-returns-3 c = written-done _ _ _ (search rules) (omega arith) _ _ (omega arith) c.before.before.put.ensures.0 c.before.before.put.ensures.1
+returns-3 c = written_done _ _ _ (search rules) (omega arith) _ _ (omega arith) c.before.before.put.ensures.0 c.before.before.put.ensures.1
 
 pub command-spec : {M : Type 1} → statement M
 command-spec =

@@ -1,7 +1,7 @@
 -- Header and words, stored after what the payload begins with, are the command's bytes.
 use mathlib.Core.Path.{◌∙◌}
 use native.Mathlib.Omega.{arith}
-use Rattle.packet.proofs.Written.{placed-words}
+use Rattle.packet.proofs.Written.{placed_words}
 use borrow.Author.Rules.{rules}
 use Rattle.packet.proofs.tested.put.Statement.{statement}
 use Rattle.packet.proofs.tested.put.Tie as tie
@@ -40,7 +40,7 @@ returns c =
     let begun = header.before.before.before.before in
     let entry = begun.before.before.before.before in (
       omega arith,
-      placed-words entry.args.p _ _ _ _ _ _ _ _ _ begun.begin.ensures.0 begun.begin.ensures.1 header.put-header.ensures words.put-words.ensures (omega arith),
+      placed_words entry.args.p _ _ _ _ _ _ _ _ _ begun.begin.ensures.0 begun.begin.ensures.1 header.put-header.ensures words.put-words.ensures (omega arith),
     )
 
 pub put_spec : {M : Type 1} → statement M

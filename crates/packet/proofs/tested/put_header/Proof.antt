@@ -1,7 +1,7 @@
 -- Four stores are one run of four bytes.
 use native.Mathlib.Omega.{arith}
 use lib.ListN.{length-set}
-use Rattle.packet.proofs.Splice.{spliced-four}
+use Rattle.packet.proofs.Splice.{spliced_four}
 use borrow.Author.Rules.{rules}
 use Rattle.packet.proofs.tested.put_header.Statement.{statement}
 use Rattle.packet.proofs.tested.put_header.Tie as tie
@@ -31,7 +31,7 @@ same_length : tie.Need-same-length
 same_length c = search rules
 
 returns : tie.Need-returns
-returns c = spliced-four _ _ _ _ _ _ (search rules)
+returns c = spliced_four _ _ _ _ _ _ (search rules)
 
 pub put-header-spec : {M : Type 1} → statement M
 put-header-spec =

@@ -2,7 +2,7 @@
 use mathlib.Core.Path.{◌∙◌}
 use native.Mathlib.Omega.{arith}
 use lib.ListN.{length-append}
-use Rattle.packet.proofs.Written.{placed-runs}
+use Rattle.packet.proofs.Written.{placed_runs}
 use borrow.Author.Rules.{rules}
 use Rattle.packet.proofs.tested.put_runs.Statement.{statement}
 use Rattle.packet.proofs.tested.put_runs.Tie as tie
@@ -57,7 +57,7 @@ returns c =
     let begun = header.before.before.before.before in
     let entry = begun.before.before.before.before.before in (
       simp length-append (omega arith),
-      placed-runs entry.args.p _ _ _ _ _ _ _ _ _ _ _ begun.begin.ensures.0 begun.begin.ensures.1 header.put-header.ensures words₁.put-words.ensures words₂.put-words2.ensures (omega arith),
+      placed_runs entry.args.p _ _ _ _ _ _ _ _ _ _ _ begun.begin.ensures.0 begun.begin.ensures.1 header.put-header.ensures words₁.put-words.ensures words₂.put-words2.ensures (omega arith),
     )
 
 pub put-runs-spec : {M : Type 1} → statement M

@@ -1,8 +1,8 @@
 -- By cases of what stands there.
 use mathlib.Core.Path.{sym, ◌∙◌}
 use native.Mathlib.Omega.{arith}
-use Rattle.packet.proofs.Reading.{next-found}
-use Rattle.read_command.proofs.Found.{part_body, part-few, item-end, item-cut, item-whole}
+use Rattle.packet.proofs.Reading.{next_found}
+use Rattle.read_command.proofs.Found.{part_body, part_few, item_end, item_cut, item_whole}
 use borrow.Author.Rules.{rules}
 use Rattle.read_command.proofs.next.item.Statement.{statement}
 use Rattle.read_command.proofs.next.item.Tie as tie
@@ -26,27 +26,27 @@ enum-known-header-2 : tie.Need-enum-known-header-2
 enum-known-header-2 c = search rules
 
 add-from : tie.Need-overflow-add-from
-add-from c = omega (arith, next-found _ _ _ _ _ (sym c.before.before.before.next.ensures ∙ c.before.header2.given.1))
+add-from c = omega (arith, next_found _ _ _ _ _ (sym c.before.before.before.next.ensures ∙ c.before.header2.given.1))
 
 sub-whole : tie.Need-overflow-sub-whole
-sub-whole c = omega (arith, next-found _ _ _ _ _ (sym c.before.before.before.next.ensures ∙ c.before.header2.given.1))
+sub-whole c = omega (arith, next_found _ _ _ _ _ (sym c.before.before.before.next.ensures ∙ c.before.header2.given.1))
 
 part-whole-start : tie.Need-slice-bounds-whole-start
-part-whole-start c = omega (arith, next-found _ _ _ _ _ (sym c.before.before.before.next.ensures ∙ c.before.header2.given.1))
+part-whole-start c = omega (arith, next_found _ _ _ _ _ (sym c.before.before.before.next.ensures ∙ c.before.header2.given.1))
 
 part-whole-end : tie.Need-slice-bounds-whole-end
-part-whole-end c = omega (arith, next-found _ _ _ _ _ (sym c.before.before.before.next.ensures ∙ c.before.header2.given.1))
+part-whole-end c = omega (arith, next_found _ _ _ _ _ (sym c.before.before.before.next.ensures ∙ c.before.header2.given.1))
 
 whole-requires : tie.Need-whole-requires
 whole-requires c κs =
     let h = c.before.before.before.before in
-    (part-few _ _ _ _ _ (sym h.before.before.next.ensures ∙ h.header2.given.1) (omega arith), omega arith, omega arith)
+    (part_few _ _ _ _ _ (sym h.before.before.next.ensures ∙ h.header2.given.1) (omega arith), omega arith, omega arith)
 
 returns : tie.Need-returns
-returns c = item-end _ _ _ _ (sym c.before.before.before.next.ensures ∙ c.before.enum_told.given.1) _ c.refused.ensures
+returns c = item_end _ _ _ _ (sym c.before.before.before.next.ensures ∙ c.before.enum_told.given.1) _ c.refused.ensures
 
 returns-2 : tie.Need-returns-2
-returns-2 c = item-cut _ _ _ _ _ (sym c.before.before.before.before.next.ensures ∙ c.before.before.header.given.1) _ c.csd.ensures
+returns-2 c = item_cut _ _ _ _ _ (sym c.before.before.before.before.next.ensures ∙ c.before.before.header.given.1) _ c.csd.ensures
 
 same_length : tie.Need-same-length
 same_length c = search rules
@@ -59,7 +59,7 @@ returns-3 c =
     let w = c.before.before.before.before in
     let h = w.before.before.before.before.before in
     let e = sym h.before.before.next.ensures ∙ h.header2.given.1 in
-    item-whole _ _ _ _ _ _ _ e _ (part_body _ _ _ _ _ e) _ w.whole.ensures
+    item_whole _ _ _ _ _ _ _ e _ (part_body _ _ _ _ _ e) _ w.whole.ensures
 
 pub item-spec : {M : Type 1} → statement M
 item-spec =

@@ -1,7 +1,7 @@
 -- The tests in their order.
 use mathlib.Core.Path.{sym, ◌∙◌}
 use native.Mathlib.Omega.{arith}
-use Rattle.read_command.proofs.Found.{read-words, read-lens, read-item, read-unsigned}
+use Rattle.read_command.proofs.Found.{read_words, read_lens, read_item, read_unsigned}
 use borrow.Author.Rules.{rules}
 use Rattle.read_command.proofs.next.next.Statement.{statement}
 use Rattle.read_command.proofs.next.next.Tie as tie
@@ -10,13 +10,13 @@ refused-requires : tie.Need-refused-requires
 refused-requires c κs = search rules
 
 returns : tie.Need-returns
-returns c = read-words _ _ _ _ c.before.if1.true _ c.refused.ensures
+returns c = read_words _ _ _ _ c.before.if1.true _ c.refused.ensures
 
 refused-requires-2 : tie.Need-refused-requires-2
 refused-requires-2 c κs = search rules
 
 returns-2 : tie.Need-returns-2
-returns-2 c = read-lens _ _ _ _ c.before.before.if1.false c.before.if2.true _ c.refused2.ensures
+returns-2 c = read_lens _ _ _ _ c.before.before.if1.false c.before.if2.true _ c.refused2.ensures
 
 opens-requires : tie.Need-opens-requires
 opens-requires c κs = search rules
@@ -39,7 +39,7 @@ returns-3 c =
     let first = i.before.before.before in
     let there = first.before in
     let e = there.before.before in
-    read-item _ _ _ _ e.before.if1.false e.if2.false (sym there.before.opens.ensures ∙ there.if3.true) _ first.first.ensures _ i.item.ensures
+    read_item _ _ _ _ e.before.if1.false e.if2.false (sym there.before.opens.ensures ∙ there.if3.true) _ first.first.ensures _ i.item.ensures
 
 refused-requires-3 : tie.Need-refused-requires-3
 refused-requires-3 c κs = search rules
@@ -47,7 +47,7 @@ refused-requires-3 c κs = search rules
 returns-4 : tie.Need-returns-4
 returns-4 c =
     let e = c.before.before.before in
-    read-unsigned _ _ _ _ e.before.if1.false e.if2.false (sym c.before.before.opens.ensures ∙ c.before.if3.false) _ c.refused3.ensures
+    read_unsigned _ _ _ _ e.before.if1.false e.if2.false (sym c.before.before.opens.ensures ∙ c.before.if3.false) _ c.refused3.ensures
 
 pub next-spec : {M : Type 1} → statement M
 next-spec =

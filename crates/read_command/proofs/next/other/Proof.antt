@@ -1,7 +1,7 @@
 -- By cases of what is read; it is not data.
 use mathlib.Core.Path.{sym, ap, ◌∙◌}
-use Rattle.read_command.specs.Next.{commandRead}
-use Rattle.read_command.proofs.Found.{other-data}
+use Rattle.read_command.specs.Next.{command_read}
+use Rattle.read_command.proofs.Found.{other_data}
 use borrow.Author.Rules.{rules}
 use Rattle.read_command.proofs.next.other.Statement.{statement}
 use Rattle.read_command.proofs.next.other.Tie as tie
@@ -31,21 +31,21 @@ number-requires : tie.Need-number-requires
 number-requires c κs = search rules
 
 returns : tie.Need-returns
-returns c = other-data _ _ _ c.before.before.before.before.before.requires (sym c.before.before.before.parse.ensures ∙ c.before.d.given.1)
+returns c = other_data _ _ _ c.before.before.before.before.before.requires (sym c.before.before.before.parse.ensures ∙ c.before.d.given.1)
 
 returns-2 : tie.Need-returns-2
-returns-2 c = sym (ap (commandRead _ _ _) (sym c.before.before.before.parse.ensures ∙ c.before.r.given.1))
+returns-2 c = sym (ap (command_read _ _ _) (sym c.before.before.before.parse.ensures ∙ c.before.r.given.1))
 
 returns-3 : tie.Need-returns-3
-returns-3 c = sym (ap (commandRead _ _ _) (sym c.before.before.before.parse.ensures ∙ c.before.e.given.1))
+returns-3 c = sym (ap (command_read _ _ _) (sym c.before.before.before.parse.ensures ∙ c.before.e.given.1))
 
 returns-4 : tie.Need-returns-4
 returns-4 c =
-    rw c.csd.ensures (sym (ap (commandRead _ _ _) (sym c.before.before.before.before.parse.ensures ∙ c.before.before.h.given.1)))
+    rw c.csd.ensures (sym (ap (command_read _ _ _) (sym c.before.before.before.before.parse.ensures ∙ c.before.before.h.given.1)))
 
 returns-5 : tie.Need-returns-5
 returns-5 c =
-    rw c.number.ensures (sym (ap (commandRead _ _ _) (sym c.before.before.before.before.parse.ensures ∙ c.before.before.why.given.1)))
+    rw c.number.ensures (sym (ap (command_read _ _ _) (sym c.before.before.before.before.parse.ensures ∙ c.before.before.why.given.1)))
 
 pub other-spec : {M : Type 1} → statement M
 other-spec =

@@ -6,12 +6,12 @@ use native.Mathlib.Omega.{arith}
 use borrow.Author.Rules.{rules}
 use lib.ListN.{length, drop, length-set, length-drop}
 use Rattle.packet.specs.Bytes.{spliced}
-use Rattle.packet.proofs.Splice.{spliced-nil}
-use Rattle.command.specs.Messages.{messageAt, itemWords, wholeWords}
-use Rattle.command.specs.inner.Messages.{step-few, step_fits, whole-turn, whole-stop, whole-end}
-use Rattle.read_command.specs.Words.{lengthsOf}
-use Rattle.read_command.proofs.Stores.{store-first}
-use Rattle.read_command.proofs.Lengths.{lengths-few, lengths-turn, lengths-stop, lengths-end}
+use Rattle.packet.proofs.Splice.{spliced_nil}
+use Rattle.command.specs.Messages.{message_at, item_words, whole_words}
+use Rattle.command.specs.inner.Messages.{step_few, step_fits, whole_turn_lem, whole_stop, whole_end}
+use Rattle.read_command.specs.Words.{lengths_of}
+use Rattle.read_command.proofs.Stores.{store_first}
+use Rattle.read_command.proofs.Lengths.{lengths_few, lengths_turn, lengths_stop, lengths_end}
 use Rattle.read_command.proofs.words.lengths.Statement.{statement}
 use Rattle.read_command.proofs.words.lengths.Tie as tie
 
@@ -21,15 +21,15 @@ invariant-loop words out₀ i₀ k₀ same₀ out i k same =
     × (i ≤ length words)
     × (length words ≤ length out₀)
     × (length out ≡ length out₀)
-    × (i + length (wholeWords (drop i words)) ≡ length (wholeWords words))
-    × (spliced out k (lengthsOf (drop i words)) ≡ spliced out₀ 0 (lengthsOf words))
+    × (i + length (whole_words (drop i words)) ≡ length (whole_words words))
+    × (spliced out k (lengths_of (drop i words)) ≡ spliced out₀ 0 (lengths_of words))
     × (1 ≤ same)
 
 abbrev decreases-loop : tie.decreases-loop
 decreases-loop words out₀ i₀ k₀ same₀ out i k same = length words - i
 
 -- `same` after the tests: the words of the message at hand, of which there is one
-read : (c : tie.Joined1 invariant-loop decreases-loop) → c.if1.same ≡ itemWords (messageAt c.before.before.before.before.before.before.args.words.now c.before.before.before.loop.i)
+read : (c : tie.Joined1 invariant-loop decreases-loop) → c.if1.same ≡ item_words (message_at c.before.before.before.before.before.before.args.words.now c.before.before.before.loop.i)
 read c = ⊎_elim (λ (f, g, e). e) (λ (f, e). e ∙ sym f.left) c.if1.branch ∙ c.before.message-at.ensures
 
 some : (c : tie.Joined1 invariant-loop decreases-loop) → 1 ≤ c.if1.same
@@ -52,13 +52,13 @@ returns c =
     let w = c.before.before in
     let l = w.before.before.loop in
     let e = w.message-at.ensures in (
-      whole-stop _ _ _ e _ l.invariant.4 c.if2.true,
+      whole_stop _ _ _ e _ l.invariant.4 c.if2.true,
       omega arith,
-      sym (spliced-nil _ _ (omega arith)) ∙ rw (lengths-stop _ _ _ e c.if2.true) at l.invariant.5,
+      sym (spliced_nil _ _ (omega arith)) ∙ rw (lengths_stop _ _ _ e c.if2.true) at l.invariant.5,
     )
 
 cast-out : tie.Need-overflow-cast-out invariant-loop decreases-loop
-cast-out c = omega (arith, step-few _ _ _ (read c.before))
+cast-out c = omega (arith, step_few _ _ _ (read c.before))
 
 slice-write-out : tie.Need-slice-write-out invariant-loop decreases-loop
 slice-write-out c = search rules
@@ -79,14 +79,14 @@ loop-again c =
     let words = j.before.before.before.before.before.before.args.words.now in
     let f = fits j in
     let s = some j in
-    let few = lengths-few (drop (l.i + j.if1.same) words) in
+    let few = lengths_few (drop (l.i + j.if1.same) words) in
     let d = length-drop (l.i + j.if1.same) words in (
       omega arith,
       f,
       omega arith,
       simp length-set (omega arith),
-      whole-turn _ _ _ (read j) _ l.invariant.4 s,
-      store-first _ _ _ _ (omega arith) ∙ rw (lengths-turn words l.i _ (read j) s) at l.invariant.5,
+      whole_turn_lem _ _ _ (read j) _ l.invariant.4 s,
+      store_first _ _ _ _ (omega arith) ∙ rw (lengths_turn words l.i _ (read j) s) at l.invariant.5,
       s,
     )
 
@@ -97,9 +97,9 @@ returns-2 : tie.Need-returns-2 invariant-loop decreases-loop
 returns-2 c =
     let words = c.before.before.before.before.args.words.now in
     let l = c.before.loop in (
-      whole-end words l.i _ c.loop-test.false l.invariant.4,
+      whole_end words l.i _ c.loop-test.false l.invariant.4,
       omega arith,
-      sym (spliced-nil _ _ (omega arith)) ∙ rw (lengths-end words l.i c.loop-test.false) at l.invariant.5,
+      sym (spliced_nil _ _ (omega arith)) ∙ rw (lengths_end words l.i c.loop-test.false) at l.invariant.5,
     )
 
 pub lengths-spec : {M : Type 1} → statement M

@@ -6,9 +6,9 @@ use borrow.Author.Rules.{rules}
 use lib.ListN.{length, take, length-set}
 use lib.Seq.{take_all}
 use Rattle.packet.specs.Bytes.{words_of, spliced}
-use Rattle.packet.proofs.Reading.{length-wordsOf}
-use Rattle.packet.proofs.Splice.{spliced-nil}
-use Rattle.read_command.proofs.Stores.{put-turn}
+use Rattle.packet.proofs.Reading.{length_words_of}
+use Rattle.packet.proofs.Splice.{spliced_nil}
+use Rattle.read_command.proofs.Stores.{put_turn}
 use Rattle.read_command.proofs.words.put.Statement.{statement}
 use Rattle.read_command.proofs.words.put.Tie as tie
 
@@ -22,7 +22,7 @@ decreases-loop body out₀ n j₀ out j = n - j
 loop-holds : tie.Need-loop-init invariant-loop decreases-loop
 loop-holds c =
     let p = c.before.before.requires in
-    (omega arith, p, omega arith, sym (spliced-nil _ _ (omega arith)))
+    (omega arith, p, omega arith, sym (spliced_nil _ _ (omega arith)))
 
 word-at-requires : tie.Need-word-at-requires invariant-loop decreases-loop
 word-at-requires c κs = search rules
@@ -31,7 +31,7 @@ mul-out : tie.Need-overflow-mul-out invariant-loop decreases-loop
 mul-out c = search rules
 
 slice-write-out : tie.Need-slice-write-out invariant-loop decreases-loop
-slice-write-out c = omega (arith, length-wordsOf c.before.before.before.before.before.args.body.now)
+slice-write-out c = omega (arith, length_words_of c.before.before.before.before.before.args.body.now)
 
 add-j : tie.Need-overflow-add-j invariant-loop decreases-loop
 add-j c = search rules
@@ -43,12 +43,12 @@ loop-again : tie.Need-loop-preserved invariant-loop decreases-loop
 loop-again c =
     let a = c.before.before.before.before.before.args in
     let l = c.before.before.loop in
-    let n = length-wordsOf a.body.now in
+    let n = length_words_of a.body.now in
     let z : 0 + l.j ≡ l.j = omega arith in (
       omega arith,
       omega arith,
       simp length-set (omega arith),
-      rw (l.invariant.3, c.word_at.ensures) (rw z at (put-turn a.out.now (words_of a.body.now) 0 l.j (omega arith) (omega arith))),
+      rw (l.invariant.3, c.word_at.ensures) (rw z at (put_turn a.out.now (words_of a.body.now) 0 l.j (omega arith) (omega arith))),
     )
 
 same_length : tie.Need-same-length invariant-loop decreases-loop
@@ -58,7 +58,7 @@ returns : tie.Need-returns invariant-loop decreases-loop
 returns c =
     let a = c.before.before.before.before.args in
     let l = c.before.loop in
-    let n = length-wordsOf a.body.now in
+    let n = length_words_of a.body.now in
     (omega arith, l.invariant.3 ∙ ap (spliced a.out.now 0) (take_all l.j (words_of a.body.now) (omega arith)))
 
 pub put_spec : {M : Type 1} → statement M

@@ -1,6 +1,6 @@
 -- Each class tells.
 use mathlib.Core.Path.{ap, sym}
-use Rattle.receiver.specs.Messages.{handsOn}
+use Rattle.receiver.specs.Messages.{hands_on}
 use borrow.Author.Rules.{rules}
 use Rattle.receiver.proofs.messages.delivers.Statement.{statement}
 use Rattle.receiver.proofs.messages.delivers.Tie as tie
@@ -15,13 +15,13 @@ enum-told-3 : tie.Need-enum-told-3
 enum-told-3 c = search rules
 
 returns : tie.Need-returns
-returns c = ap handsOn (sym c.enum_told.given.1)
+returns c = ap hands_on (sym c.enum_told.given.1)
 
 returns-2 : tie.Need-returns-2
-returns-2 c = ap handsOn (sym c.enum-told2.given.1)
+returns-2 c = ap hands_on (sym c.enum-told2.given.1)
 
 returns-3 : tie.Need-returns-3
-returns-3 c = ap handsOn (sym c.enum-told3.given.1)
+returns-3 c = ap hands_on (sym c.enum-told3.given.1)
 
 pub delivers-spec : {M : Type 1} → statement M
 delivers-spec =

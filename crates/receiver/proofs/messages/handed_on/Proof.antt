@@ -2,7 +2,7 @@
 use mathlib.Core.Path.{sym, ◌∙◌}
 use native.Mathlib.Omega.{arith}
 use lib.Seq.{length-take-le}
-use Rattle.receiver.proofs.Handed.{whole-bytes, handed-part, handed-none}
+use Rattle.receiver.proofs.Handed.{whole_bytes, handed_part, handed_none}
 use borrow.Author.Rules.{rules}
 use Rattle.receiver.proofs.messages.handed_on.Statement.{statement}
 use Rattle.receiver.proofs.messages.handed_on.Tie as tie
@@ -14,21 +14,21 @@ whole-words-in-requires : tie.Need-whole-words-in-requires
 whole-words-in-requires c κs = search rules
 
 mul-end : tie.Need-overflow-mul-end
-mul-end c = omega (arith, whole-bytes c.before.before.before.before.args.body.now)
+mul-end c = omega (arith, whole_bytes c.before.before.before.before.args.body.now)
 
 slice-aggregate-result : tie.Need-slice-aggregate-result
 slice-aggregate-result c =
-    sym (length-take-le _ _ (omega (arith, whole-bytes c.before.before.before.before.before.args.body.now)))
+    sym (length-take-le _ _ (omega (arith, whole_bytes c.before.before.before.before.before.args.body.now)))
 
 returns : tie.Need-returns
 returns c =
-    handed-part _ _ (sym c.before.before.before.delivers.ensures ∙ c.before.before.if1.true) _ c.before.whole-words-in.ensures
+    handed_part _ _ (sym c.before.before.before.delivers.ensures ∙ c.before.before.if1.true) _ c.before.whole-words-in.ensures
 
 slice-aggregate-result-2 : tie.Need-slice-aggregate-result-2
 slice-aggregate-result-2 c = search rules
 
 returns-2 : tie.Need-returns-2
-returns-2 c = handed-none _ _ (sym c.before.before.delivers.ensures ∙ c.before.if1.false)
+returns-2 c = handed_none _ _ (sym c.before.before.delivers.ensures ∙ c.before.if1.false)
 
 pub handed_on-spec : {M : Type 1} → statement M
 handed_on-spec =

@@ -1,5 +1,5 @@
 -- Only a New number with a count above 0 has skipped any.
-use Rattle.receiver.proofs.Settled.{gap-skipped}
+use Rattle.receiver.proofs.Settled.{gap_skipped}
 use borrow.Author.Rules.{rules}
 use Rattle.receiver.proofs.tested.gap.Statement.{statement}
 use Rattle.receiver.proofs.tested.gap.Tie as tie
@@ -21,7 +21,7 @@ enum-told-2 c = search rules
 
 returns-2 : tie.Need-returns-2
 returns-2 c =
-    gap-skipped _ _ _ _ c.before.before.before.class.given.1 c.before.if1.false c.add.ensures
+    gap_skipped _ _ _ _ c.before.before.before.class.given.1 c.before.if1.false c.add.ensures
 
 returns-3 : tie.Need-returns-3
 returns-3 c = search rules

@@ -1,6 +1,6 @@
 -- What is reported is what was missing before all was marked.
 use mathlib.Core.Path.{sym, ◌∙◌}
-use Rattle.receiver.proofs.Polled.{gave-nothing, gave-range}
+use Rattle.receiver.proofs.Polled.{gave_nothing, gave_range}
 use borrow.Author.Rules.{rules}
 use Rattle.receiver.proofs.tested.give_up.Statement.{statement}
 use Rattle.receiver.proofs.tested.give_up.Tie as tie
@@ -25,11 +25,11 @@ enum-known-range c = search rules
 
 returns : tie.Need-returns
 returns c =
-    c.quiet.ensures ∙ gave-nothing _ _ _ _ c.before.before.before.before.before.mark-all.ensures c.before.before.before.before.rest.ensures (sym c.before.before.before.missing.ensures ∙ c.before.enum_told.given.1)
+    c.quiet.ensures ∙ gave_nothing _ _ _ _ c.before.before.before.before.before.mark-all.ensures c.before.before.before.before.rest.ensures (sym c.before.before.before.missing.ensures ∙ c.before.enum_told.given.1)
 
 returns-2 : tie.Need-returns-2
 returns-2 c =
-    gave-range _ _ _ _ c.before.before.before.before.before.mark-all.ensures c.before.before.before.before.rest.ensures _ (sym c.before.before.before.missing.ensures ∙ c.before.range.given.1)
+    gave_range _ _ _ _ c.before.before.before.before.before.mark-all.ensures c.before.before.before.before.rest.ensures _ (sym c.before.before.before.missing.ensures ∙ c.before.range.given.1)
 
 pub give-up-spec : {M : Type 1} → statement M
 give-up-spec =

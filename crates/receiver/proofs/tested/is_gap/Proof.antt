@@ -1,6 +1,6 @@
 -- Only a New number with a count above 0 has skipped any.
 use mathlib.Core.Path.{ap, sym}
-use Rattle.receiver.specs.Receiver.{isGap}
+use Rattle.receiver.specs.Receiver.{is_gap}
 use borrow.Author.Rules.{rules}
 use Rattle.receiver.proofs.tested.is_gap.Statement.{statement}
 use Rattle.receiver.proofs.tested.is_gap.Tie as tie
@@ -15,7 +15,7 @@ enum-told-2 : tie.Need-enum-told-2
 enum-told-2 c = search rules
 
 returns : tie.Need-returns
-returns c = ap isGap (sym c.before.class.given.1)
+returns c = ap is_gap (sym c.before.class.given.1)
 
 returns-2 : tie.Need-returns-2
 returns-2 c = search rules

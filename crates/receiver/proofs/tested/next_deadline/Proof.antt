@@ -1,5 +1,5 @@
 -- The timer tells the time.
-use Rattle.receiver.proofs.Taken.{deadline-timer}
+use Rattle.receiver.proofs.Taken.{deadline_timer}
 use borrow.Author.Rules.{rules}
 use Rattle.receiver.proofs.tested.next_deadline.Statement.{statement}
 use Rattle.receiver.proofs.tested.next_deadline.Tie as tie
@@ -11,10 +11,10 @@ enum-known-timer : tie.Need-enum-known-timer
 enum-known-timer c = search rules
 
 returns : tie.Need-returns
-returns c = deadline-timer _ _ c.enum_told.given.1
+returns c = deadline_timer _ _ c.enum_told.given.1
 
 returns-2 : tie.Need-returns-2
-returns-2 c = deadline-timer _ _ c.before.timer.given.1
+returns-2 c = deadline_timer _ _ c.before.timer.given.1
 
 pub next-deadline-spec : {M : Type 1} → statement M
 next-deadline-spec = tie.close (tie.spec enum_told enum-known-timer returns returns-2)

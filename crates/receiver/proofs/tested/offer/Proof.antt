@@ -1,5 +1,5 @@
 -- The request was written, or it did not fit.
-use Rattle.receiver.proofs.Taken.{offered-done, offered-refused}
+use Rattle.receiver.proofs.Taken.{offered_done, offered_refused}
 use borrow.Author.Rules.{rules}
 use Rattle.receiver.proofs.tested.offer.Statement.{statement}
 use Rattle.receiver.proofs.tested.offer.Tie as tie
@@ -24,14 +24,14 @@ same_length c = c.before.before.before.before.before.buf.given
 
 returns : tie.Need-returns
 returns c =
-    offered-done _ _ _ _ _ _ c.before.before.before.before.before.before.write-request.ensures _ c.with-asked.ensures c.before.enum_told.given.1
+    offered_done _ _ _ _ _ _ c.before.before.before.before.before.before.write_request.ensures _ c.with-asked.ensures c.before.enum_told.given.1
 
 same-length-2 : tie.Need-same-length-2
 same-length-2 c = c.before.before.before.before.before.buf.given
 
 returns-2 : tie.Need-returns-2
 returns-2 c =
-    offered-refused _ _ _ _ _ _ c.before.before.before.before.before.before.write-request.ensures _ _ c.no-fit.ensures c.before.enum-told2.given.1
+    offered_refused _ _ _ _ _ _ c.before.before.before.before.before.before.write_request.ensures _ _ c.no-fit.ensures c.before.enum-told2.given.1
 
 pub offer-spec : {M : Type 1} → statement M
 offer-spec =

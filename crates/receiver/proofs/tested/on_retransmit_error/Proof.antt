@@ -1,6 +1,6 @@
 -- No request is unanswered, or one is.
 use mathlib.Core.Path.{◌∙◌}
-use Rattle.receiver.proofs.Losses.{error-asked}
+use Rattle.receiver.proofs.Losses.{error_asked}
 use borrow.Author.Rules.{rules}
 use Rattle.receiver.proofs.tested.on_retransmit_error.Statement.{statement}
 use Rattle.receiver.proofs.tested.on_retransmit_error.Tie as tie
@@ -15,10 +15,10 @@ error-to-requires : tie.Need-error-to-requires
 error-to-requires c κs = search rules
 
 returns : tie.Need-returns
-returns c = error-asked _ _ _ c.enum_told.given.1
+returns c = error_asked _ _ _ c.enum_told.given.1
 
 returns-2 : tie.Need-returns-2
-returns-2 c = c.error-to.ensures ∙ error-asked _ _ _ c.before.before.asked.given.1
+returns-2 c = c.error-to.ensures ∙ error_asked _ _ _ c.before.before.asked.given.1
 
 pub on-retransmit-error-spec : {M : Type 1} → statement M
 on-retransmit-error-spec =

@@ -1,12 +1,12 @@
 -- The number is in order, ahead or behind, and each way meets the contract.
 use mathlib.Core.Path.{sym, ◌∙◌}
-use Rattle.receiver.proofs.Validity.{valid-window}
+use Rattle.receiver.proofs.Validity.{valid_window}
 use borrow.Author.Rules.{rules}
 use Rattle.receiver.proofs.tested.on_ump_data.Statement.{statement}
 use Rattle.receiver.proofs.tested.on_ump_data.Tie as tie
 
 in-order-requires : tie.Need-in-order-requires
-in-order-requires c κs = valid-window _ c.before.requires
+in-order-requires c κs = valid_window _ c.before.requires
 
 heard-next-requires : tie.Need-heard-next-requires
 heard-next-requires c κs =

@@ -1,6 +1,6 @@
 -- No timer, or one that runs.
 use mathlib.Core.Path.{◌∙◌}
-use Rattle.receiver.proofs.Polled.{polled-timer}
+use Rattle.receiver.proofs.Polled.{polled_timer}
 use borrow.Author.Rules.{rules}
 use Rattle.receiver.proofs.tested.poll.Statement.{statement}
 use Rattle.receiver.proofs.tested.poll.Tie as tie
@@ -18,10 +18,10 @@ poll-running-requires : tie.Need-poll-running-requires
 poll-running-requires c κs = search rules
 
 returns : tie.Need-returns
-returns c = c.quiet.ensures ∙ polled-timer _ _ _ _ c.before.enum_told.given.1
+returns c = c.quiet.ensures ∙ polled_timer _ _ _ _ c.before.enum_told.given.1
 
 returns-2 : tie.Need-returns-2
-returns-2 c = c.poll-running.ensures ∙ polled-timer _ _ _ _ c.before.before.timer.given.1
+returns-2 c = c.poll-running.ensures ∙ polled_timer _ _ _ _ c.before.before.timer.given.1
 
 pub poll_spec : {M : Type 1} → statement M
 poll_spec =

@@ -1,9 +1,9 @@
 -- The tests choose as the definition does; it gives up where one of the last two fails.
 use mathlib.Core.Path.{ap, sym, ◌∙◌}
 use mathlib.Core.Logic.{⊎_elim}
-use Rattle.receiver.specs.Receiver.{quietOf}
-use Rattle.receiver.proofs.Validity.{valid-window}
-use Rattle.receiver.proofs.Polled.{polled-early, polled-none, polled-asks, polled-spent, polled-disabled}
+use Rattle.receiver.specs.Receiver.{quiet_of}
+use Rattle.receiver.proofs.Validity.{valid_window}
+use Rattle.receiver.proofs.Polled.{polled_early, polled_none, polled_asks, polled_spent, polled_disabled}
 use borrow.Author.Rules.{rules}
 use Rattle.receiver.proofs.tested.poll_running.Statement.{statement}
 use Rattle.receiver.proofs.tested.poll_running.Tie as tie
@@ -14,10 +14,10 @@ quiet-requires c κs = search rules
 returns : tie.Need-returns
 returns c =
     let start = c.before.before.before.args in
-    c.quiet.ensures ∙ polled-early start.r start.cfg start.time start.t c.before.if1.true
+    c.quiet.ensures ∙ polled_early start.r start.cfg start.time start.t c.before.if1.true
 
 complete-requires : tie.Need-complete-requires
-complete-requires c κs = valid-window _ c.before.before.before.requires
+complete-requires c κs = valid_window _ c.before.before.before.requires
 
 rest-requires : tie.Need-rest-requires
 rest-requires c κs = search rules
@@ -30,8 +30,8 @@ returns-2 c =
     let none = c.before.before in
     let late = none.before.before.before in
     let start = late.before.before.args in
-    c.quiet2.ensures ∙ ap quietOf c.before.rest.ensures
-    ∙ polled-none start.r start.cfg start.time start.t late.if1.false (sym none.before.complete.ensures ∙ none.if2.true)
+    c.quiet2.ensures ∙ ap quiet_of c.before.rest.ensures
+    ∙ polled_none start.r start.cfg start.time start.t late.if1.false (sym none.before.complete.ensures ∙ none.if2.true)
 
 enabled-requires : tie.Need-enabled-requires
 enabled-requires c κs = search rules
@@ -51,10 +51,10 @@ returns-3 c =
     let late = some.before.before.before in
     let start = late.before.before.args in
     c.quiet3.ensures
-    ∙ polled-asks start.r start.cfg start.time start.t late.if1.false (sym some.before.complete.ensures ∙ some.if2.false) _ c.before.due-after.ensures c.before.before.before.before.before.if3.true (sym c.before.before.before.before.enabled.ensures ∙ c.before.before.before.if4.true)
+    ∙ polled_asks start.r start.cfg start.time start.t late.if1.false (sym some.before.complete.ensures ∙ some.if2.false) _ c.before.due-after.ensures c.before.before.before.before.before.if3.true (sym c.before.before.before.before.enabled.ensures ∙ c.before.before.before.if4.true)
 
 give-up-requires : tie.Need-give-up-requires
-give-up-requires c κs = valid-window _ c.before.before.before.before.before.before.before.before.requires
+give-up-requires c κs = valid_window _ c.before.before.before.before.before.before.before.before.requires
 
 returns-4 : tie.Need-returns-4
 returns-4 c =
@@ -64,8 +64,8 @@ returns-4 c =
     let missing = sym some.before.complete.ensures ∙ some.if2.false in
     c.give-up.ensures
     ∙ ⊎_elim
-    (λ w. polled-disabled start.r start.cfg start.time start.t late.if1.false missing w.0.taken (sym w.1.ensures ∙ w.2.left))
-    (λ w. polled-spent start.r start.cfg start.time start.t late.if1.false missing w.left)
+    (λ w. polled_disabled start.r start.cfg start.time start.t late.if1.false missing w.0.taken (sym w.1.ensures ∙ w.2.left))
+    (λ w. polled_spent start.r start.cfg start.time start.t late.if1.false missing w.left)
     c.before.if3.branch
 
 pub poll-running-spec : {M : Type 1} → statement M

@@ -5,16 +5,16 @@ use native.Mathlib.Omega.{arith}
 use native.Mathlib.Nat.{sub_self}
 use lib.ListN.{length}
 use borrow.Author.Rules.{rules}
-use Rattle.packet.specs.Write.{freeOf}
+use Rattle.packet.specs.Write.{free_of}
 use Rattle.packet.specs.declared.writer.PayloadWriter.{PayloadWriter}
-use Rattle.history.specs.Headers.{header_at, wordsFrom, entriesFrom}
+use Rattle.history.specs.Headers.{header_at, words_from, entries_from}
 use Rattle.history.specs.Entries.{Short}
-use Rattle.history.specs.Written.{entryPacket}
-use Rattle.history.proofs.Walk.{words-first, header-none}
-use Rattle.rows.specs.Rows.{packetsFrom}
-use Rattle.rows.specs.Choice.{repeatsOf}
-use Rattle.rows.proofs.Packets.{short-first, header-next, words-some}
-use Rattle.rows.proofs.Choice.{repeats-drop, repeats-stay}
+use Rattle.history.specs.Written.{entry_packet}
+use Rattle.history.proofs.Walk.{words_first, header_none}
+use Rattle.rows.specs.Rows.{packets_from}
+use Rattle.rows.specs.Choice.{repeats_of}
+use Rattle.rows.proofs.Packets.{short_first, header_next, words_some}
+use Rattle.rows.proofs.Choice.{repeats_drop, repeats_stay}
 use Rattle.rows.proofs.tested.repeats.Statement.{statement}
 use Rattle.rows.proofs.tested.repeats.Tie as tie
 
@@ -22,11 +22,11 @@ abbrev invariant-loop : tie.invariant-loop
 invariant-loop buf ring at k words first free room i₀ count₀ left₀ i count left =
     (i < length ring)
     × (count ≤ k)
-    × Short (entriesFrom count ring i)
-    × (left ≡ wordsFrom count ring i)
+    × Short (entries_from count ring i)
+    × (left ≡ words_from count ring i)
     × (i ≡ header_at (k - count) ring at)
-    × ((p : PayloadWriter) → free ≡ freeOf p (length buf)
-    → repeatsOf p buf (entryPacket ring first) (packetsFrom count ring i) ≡ repeatsOf p buf (entryPacket ring first) (packetsFrom k ring at))
+    × ((p : PayloadWriter) → free ≡ free_of p (length buf)
+    → repeats_of p buf (entry_packet ring first) (packets_from count ring i) ≡ repeats_of p buf (entry_packet ring first) (packets_from k ring at))
 
 abbrev decreases-loop : tie.decreases-loop
 decreases-loop buf ring at k words first free room i₀ count₀ left₀ i count left = count
@@ -44,7 +44,7 @@ sub-room : tie.Need-overflow-sub-room invariant-loop decreases-loop
 sub-room c = omega (arith, c.pl.ensures, c.before.free-words.ensures, c.before.before.before.before.requires.3)
 
 loop-holds : tie.Need-loop-init invariant-loop decreases-loop
-loop-holds c = let p = c.before.before.before.before.requires in (p.0.inside, omega arith, p.0.short, p.1, rw sub_self (sym (header-none _ _)), λ q e. refl)
+loop-holds c = let p = c.before.before.before.before.requires in (p.0.inside, omega arith, p.0.short, p.1, rw sub_self (sym (header_none _ _)), λ q e. refl)
 
 pl-requires-2 : tie.Need-pl-requires-2 invariant-loop decreases-loop
 pl-requires-2 c κs = search rules
@@ -55,38 +55,38 @@ add_left c = search rules
 sub-left : tie.Need-overflow-sub-left invariant-loop decreases-loop
 sub-left c =
     let l = c.before.before.loop in
-    let some = words-some l.count c.before.before.before.before.before.before.before.args.ring.now l.i _ c.before.loop-test.true l.invariant.3 in
-    omega (arith, l.invariant.3, words-first l.count c.before.before.before.before.before.before.before.args.ring.now l.i some, c.pl2.ensures)
+    let some = words_some l.count c.before.before.before.before.before.before.before.args.ring.now l.i _ c.before.loop-test.true l.invariant.3 in
+    omega (arith, l.invariant.3, words_first l.count c.before.before.before.before.before.before.before.args.ring.now l.i some, c.pl2.ensures)
 
 next-index-requires : tie.Need-next-index-requires invariant-loop decreases-loop
 next-index-requires c κs =
     let l = c.before.before.loop in
     let p = c.before.before.before.before.before.before.before.requires in
-    let some = words-some l.count c.before.before.before.before.before.before.before.args.ring.now l.i _ c.before.loop-test.true l.invariant.3 in
-    (l.invariant.0, p.0.least, p.0.most, (short-first _ _ _ some l.invariant.2).0)
+    let some = words_some l.count c.before.before.before.before.before.before.before.args.ring.now l.i _ c.before.loop-test.true l.invariant.3 in
+    (l.invariant.0, p.0.least, p.0.most, (short_first _ _ _ some l.invariant.2).0)
 
 sub-count : tie.Need-overflow-sub-count invariant-loop decreases-loop
 sub-count c =
     let l = c.before.before.before.loop in
-    words-some l.count c.before.before.before.before.before.before.before.before.args.ring.now l.i _ c.before.before.loop-test.true l.invariant.3
+    words_some l.count c.before.before.before.before.before.before.before.before.args.ring.now l.i _ c.before.before.loop-test.true l.invariant.3
 
 loop-less : tie.Need-loop-smaller invariant-loop decreases-loop
 loop-less c =
     let l = c.before.before.before.loop in
-    omega (arith, words-some l.count c.before.before.before.before.before.before.before.before.args.ring.now l.i _ c.before.before.loop-test.true l.invariant.3)
+    omega (arith, words_some l.count c.before.before.before.before.before.before.before.before.args.ring.now l.i _ c.before.before.loop-test.true l.invariant.3)
 
 loop-again : tie.Need-loop-preserved invariant-loop decreases-loop
 loop-again c =
     let l = c.before.before.before.loop in
     let ring = c.before.before.before.before.before.before.before.before.args.ring.now in
-    let some = words-some l.count ring l.i _ c.before.before.loop-test.true l.invariant.3 in
+    let some = words_some l.count ring l.i _ c.before.before.loop-test.true l.invariant.3 in
     let e = c.next-index.ensures in (
       e.1,
       omega (arith, l.invariant.1),
-      rw e.0 (short-first _ _ _ some l.invariant.2).1,
-      rw e.0 (omega (arith, l.invariant.3, words-first l.count ring l.i some, c.before.pl2.ensures)),
-      header-next _ _ ring _ _ _ some l.invariant.1 l.invariant.4 e.0,
-      λ p f. rw e.0 (sym (repeats-drop p c.before.before.before.before.before.before.before.before.args.buf.now ring c.before.before.before.before.before.before.before.before.args.first l.count l.i some (omega (arith, f, l.invariant.3, c.before.before.before.before.pl.ensures, c.before.before.loop-test.true))) ∙ l.invariant.5 p f),
+      rw e.0 (short_first _ _ _ some l.invariant.2).1,
+      rw e.0 (omega (arith, l.invariant.3, words_first l.count ring l.i some, c.before.pl2.ensures)),
+      header_next _ _ ring _ _ _ some l.invariant.1 l.invariant.4 e.0,
+      λ p f. rw e.0 (sym (repeats_drop p c.before.before.before.before.before.before.before.before.args.buf.now ring c.before.before.before.before.before.before.before.before.args.first l.count l.i some (omega (arith, f, l.invariant.3, c.before.before.before.before.pl.ensures, c.before.before.loop-test.true))) ∙ l.invariant.5 p f),
     )
 
 returns : tie.Need-returns invariant-loop decreases-loop
@@ -96,7 +96,7 @@ returns c =
     let f = c.before.before.before.free-words.ensures in
     let n = c.before.before.pl.ensures in
     record {
-      packets = sym (repeats-stay start.args.p start.args.buf.now start.args.ring.now start.args.first l.count l.i (omega (arith, f, n, l.invariant.3, start.requires.3, c.loop-test.false))) ∙ l.invariant.5 _ f;
+      packets = sym (repeats_stay start.args.p start.args.buf.now start.args.ring.now start.args.first l.count l.i (omega (arith, f, n, l.invariant.3, start.requires.3, c.loop-test.false))) ∙ l.invariant.5 _ f;
       few = l.invariant.1;
       place = l.invariant.4;
       words = l.invariant.3;

@@ -4,19 +4,19 @@ use Prim.Native.Nat.{◌+◌, ◌<◌}
 use native.Mathlib.Omega.{arith}
 use lib.ListN.{length}
 use borrow.Author.Rules.{rules}
-use Rattle.history.specs.Headers.{header_at, wordsFrom, entriesFrom}
+use Rattle.history.specs.Headers.{header_at, words_from, entries_from}
 use Rattle.history.specs.Entries.{Short}
-use Rattle.history.proofs.Walk.{header-first, header-none, words-first, words-none}
+use Rattle.history.proofs.Walk.{header_first, header_none, words_first, words_none}
 use Rattle.rows.proofs.tested.walk.Statement.{statement}
-use Rattle.rows.proofs.Packets.{short-first}
+use Rattle.rows.proofs.Packets.{short_first}
 use Rattle.rows.proofs.tested.walk.Tie as tie
 
 abbrev invariant-loop : tie.invariant-loop
 invariant-loop ring at k i₀ words₀ left₀ i words left =
     (i < length ring)
-    × Short (entriesFrom left ring i)
+    × Short (entries_from left ring i)
     × (header_at left ring i ≡ header_at k ring at)
-    × (words + wordsFrom left ring i ≡ wordsFrom k ring at)
+    × (words + words_from left ring i ≡ words_from k ring at)
 
 abbrev decreases-loop : tie.decreases-loop
 decreases-loop ring at k i₀ words₀ left₀ i words left = left
@@ -33,13 +33,13 @@ add_words c = search rules
 add-words-2 : tie.Need-overflow-add-words-2 invariant-loop decreases-loop
 add-words-2 c =
     let l = c.before.before.loop in
-    omega (arith, l.invariant.3, words-first l.left c.before.before.before.before.args.ring.now l.i c.before.loop-test.true, c.pl.ensures, c.before.before.before.before.requires.1)
+    omega (arith, l.invariant.3, words_first l.left c.before.before.before.before.args.ring.now l.i c.before.loop-test.true, c.pl.ensures, c.before.before.before.before.requires.1)
 
 next-index-requires : tie.Need-next-index-requires invariant-loop decreases-loop
 next-index-requires c κs =
     let l = c.before.before.loop in
     let p = c.before.before.before.before.requires in
-    (l.invariant.0, p.0.least, p.0.most, (short-first _ _ _ c.before.loop-test.true l.invariant.1).0)
+    (l.invariant.0, p.0.least, p.0.most, (short_first _ _ _ c.before.loop-test.true l.invariant.1).0)
 
 sub-left : tie.Need-overflow-sub-left invariant-loop decreases-loop
 sub-left c = search rules
@@ -53,16 +53,16 @@ loop-again c =
     let some = c.before.before.loop-test.true in
     let e = c.next-index.ensures in (
       e.1,
-      rw e.0 (short-first _ _ _ some l.invariant.1).1,
-      rw e.0 (sym (header-first _ _ _ some) ∙ l.invariant.2),
-      rw e.0 (omega (arith, l.invariant.3, words-first l.left c.before.before.before.before.before.args.ring.now l.i some, c.before.pl.ensures)),
+      rw e.0 (short_first _ _ _ some l.invariant.1).1,
+      rw e.0 (sym (header_first _ _ _ some) ∙ l.invariant.2),
+      rw e.0 (omega (arith, l.invariant.3, words_first l.left c.before.before.before.before.before.args.ring.now l.i some, c.before.pl.ensures)),
     )
 
 returns : tie.Need-returns invariant-loop decreases-loop
 returns c =
     let l = c.before.loop in
     let z : l.left ≡ 0 = omega arith in
-    (sym (header-none _ _) ∙ rw z at l.invariant.2, l.invariant.0, omega (arith, rw (z, words-none) at l.invariant.3))
+    (sym (header_none _ _) ∙ rw z at l.invariant.2, l.invariant.0, omega (arith, rw (z, words_none) at l.invariant.3))
 
 pub walk-spec : {M : Type 1} → statement M
 walk-spec =

@@ -1,5 +1,5 @@
 -- Each answer has its own test; what is queued goes by the queue's answer.
-use Rattle.sender.proofs.Questions.{request-off, request-error, request-queued}
+use Rattle.sender.proofs.Questions.{request_off, request_error, request_queued}
 use borrow.Author.Rules.{rules}
 use Rattle.sender.proofs.tested.on_retransmit_request.Statement.{statement}
 use Rattle.sender.proofs.tested.on_retransmit_request.Tie as tie
@@ -16,7 +16,7 @@ cast-if2 c = search rules
 returns : tie.Need-returns
 returns c =
     let start = c.before.before.before.before.before.before.before in
-    request-error start.args.s start.args.cfg start.args.req c.before.before.before.before.before.before.if1.true _ c.before.distance.ensures c.if2.true
+    request_error start.args.s start.args.cfg start.args.req c.before.before.before.before.before.before.if1.true _ c.before.distance.ensures c.if2.true
 
 push-request-requires : tie.Need-push-request-requires
 push-request-requires c κs = search rules
@@ -28,10 +28,10 @@ returns-2 : tie.Need-returns-2
 returns-2 c =
     let start = c.before.before.before.before.before.before.before.before.before.before in
     let tested = c.before.before.before.before in
-    request-queued start.args.s start.args.cfg start.args.req tested.before.before.before.before.before.if1.true _ tested.distance.ensures c.before.before.before.if2.false _ c.before.before.push-request.ensures _ c.outcome.ensures
+    request_queued start.args.s start.args.cfg start.args.req tested.before.before.before.before.before.if1.true _ tested.distance.ensures c.before.before.before.if2.false _ c.before.before.push-request.ensures _ c.outcome.ensures
 
 returns-3 : tie.Need-returns-3
-returns-3 c = request-off _ _ _ c.if1.false
+returns-3 c = request_off _ _ _ c.if1.false
 
 pub on-retransmit-request-spec : {M : Type 1} → statement M
 on-retransmit-request-spec =

@@ -1,6 +1,6 @@
 -- Case by case.
 use mathlib.Core.Path.{sym, ap}
-use Rattle.sender.specs.Requests.{outcomeOf}
+use Rattle.sender.specs.Requests.{outcome_of}
 use borrow.Author.Rules.{rules}
 use Rattle.sender.proofs.tested.outcome.Statement.{statement}
 use Rattle.sender.proofs.tested.outcome.Tie as tie
@@ -15,7 +15,7 @@ returns : tie.Need-returns
 returns c = search rules
 
 returns-2 : tie.Need-returns-2
-returns-2 c = sym (ap outcomeOf c.before.answer.given.1)
+returns-2 c = sym (ap outcome_of c.before.answer.given.1)
 
 pub outcome-spec : {M : Type 1} → statement M
 outcome-spec =

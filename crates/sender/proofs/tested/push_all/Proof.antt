@@ -1,6 +1,6 @@
 -- From every command on, pushing those that are left gives what pushing all gives.
-use Rattle.fronts.proofs.Fronts.{whole-at, front_at}
-use Rattle.sender.proofs.Queued.{short-part, push-good, push-turn, push-length, push-end}
+use Rattle.fronts.proofs.Fronts.{whole_at, front_at}
+use Rattle.sender.proofs.Queued.{short_part, push_good, push_turn, push_length, push_end}
 use mathlib.Core.Path.{◌∙◌}
 use mathlib.Core.Path.{◌≡◌, refl}
 use Prim.Native.Nat.{◌+◌, ◌-◌, ◌≤◌, ◌<◌}
@@ -9,9 +9,9 @@ use borrow.Author.Rules.{rules}
 use lib.ListN.{length, drop}
 use Rattle.config.specs.Sequence.{turn}
 use Rattle.history.specs.State.{Good}
-use Rattle.fronts.specs.Commands.{commandsOf}
-use Rattle.sender.specs.Queueing.{pushedAll}
-use Rattle.fronts.proofs.Fronts.{Divides, command-fits, command-rest}
+use Rattle.fronts.specs.Commands.{commands_of}
+use Rattle.sender.specs.Queueing.{pushed_all}
+use Rattle.fronts.proofs.Fronts.{Divides, command_fits, command_rest}
 use Rattle.sender.proofs.tested.push_all.Statement.{statement}
 use Rattle.sender.proofs.tested.push_all.Tie as tie
 
@@ -21,7 +21,7 @@ invariant-loop ring₀ max words g₀ at₀ ring g at =
     × Good g ring
     × (g.oldest < turn)
     × Divides max (drop at words)
-    × (pushedAll g ring (commandsOf max (drop at words)) ≡ pushedAll g₀ ring₀ (commandsOf max words))
+    × (pushed_all g ring (commands_of max (drop at words)) ≡ pushed_all g₀ ring₀ (commands_of max words))
     × (length ring ≡ length ring₀)
 
 abbrev decreases-loop : tie.decreases-loop
@@ -45,11 +45,11 @@ part-front-words-end c = search rules
 
 front-words-requires : tie.Need-front-words-requires invariant-loop decreases-loop
 front-words-requires c κs =
-    whole-at c.before.before.before.before.before.args.words.now c.before.before.loop.at c.before.before.loop.invariant.3.whole
+    whole_at c.before.before.before.before.before.args.words.now c.before.before.loop.at c.before.before.loop.invariant.3.whole
 
 add-end : tie.Need-overflow-add-end invariant-loop decreases-loop
 add-end c =
-    omega (arith, command-fits _ _ _ _ c.before.before.loop-test.true c.before.before.before.loop.invariant.3 (front_at _ c.before.before.before.before.before.before.args.words.now c.before.before.before.loop.at _ c.front-words.ensures.0))
+    omega (arith, command_fits _ _ _ _ c.before.before.loop-test.true c.before.before.before.loop.invariant.3 (front_at _ c.before.before.before.before.before.before.args.words.now c.before.before.before.loop.at _ c.front-words.ensures.0))
 
 mul-push : tie.Need-overflow-mul-push invariant-loop decreases-loop
 mul-push c = search rules
@@ -62,19 +62,19 @@ part-push-start c = search rules
 
 part-push-end : tie.Need-slice-bounds-push-end invariant-loop decreases-loop
 part-push-end c =
-    let f = command-fits _ _ _ _ c.before.before.before.loop-test.true c.before.before.before.before.loop.invariant.3 (front_at _ c.before.before.before.before.before.before.before.args.words.now c.before.before.before.before.loop.at _ c.before.front-words.ensures.0) in
+    let f = command_fits _ _ _ _ c.before.before.before.loop-test.true c.before.before.before.before.loop.invariant.3 (front_at _ c.before.before.before.before.before.before.before.args.words.now c.before.before.before.before.loop.at _ c.before.front-words.ensures.0) in
     search rules
 
 push-requires : tie.Need-push-requires invariant-loop decreases-loop
 push-requires c κs =
     let l = c.before.before.before.before.before.loop in
-    let f = command-fits _ _ _ _ c.before.before.before.before.loop-test.true l.invariant.3 (front_at _ c.before.before.before.before.before.before.before.before.args.words.now c.before.before.before.before.before.loop.at _ c.before.before.front-words.ensures.0) in
-    (l.invariant.1, short-part _ _ _ _ f.2 c.before.before.before.before.before.before.before.before.requires.2)
+    let f = command_fits _ _ _ _ c.before.before.before.before.loop-test.true l.invariant.3 (front_at _ c.before.before.before.before.before.before.before.before.args.words.now c.before.before.before.before.before.loop.at _ c.before.before.front-words.ensures.0) in
+    (l.invariant.1, short_part _ _ _ _ f.2 c.before.before.before.before.before.before.before.before.requires.2)
 
 loop-less : tie.Need-loop-smaller invariant-loop decreases-loop
 loop-less c =
     let l = c.before.before.before.before.before.before.before.before.loop in
-    omega (arith, command-fits _ _ _ _ c.before.before.before.before.before.before.before.loop-test.true l.invariant.3 (front_at _ c.before.before.before.before.before.before.before.before.before.before.before.args.words.now c.before.before.before.before.before.before.before.before.loop.at _ c.before.before.before.before.before.front-words.ensures.0))
+    omega (arith, command_fits _ _ _ _ c.before.before.before.before.before.before.before.loop-test.true l.invariant.3 (front_at _ c.before.before.before.before.before.before.before.before.before.before.before.args.words.now c.before.before.before.before.before.before.before.before.loop.at _ c.before.before.before.before.before.front-words.ensures.0))
 
 loop-again : tie.Need-loop-preserved invariant-loop decreases-loop
 loop-again c =
@@ -83,15 +83,15 @@ loop-again c =
     let few = c.before.before.before.before.before.before.before.before.before.before.before.requires.2 in
     let e = front_at _ c.before.before.before.before.before.before.before.before.before.before.before.args.words.now c.before.before.before.before.before.before.before.before.loop.at _ c.before.before.before.before.before.front-words.ensures.0 in
     let p = c.before.before.push.ensures in
-    let f = command-fits _ _ _ _ i l.invariant.3 e in
-    let g = push-good _ _ _ _ _ _ _ _ i l.invariant.3 e few l.invariant.1 l.invariant.2 p in
-    (omega (arith, f), g.0, g.1, command-rest _ _ _ _ i l.invariant.3 e, push-turn _ _ _ _ _ _ _ _ i l.invariant.3 e few l.invariant.1 l.invariant.2 p _ l.invariant.4, push-length _ _ _ _ _ _ _ _ i l.invariant.3 e few l.invariant.1 l.invariant.2 p ∙ l.invariant.5)
+    let f = command_fits _ _ _ _ i l.invariant.3 e in
+    let g = push_good _ _ _ _ _ _ _ _ i l.invariant.3 e few l.invariant.1 l.invariant.2 p in
+    (omega (arith, f), g.0, g.1, command_rest _ _ _ _ i l.invariant.3 e, push_turn _ _ _ _ _ _ _ _ i l.invariant.3 e few l.invariant.1 l.invariant.2 p _ l.invariant.4, push_length _ _ _ _ _ _ _ _ i l.invariant.3 e few l.invariant.1 l.invariant.2 p ∙ l.invariant.5)
 
 same_length : tie.Need-same-length invariant-loop decreases-loop
 same_length c = c.before.loop.invariant.5
 
 returns : tie.Need-returns invariant-loop decreases-loop
-returns c = push-end _ _ _ _ _ _ c.loop-test.false c.before.loop.invariant.4
+returns c = push_end _ _ _ _ _ _ c.loop-test.false c.before.loop.invariant.4
 
 pub push-all-spec : {M : Type 1} → statement M
 push-all-spec =

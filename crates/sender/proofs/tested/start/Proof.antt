@@ -1,5 +1,5 @@
 -- The history is emptied and its words are zeroed.
-use Rattle.sender.proofs.Questions.{start-made}
+use Rattle.sender.proofs.Questions.{start_made}
 use borrow.Author.Rules.{rules}
 use Rattle.sender.proofs.tested.start.Statement.{statement}
 use Rattle.sender.proofs.tested.start.Tie as tie
@@ -14,7 +14,7 @@ same_length : tie.Need-same-length
 same_length c = c.before.before.ring.given
 
 returns : tie.Need-returns
-returns c = start-made _ _ c.before.before.before.before.before.before.args.ring.now _ _ _ c.before.before.before.clear.ensures c.clear-requests.ensures
+returns c = start_made _ _ c.before.before.before.before.before.before.args.ring.now _ _ _ c.before.before.before.clear.ensures c.clear-requests.ensures
 
 pub start_spec : {M : Type 1} → statement M
 start_spec = tie.close (tie.spec clear-requires clear-requests-requires same_length returns)

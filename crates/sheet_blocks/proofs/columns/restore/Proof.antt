@@ -1,6 +1,6 @@
 -- A block is stored by column with rows and columns exchanged.
-use Rattle.sheet_blocks.proofs.Blocks.{restored-fit}
-use Rattle.sheet_blocks.proofs.Stored.{restored-not, restored-done}
+use Rattle.sheet_blocks.proofs.Blocks.{restored_fit}
+use Rattle.sheet_blocks.proofs.Stored.{restored_not, restored_done}
 use borrow.Author.Rules.{rules}
 use Rattle.sheet_blocks.proofs.columns.restore.Statement.{statement}
 use Rattle.sheet_blocks.proofs.columns.restore.Tie as tie
@@ -9,19 +9,19 @@ is-block-requires : tie.Need-is-block-requires
 is-block-requires c κs = search rules
 
 put-columns-requires : tie.Need-put-columns-requires
-put-columns-requires c κs = restored-fit _ _ (cc)
+put-columns-requires c κs = restored_fit _ _ (cc)
 
 same_length : tie.Need-same-length
 same_length c = search rules
 
 returns : tie.Need-returns
-returns c = restored-done _ _ _ (cc) c.before.before.put-columns.ensures
+returns c = restored_done _ _ _ (cc) c.before.before.put-columns.ensures
 
 number-requires : tie.Need-number-requires
 number-requires c κs = search rules
 
 returns-2 : tie.Need-returns-2
-returns-2 c = restored-not _ _ _ c.number.ensures (cc)
+returns-2 c = restored_not _ _ _ c.number.ensures (cc)
 
 pub restore-spec : {M : Type 1} → statement M
 restore-spec =

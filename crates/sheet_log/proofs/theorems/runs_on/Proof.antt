@@ -1,6 +1,6 @@
 -- What every call keeps holds after all of them.
-use Rattle.sheet_log.proofs.Kept.{kept-ok, holds-started, answers-on}
-use Rattle.sheet_log.proofs.Afresh.{writes-afresh}
+use Rattle.sheet_log.proofs.Kept.{kept_ok, holds_started, answers_on}
+use Rattle.sheet_log.proofs.Afresh.{writes_afresh}
 use Rattle.sheet_log.proofs.Left.{reached}
 use Rattle.sheet_log.proofs.theorems.runs_on.Statement.{statement}
 use Rattle.sheet_log.proofs.theorems.runs_on.Tie as tie
@@ -8,9 +8,9 @@ use Rattle.sheet_log.proofs.theorems.runs_on.Tie as tie
 returns : tie.Need-returns
 returns c =
     record {
-      passes = λ n cs h t. kept-ok _ _ (holds-started n cs h t).kept;
-      answers = answers-on;
-      writes = writes-afresh;
+      passes = λ n cs h t. kept_ok _ _ (holds_started n cs h t).kept;
+      answers = answers_on;
+      writes = writes_afresh;
       reached = reached;
     }
 

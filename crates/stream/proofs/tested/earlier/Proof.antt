@@ -1,6 +1,6 @@
 -- One case for each pair of answers; of two times the smaller one.
 use mathlib.Core.Path.{refl, ◌∙◌}
-use Rattle.stream.proofs.Answers.{earlier-of, at_first, at_second}
+use Rattle.stream.proofs.Answers.{earlier_of_lem, at_first, at_second}
 use borrow.Author.Rules.{rules}
 use Rattle.stream.proofs.tested.earlier.Statement.{statement}
 use Rattle.stream.proofs.tested.earlier.Tie as tie
@@ -33,28 +33,28 @@ enum-known-b-4 : tie.Need-enum-known-b-4
 enum-known-b-4 c = search rules
 
 returns : tie.Need-returns
-returns c = at_first _ _ c.if1.true ∙ earlier-of _ _ _ _ c.before.before.before.before.before.a2.given.1 c.before.before.b4.given.1
+returns c = at_first _ _ c.if1.true ∙ earlier_of_lem _ _ _ _ c.before.before.before.before.before.a2.given.1 c.before.before.b4.given.1
 
 returns-2 : tie.Need-returns-2
-returns-2 c = earlier-of _ _ _ _ c.before.a.given.1 refl
+returns-2 c = earlier_of_lem _ _ _ _ c.before.a.given.1 refl
 
 returns-3 : tie.Need-returns-3
-returns-3 c = earlier-of _ _ _ _ c.before.before.before.enum_told.given.1 c.before.b.given.1
+returns-3 c = earlier_of_lem _ _ _ _ c.before.before.before.enum_told.given.1 c.before.b.given.1
 
 returns-4 : tie.Need-returns-4
 returns-4 c = search rules
 
 returns-5 : tie.Need-returns-5
-returns-5 c = earlier-of _ _ _ _ c.before.before.before.enum_told.given.1 c.before.b2.given.1
+returns-5 c = earlier_of_lem _ _ _ _ c.before.before.before.enum_told.given.1 c.before.b2.given.1
 
 returns-6 : tie.Need-returns-6
-returns-6 c = earlier-of _ _ _ _ c.before.before.before.before.a2.given.1 c.before.b3.given.1
+returns-6 c = earlier_of_lem _ _ _ _ c.before.before.before.before.a2.given.1 c.before.b3.given.1
 
 returns-7 : tie.Need-returns-7
-returns-7 c = earlier-of _ _ _ _ c.before.before.before.a2.given.1 c.enum-told3.given.1
+returns-7 c = earlier_of_lem _ _ _ _ c.before.before.before.a2.given.1 c.enum-told3.given.1
 
 returns-8 : tie.Need-returns-8
-returns-8 c = at_second _ _ c.if1.false ∙ earlier-of _ _ _ _ c.before.before.before.before.before.a2.given.1 c.before.before.b4.given.1
+returns-8 c = at_second _ _ c.if1.false ∙ earlier_of_lem _ _ _ _ c.before.before.before.before.before.a2.given.1 c.before.before.b4.given.1
 
 pub earlier-spec : {M : Type 1} → statement M
 earlier-spec =

@@ -4,9 +4,9 @@ use mathlib.Core.Logic.{⊎_elim}
 use Prim.Native.Nat.{ℕ, ◌≤◌}
 use native.Mathlib.Omega.{arith}
 use lib.ListN.{length}
-use Rattle.stream.proofs.Validity.{valid-receiver, valid-sender}
-use Rattle.stream.proofs.Taking.{taken-valid}
-use Rattle.stream.proofs.Writing.{after-taken, after_none, after_one, after-not-due}
+use Rattle.stream.proofs.Validity.{valid_receiver, valid_sender}
+use Rattle.stream.proofs.Taking.{taken_valid}
+use Rattle.stream.proofs.Writing.{after_taken, after_none, after_one, after_not_due}
 use borrow.Author.Rules.{rules}
 use Rattle.stream.proofs.tested.write_data.Statement.{statement}
 use Rattle.stream.proofs.tested.write_data.Tie as tie
@@ -18,7 +18,7 @@ one : (n : ℕ) → n ≡ 1 → n ≤ 1
 one n e = omega arith
 
 write-request-requires : tie.Need-write-request-requires
-write-request-requires c κs = let pre = c.before.before.before.before.before.before.requires in (valid-receiver _ _ pre.1, pre.2)
+write-request-requires c κs = let pre = c.before.before.before.before.before.before.requires in (valid_receiver _ _ pre.1, pre.2)
 
 enum-known-answer : tie.Need-enum-known-answer
 enum-known-answer c = search rules
@@ -29,7 +29,7 @@ same_length c = c.before.before.before.before.before.before.buf.given
 returns : tie.Need-returns
 returns c =
     let start = c.before.before.before.before.before.before.before.before.before.before.before.before.before.before in
-    after-taken start.args.s start.args.cfg start.args.time start.args.p _ _ c.before.before.before.before.before.before.before.write-request.result _ c.before.before.before.before.before.before.before.write-request.ensures _ c.before.answer.given.1
+    after_taken start.args.s start.args.cfg start.args.time start.args.p _ _ c.before.before.before.before.before.before.before.write_request.result _ c.before.before.before.before.before.before.before.write_request.ensures _ c.before.answer.given.1
 
 enum_told : tie.Need-enum-told
 enum_told c = search rules
@@ -40,7 +40,7 @@ same-length-2 c = c.before.before.before.before.before.buf.given
 returns-2 : tie.Need-returns-2
 returns-2 c =
     let start = c.before.before.before.before.before.before.before.before.before.before.before.before.before in
-    after-taken start.args.s start.args.cfg start.args.time start.args.p _ _ c.before.before.before.before.before.before.write-request.result _ c.before.before.before.before.before.before.write-request.ensures _ c.enum_told.given.1
+    after_taken start.args.s start.args.cfg start.args.time start.args.p _ _ c.before.before.before.before.before.before.write_request.result _ c.before.before.before.before.before.before.write_request.ensures _ c.enum_told.given.1
 
 enum-told-2 : tie.Need-enum-told-2
 enum-told-2 c = search rules
@@ -54,10 +54,10 @@ write-after-requires c κs =
     let came = c.before.before.if1.branch in (
       ⊎_elim (λ w. none _ w.12) (⊎_elim (λ w. one _ w.12) (λ w. none _ w.4)) came,
       pre.0,
-      valid-sender _ _ pre.1,
+      valid_sender _ _ pre.1,
       ⊎_elim
-          (λ w. rw (w.9, w.11) (taken-valid _ _ _ _ pre.2 _ _ w.2.ensures))
-          (⊎_elim (λ w. rw (w.9, w.11) (taken-valid _ _ _ _ pre.2 _ _ w.2.ensures)) (λ w. rw (w.1, w.3) pre.2))
+          (λ w. rw (w.9, w.11) (taken_valid _ _ _ _ pre.2 _ _ w.2.ensures))
+          (⊎_elim (λ w. rw (w.9, w.11) (taken_valid _ _ _ _ pre.2 _ _ w.2.ensures)) (λ w. rw (w.1, w.3) pre.2))
           came,
       pre.3,
     )
@@ -85,7 +85,7 @@ returns-3 c =
     (λ w. after_none s cfg time p _ _ w.2.result _ w.2.ensures w.9 w.10 w.11 w.12 w.8.given.1)
     (⊎_elim
     (λ w. after_one s cfg time p _ _ w.2.result _ w.2.ensures w.9 w.10 w.11 w.12 w.8.given.1)
-    (λ w. after-not-due s cfg time p _ _ w.0.left w.1 w.2 w.3 w.4))
+    (λ w. after_not_due s cfg time p _ _ w.0.left w.1 w.2 w.3 w.4))
     c.before.before.before.before.before.before.before.if1.branch
 
 pub write-data-spec : {M : Type 1} → statement M

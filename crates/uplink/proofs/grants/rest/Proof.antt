@@ -5,7 +5,7 @@ use native.Mathlib.Omega.{arith}
 use lib.ListN.{length, drop}
 use borrow.Author.Rules.{rules}
 use Rattle.uplink.specs.Grants.{sum, firsts}
-use Rattle.uplink.proofs.Rows.{firsts-step, firsts-end}
+use Rattle.uplink.proofs.Rows.{firsts_step, firsts_end}
 use Rattle.uplink.proofs.grants.rest.Statement.{statement}
 use Rattle.uplink.proofs.grants.rest.Tie as tie
 
@@ -32,7 +32,7 @@ sub-left : tie.Need-overflow-sub-left invariant-loop decreases-loop
 sub-left c =
     let l = c.before.before.before.loop in
     let s = c.before.before.before.before.before.args in
-    omega (arith, firsts-step s.share s.wants.now l.i c.before.before.loop-test.true)
+    omega (arith, firsts_step s.share s.wants.now l.i c.before.before.loop-test.true)
 
 add-i : tie.Need-overflow-add-i invariant-loop decreases-loop
 add-i c = search rules
@@ -44,12 +44,12 @@ loop-again : tie.Need-loop-preserved invariant-loop decreases-loop
 loop-again c =
     let l = c.before.before.before.loop in
     let s = c.before.before.before.before.before.args in
-    (search rules, omega (arith, firsts-step s.share s.wants.now l.i c.before.before.loop-test.true))
+    (search rules, omega (arith, firsts_step s.share s.wants.now l.i c.before.before.loop-test.true))
 
 returns : tie.Need-returns invariant-loop decreases-loop
 returns c =
     let s = c.before.before.before.args in
-    omega (arith, firsts-end s.share s.wants.now c.before.loop.i c.loop-test.false)
+    omega (arith, firsts_end s.share s.wants.now c.before.loop.i c.loop-test.false)
 
 pub rest-spec : {M : Type 1} → statement M
 rest-spec =

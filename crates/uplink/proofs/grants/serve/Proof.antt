@@ -6,7 +6,7 @@ use lib.ListN.{length, drop}
 use lib.Seq.{sets}
 use borrow.Author.Rules.{rules}
 use Rattle.uplink.specs.Grants.{granted, left_of}
-use Rattle.uplink.proofs.Rows.{granted-step, left_step, granted-end, left_end}
+use Rattle.uplink.proofs.Rows.{granted_step, left_step, granted_end, left_end}
 use Rattle.uplink.proofs.grants.serve.Statement.{statement}
 use Rattle.uplink.proofs.grants.serve.Tie as tie
 
@@ -65,14 +65,14 @@ loop-again c =
     let t = c.before.before.before.loop-test.true in
     let first = c.before.smaller.ensures in
     let more = c.smaller2.ensures in
-    (search rules, granted-step s.share s.row.now l.i t l.left _ _ _ refl first more l.grants s.at ∙ l.invariant.1, left_step s.share s.row.now l.i t l.left _ _ _ refl first more ∙ l.invariant.2)
+    (search rules, granted_step s.share s.row.now l.i t l.left _ _ _ refl first more l.grants s.at ∙ l.invariant.1, left_step s.share s.row.now l.i t l.left _ _ _ refl first more ∙ l.invariant.2)
 
 returns : tie.Need-returns invariant-loop decreases-loop
 returns c =
     let l = c.before.loop in
     let s = c.before.before.before.args in
     let t = c.loop-test.false in
-    cc (granted-end s.share s.row.now l.i t l.left (s.at + l.i) l.grants, left_end s.share s.row.now l.i t l.left)
+    cc (granted_end s.share s.row.now l.i t l.left (s.at + l.i) l.grants, left_end s.share s.row.now l.i t l.left)
 
 pub serve-spec : {M : Type 1} → statement M
 serve-spec =

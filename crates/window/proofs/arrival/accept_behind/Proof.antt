@@ -3,8 +3,8 @@ use mathlib.Core.Path.{◌≡◌, sym, ◌∙◌}
 use mathlib.Core.Bool.{false}
 use native.Mathlib.Omega.{arith}
 use Rattle.window.specs.Window.{processed}
-use Rattle.window.proofs.Positions.{unprocessed-in}
-use Rattle.window.proofs.Accepts.{behind-duplicate, behind-late}
+use Rattle.window.proofs.Positions.{unprocessed_in}
+use Rattle.window.proofs.Accepts.{behind_duplicate, behind_late}
 use borrow.Author.Rules.{rules}
 use Rattle.window.proofs.arrival.accept_behind.Statement.{statement}
 use Rattle.window.proofs.arrival.accept_behind.Tie as tie
@@ -24,18 +24,18 @@ processed-at-requires c κs = search rules
 returns : tie.Need-returns
 returns c =
     let d = c.before.before in
-    behind-duplicate _ _ d.distance.ensures d.before.before.requires.1 (sym c.before.processed-at.ensures ∙ c.if1.true)
+    behind_duplicate _ _ d.distance.ensures d.before.before.requires.1 (sym c.before.processed-at.ensures ∙ c.if1.true)
 
 sub-with : tie.Need-overflow-sub-with
-sub-with c = let i = unprocessed-in _ _ (late c) in omega arith
+sub-with c = let i = unprocessed_in _ _ (late c) in omega arith
 
 with-requires : tie.Need-with-requires
-with-requires c κs = let i = unprocessed-in _ _ (late c) in omega arith
+with-requires c κs = let i = unprocessed_in _ _ (late c) in omega arith
 
 returns-2 : tie.Need-returns-2
 returns-2 c =
     let d = c.before.before.before in
-    behind-late _ _ d.distance.ensures d.before.before.requires.1 (late c.before) c.with.ensures
+    behind_late _ _ d.distance.ensures d.before.before.requires.1 (late c.before) c.with.ensures
 
 pub accept-behind-spec : {M : Type 1} → statement M
 accept-behind-spec =

@@ -2,7 +2,7 @@
 use mathlib.Core.Path.{ap, ◌∙◌}
 use Prim.Native.Nat.{ℕ, ◌+◌, ◌-◌, ◌*◌, ◌%◌, ◌^◌}
 use lib.Bits.{bit_or}
-use Rattle.window.specs.Set.{maxWindow, val, setOf}
+use Rattle.window.specs.Set.{max_window, val, set_of}
 use Rattle.window.proofs.Words.{val_is, push}
 use Rattle.window.proofs.Operations.{mod_times}
 use borrow.Author.Rules.{rules}
@@ -25,9 +25,9 @@ returns : tie.Need-returns
 returns c =
     let w = c.before in
     let a = w.before.before.args in
-    let one = val_is _ _ w.with.ensures ∙ ap (λ (x : ℕ). bit_or x (2 ^ 0)) (val_is _ _ w.before.shifted.ensures) ∙ push (val a.s) (maxWindow - 1) in
+    let one = val_is _ _ w.with.ensures ∙ ap (λ (x : ℕ). bit_or x (2 ^ 0)) (val_is _ _ w.before.shifted.ensures) ∙ push (val a.s) (max_window - 1) in
     c.shifted2.ensures
-    ∙ ap setOf (ap (λ (x : ℕ). (x * 2 ^ (a.d - 1)) % 2 ^ maxWindow) one ∙ mod_times (val a.s * 2 + 1) (2 ^ (a.d - 1)) (2 ^ maxWindow))
+    ∙ ap set_of (ap (λ (x : ℕ). (x * 2 ^ (a.d - 1)) % 2 ^ max_window) one ∙ mod_times (val a.s * 2 + 1) (2 ^ (a.d - 1)) (2 ^ max_window))
 
 pub moved-spec : {M : Type 1} → statement M
 moved-spec =

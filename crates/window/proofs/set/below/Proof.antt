@@ -3,7 +3,7 @@ use mathlib.Core.Path.{◌≡◌}
 use Prim.Native.Nat.{◌-◌, ◌%◌, ◌^◌, ◌<◌}
 use native.Mathlib.Omega.{arith}
 use Rattle.window.specs.Set.{val}
-use Rattle.window.proofs.Words.{below-not, below-low, below-high}
+use Rattle.window.proofs.Words.{below_not, below_low, below_high}
 use borrow.Author.Rules.{rules}
 use Rattle.window.proofs.set.below.Statement.{statement}
 use Rattle.window.proofs.set.below.Tie as tie
@@ -28,7 +28,7 @@ unfolding val
 returns c =
     let s = c.before.before.before in
     let x = s.args.s in
-    below-not x.high x.low (bounds s).1 s.args.n (omega arith) c.if2.true
+    below_not x.high x.low (bounds s).1 s.args.n (omega arith) c.if2.true
 
 returns-2 : tie.Need-returns-2
 unfolding val
@@ -36,7 +36,7 @@ returns-2 c =
     let s = c.before.before.before.before in
     let x = s.args.s in
     let n = s.args.n in
-    below-low x.high x.low (bounds s).1 n ((128 - n) % 64) (omega arith) c.before.if2.false
+    below_low x.high x.low (bounds s).1 n ((128 - n) % 64) (omega arith) c.before.if2.false
 
 returns-3 : tie.Need-returns-3
 unfolding val
@@ -44,7 +44,7 @@ returns-3 c =
     let s = c.before.before in
     let x = s.args.s in
     let n = s.args.n in
-    below-high x.high x.low (bounds s).1 n ((128 - n) % 64) (omega arith) (omega arith)
+    below_high x.high x.low (bounds s).1 n ((128 - n) % 64) (omega arith) (omega arith)
 
 pub below-spec : {M : Type 1} → statement M
 below-spec = tie.close (tie.spec mul-last sub-last cast-last shr-last returns returns-2 returns-3)

@@ -5,7 +5,7 @@ use native.Mathlib.Nat.{mod-lt}
 use native.Mathlib.Omega.{arith}
 use lib.Pow.{pow_pos}
 use Rattle.window.specs.Set.{val}
-use Rattle.window.proofs.Words.{of_words, bits-words}
+use Rattle.window.proofs.Words.{of_words, bits_words}
 use borrow.Author.Rules.{rules}
 use Rattle.window.proofs.set.bits_up.Statement.{statement}
 use Rattle.window.proofs.set.bits_up.Tie as tie
@@ -37,7 +37,7 @@ returns c =
     let s = c.before.before.before in
     let x = s.args.s in
     let n = s.args.n in
-    of_words _ _ (mod-lt (x.low * 2 ^ n) (pow_pos 64)) _ (bits-words x.high x.low (bounds s).1 n (64 - n) (whole s))
+    of_words _ _ (mod-lt (x.low * 2 ^ n) (pow_pos 64)) _ (bits_words x.high x.low (bounds s).1 n (64 - n) (whole s))
 
 pub bits-up-spec : {M : Type 1} → statement M
 bits-up-spec = tie.close (tie.spec shl-t4 shl-t6 sub-t7 cast-t8 shr-t9 returns)

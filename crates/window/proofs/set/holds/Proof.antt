@@ -3,7 +3,7 @@ use mathlib.Core.Path.{sym}
 use Prim.Native.Nat.{◌-◌, ◌^◌, ◌<◌}
 use native.Mathlib.Omega.{arith}
 use Rattle.window.specs.Set.{val}
-use Rattle.window.proofs.Digits.{has-low, has-high}
+use Rattle.window.proofs.Digits.{has_low, has_high}
 use borrow.Author.Rules.{rules}
 use Rattle.window.proofs.set.holds.Statement.{statement}
 use Rattle.window.proofs.set.holds.Tie as tie
@@ -18,7 +18,7 @@ returns : tie.Need-returns
 unfolding val
 returns c =
     let s = c.before.before in
-    sym (has-low s.args.s.high 64 s.args.s.low s.args.k (omega arith))
+    sym (has_low s.args.s.high 64 s.args.s.low s.args.k (omega arith))
 
 cast-result : tie.Need-overflow-cast-result
 cast-result c = search rules
@@ -30,7 +30,7 @@ returns-2 : tie.Need-returns-2
 unfolding val
 returns-2 c =
     let s = c.before.before in
-    sym (has-high s.args.s.high 64 s.args.s.low s.args.k (bounds s).1 (omega arith))
+    sym (has_high s.args.s.high 64 s.args.s.low s.args.k (bounds s).1 (omega arith))
 
 pub holds-spec : {M : Type 1} → statement M
 holds-spec = tie.close (tie.spec shr-result returns cast-result shr-result-2 returns-2)

@@ -2,7 +2,7 @@
 use Prim.Native.Nat.{◌-◌, ◌%◌, ◌^◌, ◌<◌}
 use native.Mathlib.Omega.{arith}
 use Rattle.window.specs.Set.{val}
-use Rattle.window.proofs.Words.{all-low, all-not, all-high}
+use Rattle.window.proofs.Words.{all_low, all_not, all_high}
 use borrow.Author.Rules.{rules}
 use Rattle.window.proofs.set.is_lowest.Statement.{statement}
 use Rattle.window.proofs.set.is_lowest.Tie as tie
@@ -28,14 +28,14 @@ returns c =
     let s = c.before.before in
     let x = s.args.s in
     let n = s.args.n in
-    all-low x.high x.low (bounds s).1 n ((128 - n) % 64) (omega arith) s.requires.2
+    all_low x.high x.low (bounds s).1 n ((128 - n) % 64) (omega arith) s.requires.2
 
 returns-2 : tie.Need-returns-2
 unfolding val
 returns-2 c =
     let s = c.before.before.before in
     let x = s.args.s in
-    all-not x.high x.low (bounds s).1 s.args.n (omega arith) c.if2.true
+    all_not x.high x.low (bounds s).1 s.args.n (omega arith) c.if2.true
 
 returns-3 : tie.Need-returns-3
 unfolding val
@@ -43,7 +43,7 @@ returns-3 c =
     let s = c.before.before.before.before in
     let x = s.args.s in
     let n = s.args.n in
-    all-high x.high x.low (bounds s).1 n (omega arith) ((128 - n) % 64) (omega arith) c.before.if2.false
+    all_high x.high x.low (bounds s).1 n (omega arith) ((128 - n) % 64) (omega arith) c.before.if2.false
 
 pub is-lowest-spec : {M : Type 1} → statement M
 is-lowest-spec =

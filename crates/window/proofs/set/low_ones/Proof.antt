@@ -1,7 +1,7 @@
 -- None for n = 0.
 use mathlib.Core.Path.{ap, sym, ◌∙◌}
 use Prim.Native.Nat.{ℕ, ◌-◌, ◌^◌}
-use Rattle.window.specs.Set.{setOf}
+use Rattle.window.specs.Set.{set_of}
 use borrow.Author.Rules.{rules}
 use Rattle.window.proofs.set.low_ones.Statement.{statement}
 use Rattle.window.proofs.set.low_ones.Tie as tie
@@ -11,7 +11,7 @@ none-requires c κs = search rules
 
 returns : tie.Need-returns
 returns c =
-    c.none.ensures ∙ ap (λ (x : ℕ). setOf (2 ^ x - 1)) (sym c.before.if1.true)
+    c.none.ensures ∙ ap (λ (x : ℕ). set_of (2 ^ x - 1)) (sym c.before.if1.true)
 
 lowest-requires : tie.Need-lowest-requires
 lowest-requires c κs = search rules

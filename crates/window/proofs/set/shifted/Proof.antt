@@ -3,9 +3,9 @@ use mathlib.Core.Path.{◌≡◌, sym, ap, ◌∙◌}
 use Prim.Native.Nat.{ℕ, ◌+◌, ◌-◌, ◌*◌, ◌%◌, ◌^◌, ◌<◌}
 use native.Mathlib.Nat.{mod-eq_of_lt, mul-one}
 use native.Mathlib.Omega.{arith}
-use Rattle.window.specs.Set.{maxWindow, val, setOf}
-use Rattle.window.proofs.Words.{of_words, words-lt}
-use Rattle.window.proofs.Operations.{shl-out}
+use Rattle.window.specs.Set.{max_window, val, set_of}
+use Rattle.window.proofs.Words.{of_words, words_lt}
+use Rattle.window.proofs.Operations.{shl_out}
 use borrow.Author.Rules.{rules}
 use Rattle.window.proofs.set.shifted.Statement.{statement}
 use Rattle.window.proofs.set.shifted.Tie as tie
@@ -20,7 +20,7 @@ returns c =
     let x = s.args.s in
     let b = bounds s in
     of_words x.high x.low b.1 _
-    (sym (ap (λ (n : ℕ). (val x * 2 ^ n) % 2 ^ maxWindow) c.if1.true ∙ ap (λ (y : ℕ). y % 2 ^ maxWindow) (mul-one (val x)) ∙ mod-eq_of_lt (words-lt x.high x.low b.0 b.1)))
+    (sym (ap (λ (n : ℕ). (val x * 2 ^ n) % 2 ^ max_window) c.if1.true ∙ ap (λ (y : ℕ). y % 2 ^ max_window) (mul_one (val x)) ∙ mod-eq_of_lt (words_lt x.high x.low b.0 b.1)))
 
 bits-up-requires : tie.Need-bits-up-requires
 bits-up-requires c κs = search rules
@@ -35,7 +35,7 @@ returns-3 : tie.Need-returns-3
 returns-3 c =
     let a = c.before.before.before.before.args in
     let whole : a.n - 64 + 64 ≡ a.n = omega arith in
-    c.word-up.ensures ∙ ap (λ (n : ℕ). setOf ((val a.s * 2 ^ n) % 2 ^ maxWindow)) whole
+    c.word-up.ensures ∙ ap (λ (n : ℕ). set_of ((val a.s * 2 ^ n) % 2 ^ max_window)) whole
 
 none-requires : tie.Need-none-requires
 none-requires c κs = search rules
@@ -43,7 +43,7 @@ none-requires c κs = search rules
 returns-4 : tie.Need-returns-4
 returns-4 c =
     let a = c.before.before.before.before.args in
-    c.none.ensures ∙ ap setOf (shl-out (val a.s) a.n maxWindow (omega arith))
+    c.none.ensures ∙ ap set_of (shl_out (val a.s) a.n max_window (omega arith))
 
 pub shifted-spec : {M : Type 1} → statement M
 shifted-spec =

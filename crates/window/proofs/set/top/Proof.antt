@@ -5,7 +5,7 @@ use native.Mathlib.Nat.{pos_of_ne-zero}
 use native.Mathlib.Omega.{arith}
 use lib.Dec.{lit<, lit≤}
 use borrow.Author.Rules.{rules}
-use Rattle.window.specs.Set.{maxWindow, val}
+use Rattle.window.specs.Set.{max_window, val}
 use Rattle.window.proofs.Ends.{top1, top0}
 use Rattle.window.proofs.set.top.Statement.{statement}
 use Rattle.window.proofs.set.top.Tie as tie
@@ -16,7 +16,7 @@ bounds c = omega arith
 small : (n z : ℕ) → 63 ≤ n → z ≤ 63 → z ≤ n
 small n z p q = omega arith
 
-below : (n z : ℕ) → n < maxWindow → n - z < maxWindow
+below : (n z : ℕ) → n < max_window → n - z < max_window
 below n z p = omega arith
 
 less : (z : ℕ) → z ≤ 63 → 127 - z ≡ 63 - z + 64

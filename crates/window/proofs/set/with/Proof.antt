@@ -3,7 +3,7 @@ use mathlib.Core.Path.{◌≡◌}
 use Prim.Native.Nat.{◌+◌, ◌-◌, ◌^◌, ◌<◌}
 use native.Mathlib.Omega.{arith}
 use Rattle.window.specs.Set.{val}
-use Rattle.window.proofs.Words.{with-low, with-high}
+use Rattle.window.proofs.Words.{with_low, with_high}
 use borrow.Author.Rules.{rules}
 use Rattle.window.proofs.set.with.Statement.{statement}
 use Rattle.window.proofs.set.with.Tie as tie
@@ -18,7 +18,7 @@ returns : tie.Need-returns
 unfolding val
 returns c =
     let s = c.before.before in
-    with-low s.args.s.high s.args.s.low (bounds s).1 s.args.k (omega arith)
+    with_low s.args.s.high s.args.s.low (bounds s).1 s.args.k (omega arith)
 
 cast-t8 : tie.Need-overflow-cast-t8
 cast-t8 c = search rules
@@ -31,7 +31,7 @@ unfolding val
 returns-2 c =
     let s = c.before.before in
     let k = s.args.k in
-    with-high s.args.s.high s.args.s.low (bounds s).1 k (k - 64) (omega arith) (omega arith)
+    with_high s.args.s.high s.args.s.low (bounds s).1 k (k - 64) (omega arith) (omega arith)
 
 pub with-spec : {M : Type 1} → statement M
 with-spec = tie.close (tie.spec shl-t5 returns cast-t8 shl-t9 returns-2)

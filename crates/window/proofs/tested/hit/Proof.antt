@@ -2,7 +2,7 @@
 use mathlib.Core.Path.{sym, ◌∙◌}
 use Prim.Native.Nat.{◌^◌, ◌<◌}
 use native.Mathlib.Omega.{arith}
-use Rattle.window.proofs.Hits.{hit-yes, hit-out, hit-no}
+use Rattle.window.proofs.Hits.{hit_yes, hit_out, hit_no}
 use borrow.Author.Rules.{rules}
 use Rattle.window.proofs.tested.hit.Statement.{statement}
 use Rattle.window.proofs.tested.hit.Tie as tie
@@ -26,16 +26,16 @@ returns : tie.Need-returns
 returns c =
     let n = c.before.before.before in
     let h = n.before.before in
-    c.with.ensures ∙ hit-yes _ _ _ _ _ n.number_at.ensures (sym h.holds.ensures ∙ n.before.if1.true) h.before.requires.1 (sym c.before.before.contains.ensures ∙ c.before.if2.true)
+    c.with.ensures ∙ hit_yes _ _ _ _ _ n.number_at.ensures (sym h.holds.ensures ∙ n.before.if1.true) h.before.requires.1 (sym c.before.before.contains.ensures ∙ c.before.if2.true)
 
 returns-2 : tie.Need-returns-2
 returns-2 c =
     let n = c.before.before in
     let h = n.before.before in
-    hit-out _ _ _ _ _ n.number_at.ensures (sym h.holds.ensures ∙ n.before.if1.true) (low h.before) (sym c.before.contains.ensures ∙ c.if2.false)
+    hit_out _ _ _ _ _ n.number_at.ensures (sym h.holds.ensures ∙ n.before.if1.true) (low h.before) (sym c.before.contains.ensures ∙ c.if2.false)
 
 returns-3 : tie.Need-returns-3
-returns-3 c = hit-no _ _ _ _ _ (low c.before.before) (sym c.before.holds.ensures ∙ c.if1.false)
+returns-3 c = hit_no _ _ _ _ _ (low c.before.before) (sym c.before.holds.ensures ∙ c.if1.false)
 
 pub hit-spec : {M : Type 1} → statement M
 hit-spec =

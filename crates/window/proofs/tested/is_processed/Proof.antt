@@ -1,7 +1,7 @@
 -- Beyond the window the answer is no; in it, whether the position is processed.
 use mathlib.Core.Path.{◌∙◌}
 use native.Mathlib.Omega.{arith}
-use Rattle.window.proofs.Classes.{known-far, known_in}
+use Rattle.window.proofs.Classes.{known_far, known_in}
 use borrow.Author.Rules.{rules}
 use Rattle.window.proofs.tested.is_processed.Statement.{statement}
 use Rattle.window.proofs.tested.is_processed.Tie as tie
@@ -13,7 +13,7 @@ cast-back : tie.Need-overflow-cast-back
 cast-back c = search rules
 
 returns : tie.Need-returns
-returns c = known-far _ _ c.before.distance.ensures (omega arith)
+returns c = known_far _ _ c.before.distance.ensures (omega arith)
 
 processed-at-requires : tie.Need-processed-at-requires
 processed-at-requires c κs = search rules

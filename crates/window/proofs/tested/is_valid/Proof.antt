@@ -1,8 +1,8 @@
 -- The size is tested as a figure, and the set by whether it is below 2 ^ size.
 use mathlib.Core.Path.{sym, ◌∙◌}
-use Rattle.window.specs.Set.{maxWindow}
-use Rattle.config.specs.inner.Ranges.{outside-not, within-range}
-use Rattle.window.proofs.Validity.{valid-size, valid-bits}
+use Rattle.window.specs.Set.{max_window}
+use Rattle.config.specs.inner.Ranges.{outside_not, within_range}
+use Rattle.window.proofs.Validity.{valid_size, valid_bits}
 use borrow.Author.Rules.{rules}
 use Rattle.window.proofs.tested.is_valid.Statement.{statement}
 use Rattle.window.proofs.tested.is_valid.Tie as tie
@@ -17,16 +17,16 @@ outside-requires : tie.Need-outside-requires
 outside-requires c κs = search rules
 
 returns : tie.Need-returns
-returns c = valid-size _ (sym c.before.outside.ensures ∙ c.if1.true)
+returns c = valid_size _ (sym c.before.outside.ensures ∙ c.if1.true)
 
 below-requires : tie.Need-below-requires
 below-requires c κs =
     let size = c.before.before.before.args.w.size in
-    within-range 1 maxWindow size (outside-not 1 maxWindow size (sym c.before.outside.ensures ∙ c.if1.false))
+    within_range 1 max_window size (outside_not 1 max_window size (sym c.before.outside.ensures ∙ c.if1.false))
 
 returns-2 : tie.Need-returns-2
 returns-2 c =
-    c.below.ensures ∙ valid-bits _ (sym c.before.before.outside.ensures ∙ c.before.if1.false)
+    c.below.ensures ∙ valid_bits _ (sym c.before.before.outside.ensures ∙ c.before.if1.false)
 
 pub is-valid-spec : {M : Type 1} → statement M
 is-valid-spec =

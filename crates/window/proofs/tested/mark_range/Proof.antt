@@ -1,5 +1,5 @@
 -- The hits among the missing positions join the set, and their span is the answer.
-use Rattle.window.proofs.Hits.{mark-is}
+use Rattle.window.proofs.Hits.{mark_is}
 use borrow.Author.Rules.{rules}
 use Rattle.window.proofs.tested.mark_range.Statement.{statement}
 use Rattle.window.proofs.tested.mark_range.Tie as tie
@@ -18,7 +18,7 @@ span-of-requires c κs = search rules
 
 returns : tie.Need-returns
 returns c =
-    mark-is _ _ c.before.before.before.missing-set.ensures c.before.before.hits.ensures c.before.either.ensures c.span-of.ensures
+    mark_is _ _ c.before.before.before.missing-set.ensures c.before.before.hits.ensures c.before.either.ensures c.span_of_lem.ensures
 
 pub mark-range-spec : {M : Type 1} → statement M
 mark-range-spec =

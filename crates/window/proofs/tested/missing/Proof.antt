@@ -14,7 +14,7 @@ span-of-requires c κs = search rules
 
 returns : tie.Need-returns
 returns c =
-    c.span-of.ensures ∙ ap (span_of c.before.before.args.w.highest 0) (val_is _ _ c.before.missing-set.ensures)
+    c.span_of_lem.ensures ∙ ap (span_of c.before.before.args.w.highest 0) (val_is _ _ c.before.missing-set.ensures)
 
 pub missing-spec : {M : Type 1} → statement M
 missing-spec = tie.close (tie.spec missing-set-requires span-of-requires returns)

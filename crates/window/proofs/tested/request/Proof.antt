@@ -1,6 +1,6 @@
 -- The oldest missing position is the highest of the set.
 use mathlib.Core.Path.{sym, ◌∙◌}
-use Rattle.window.proofs.Spans.{pos-of-not-empty, request-none, request-some}
+use Rattle.window.proofs.Spans.{pos_of_not_empty, request_none, request_some}
 use borrow.Author.Rules.{rules}
 use Rattle.window.proofs.tested.request.Statement.{statement}
 use Rattle.window.proofs.tested.request.Tie as tie
@@ -13,10 +13,10 @@ empty-requires c κs = search rules
 
 returns : tie.Need-returns
 returns c =
-    request-none _ c.before.before.missing-set.ensures (sym c.before.empty.ensures ∙ c.if1.true)
+    request_none _ c.before.before.missing-set.ensures (sym c.before.empty.ensures ∙ c.if1.true)
 
 top-requires : tie.Need-top-requires
-top-requires c κs = pos-of-not-empty _ (sym c.before.empty.ensures ∙ c.if1.false)
+top-requires c κs = pos_of_not_empty _ (sym c.before.empty.ensures ∙ c.if1.false)
 
 range-to-requires : tie.Need-range-to-requires
 range-to-requires c κs = search rules
@@ -24,7 +24,7 @@ range-to-requires c κs = search rules
 returns-2 : tie.Need-returns-2
 returns-2 c =
     let g = c.before.before in
-    request-some _ g.before.before.missing-set.ensures (sym g.before.empty.ensures ∙ g.if1.false) c.before.top.ensures.0 c.range-to.ensures
+    request_some _ g.before.before.missing-set.ensures (sym g.before.empty.ensures ∙ g.if1.false) c.before.top.ensures.0 c.range-to.ensures
 
 pub request-spec : {M : Type 1} → statement M
 request-spec =

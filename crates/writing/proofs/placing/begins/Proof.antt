@@ -2,19 +2,19 @@
 use mathlib.Core.Path.{ap, ◌∙◌}
 use native.Mathlib.Omega.{arith}
 use Rattle.sender.specs.Requests.{index_of}
-use Rattle.writing.proofs.Places.{begins-none, begins-short, begins-new, begins-far}
+use Rattle.writing.proofs.Places.{begins_none, begins_short, begins_new, begins_far}
 use borrow.Author.Rules.{rules}
 use Rattle.writing.proofs.placing.begins.Statement.{statement}
 use Rattle.writing.proofs.placing.begins.Tie as tie
 
 returns : tie.Need-returns
-returns c = begins-none c.before.before.before.before.args.s _ c.if1.true
+returns c = begins_none c.before.before.before.before.args.s _ c.if1.true
 
 returns-2 : tie.Need-returns-2
-returns-2 c = begins-short c.before.before.before.before.before.before.args.s _ c.before.before.if1.false c.if2.true
+returns-2 c = begins_short c.before.before.before.before.before.before.args.s _ c.before.before.if1.false c.if2.true
 
 returns-3 : tie.Need-returns-3
-returns-3 c = begins-new c.before.before.before.before.before.before.before.before.before.args.s _ c.before.before.before.before.before.if1.false c.before.before.before.if2.false c.if3.true
+returns-3 c = begins_new c.before.before.before.before.before.before.before.before.before.args.s _ c.before.before.before.before.before.if1.false c.before.before.before.if2.false c.if3.true
 
 asked-requires : tie.Need-asked-requires
 asked-requires c κs = c.before.before.before.before.before.before.before.before.before.before.before.requires
@@ -28,7 +28,7 @@ cast-k c = search rules
 returns-4 : tie.Need-returns-4
 returns-4 c =
     let start = c.before.before.before.before.before.before.before.before.before.before.before.before.before.before in
-    begins-far start.args.s _ c.before.before.before.before.before.before.before.before.before.before.if1.false c.before.before.before.before.before.before.before.before.if2.false _ (c.before.distance.ensures ∙ ap (index_of start.args.s) c.before.before.asked.ensures) _ (omega (arith, c.if4.true))
+    begins_far start.args.s _ c.before.before.before.before.before.before.before.before.before.before.if1.false c.before.before.before.before.before.before.before.before.if2.false _ (c.before.distance.ensures ∙ ap (index_of start.args.s) c.before.before.asked.ensures) _ (omega (arith, c.if4.true))
 
 sub-far : tie.Need-overflow-sub-far
 sub-far c = search rules
@@ -36,12 +36,12 @@ sub-far c = search rules
 returns-5 : tie.Need-returns-5
 returns-5 c =
     let start = c.before.before.before.before.before.before.before.before.before.before.before.before.before.before.before in
-    begins-far start.args.s _ c.before.before.before.before.before.before.before.before.before.before.before.if1.false c.before.before.before.before.before.before.before.before.before.if2.false _ (c.before.before.distance.ensures ∙ ap (index_of start.args.s) c.before.before.before.asked.ensures) _ (omega (arith, c.if5.true))
+    begins_far start.args.s _ c.before.before.before.before.before.before.before.before.before.before.before.if1.false c.before.before.before.before.before.before.before.before.before.if2.false _ (c.before.before.distance.ensures ∙ ap (index_of start.args.s) c.before.before.before.asked.ensures) _ (omega (arith, c.if5.true))
 
 returns-6 : tie.Need-returns-6
 returns-6 c =
     let start = c.before.before.before.before.before.before.before.before.before.before.before.before.before.before.before in
-    begins-far start.args.s _ c.before.before.before.before.before.before.before.before.before.before.before.if1.false c.before.before.before.before.before.before.before.before.before.if2.false _ (c.before.before.distance.ensures ∙ ap (index_of start.args.s) c.before.before.before.asked.ensures) _ (omega (arith, c.if5.false))
+    begins_far start.args.s _ c.before.before.before.before.before.before.before.before.before.before.before.if1.false c.before.before.before.before.before.before.before.before.before.if2.false _ (c.before.before.distance.ensures ∙ ap (index_of start.args.s) c.before.before.before.asked.ensures) _ (omega (arith, c.if5.false))
 
 pub begins-spec : {M : Type 1} → statement M
 begins-spec =

@@ -1,8 +1,8 @@
 -- Each test is one of the definition's; the history's hands on the mark.
 use mathlib.Core.Path.{refl, sym, ◌∙◌}
-use Rattle.history.proofs.Queues.{queue-fit}
-use Rattle.history.proofs.StateTest.{answers-no}
-use Rattle.sender.proofs.Validity.{test-history, test-queue, test-idle}
+use Rattle.history.proofs.Queues.{queue_fit}
+use Rattle.history.proofs.StateTest.{answers_no}
+use Rattle.sender.proofs.Validity.{test_history, test_queue, test_idle}
 use borrow.Author.Rules.{rules}
 use Rattle.writing.proofs.placing.test.Statement.{statement}
 use Rattle.writing.proofs.placing.test.Tie as tie
@@ -11,7 +11,7 @@ state-ok-requires : tie.Need-state-ok-requires
 state-ok-requires c κs = search rules
 
 begins-requires : tie.Need-begins-requires
-begins-requires c κs = queue-fit _ (sym c.before.state-ok.ensures ∙ c.if1.true)
+begins-requires c κs = queue_fit _ (sym c.before.state-ok.ensures ∙ c.if1.true)
 
 state-walk-requires : tie.Need-state-walk-requires
 state-walk-requires c κs = search rules
@@ -26,16 +26,16 @@ returns c =
     let begins = c.before.before.before.before.begins.ensures in
     record {
       answer =
-          test-idle c.before.before.before.before.before.before.before.before.before.before.args.s _ (sym walk.answer ∙ told) (sym c.before.before.before.before.before.before.state-ok.ensures ∙ c.before.before.before.before.before.if1.true) _ c.state-ok2.ensures;
+          test_idle c.before.before.before.before.before.before.before.before.before.before.args.s _ (sym walk.answer ∙ told) (sym c.before.before.before.before.before.before.state-ok.ensures ∙ c.before.before.before.before.before.if1.true) _ c.state-ok2.ensures;
       entry = λ _. rw begins at (walk.entry told);
       place = λ _. walk.place told;
     }
 
 returns-2 : tie.Need-returns-2
-returns-2 c = answers-no _ _ _ _ _ _ c.if2.false (test-history c.before.before.before.before.before.before.before.before.args.s _ (sym c.before.state-walk.ensures.answer ∙ c.if2.false))
+returns-2 c = answers_no _ _ _ _ _ _ c.if2.false (test_history c.before.before.before.before.before.before.before.before.args.s _ (sym c.before.state-walk.ensures.answer ∙ c.if2.false))
 
 returns-3 : tie.Need-returns-3
-returns-3 c = answers-no _ _ _ _ _ _ refl (test-queue c.before.before.before.before.before.args.s _ (sym c.before.state-ok.ensures ∙ c.if1.false))
+returns-3 c = answers_no _ _ _ _ _ _ refl (test_queue c.before.before.before.before.before.args.s _ (sym c.before.state-ok.ensures ∙ c.if1.false))
 
 pub test-spec : {M : Type 1} → statement M
 test-spec =

@@ -1,10 +1,10 @@
 -- The mark's own place, or the one that the walk finds.
-use Rattle.history.proofs.Past.{mark-here}
+use Rattle.history.proofs.Past.{mark_here}
 use Rattle.writing.proofs.tested.place_of.Statement.{statement}
 use Rattle.writing.proofs.tested.place_of.Tie as tie
 
 returns : tie.Need-returns
-returns c = let start = c.before.before.before in mark-here start.args.h _ _ _ start.requires.2 c.if1.true
+returns c = let start = c.before.before.before in mark_here start.args.h _ _ _ start.requires.2 c.if1.true
 
 index-of-requires : tie.Need-index-of-requires
 index-of-requires c κs = let p = c.before.before.before.requires in (p.0, p.1, p.2)

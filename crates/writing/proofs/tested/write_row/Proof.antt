@@ -1,7 +1,7 @@
 -- The repeats fit, so the row has them all, and what it takes beside their words is what the new commands take.
 use native.Mathlib.Omega.{arith}
-use Rattle.writing.proofs.Repeating.{row-standing, row-again, row-most, row-less, row_words, row_wrote}
-use Rattle.sender.proofs.Validity.{valid-few, valid-small}
+use Rattle.writing.proofs.Repeating.{row_standing, row_again, row_most, row_less, row_words, row_wrote}
+use Rattle.sender.proofs.Validity.{valid_few, valid_small}
 use borrow.Author.Rules.{rules}
 use Rattle.writing.proofs.tested.write_row.Statement.{statement}
 use Rattle.writing.proofs.tested.write_row.Tie as tie
@@ -16,7 +16,7 @@ write-entries-requires : tie.Need-write-entries-requires
 write-entries-requires c κs =
     let p = c.before.before.before.before.before.before.requires in
     let b = c.before.before.before.before.before.before.args.buf.now in
-    (p.1, row-standing _ _ p.0 _ b p.1 _ _ _ p.3.few p.3.place p.3.words p.3.room)
+    (p.1, row_standing _ _ p.0 _ b p.1 _ _ _ p.3.few p.3.place p.3.words p.3.room)
 
 free-words-requires-2 : tie.Need-free-words-requires-2
 free-words-requires-2 c κs = search rules
@@ -24,12 +24,12 @@ free-words-requires-2 c κs = search rules
 sub-took : tie.Need-overflow-sub-took
 sub-took c =
     let p = c.before.before.before.before.before.before.before.before.before.before.before.requires in
-    row-less _ _ p.0 _ _ p.1 _ _ _ p.3.few p.3.place p.3.words p.3.room _ _ _ _ c.before.before.before.before.write_entries.ensures _ _ c.before.before.before.before.before.before.before.before.free-words.ensures c.free-words2.ensures
+    row_less _ _ p.0 _ _ p.1 _ _ _ p.3.few p.3.place p.3.words p.3.room _ _ _ _ c.before.before.before.before.write_entries.ensures _ _ c.before.before.before.before.before.before.before.before.free-words.ensures c.free-words2.ensures
 
 sub-n : tie.Need-overflow-sub-n
 sub-n c =
     let p = c.before.before.before.before.before.before.before.before.before.before.before.before.before.requires in
-    row-again _ _ p.0 _ _ p.1 _ _ _ p.3.few p.3.place p.3.words p.3.room _ _ _ _ c.before.before.before.before.before.before.write_entries.ensures
+    row_again _ _ p.0 _ _ p.1 _ _ _ p.3.few p.3.place p.3.words p.3.room _ _ _ _ c.before.before.before.before.before.before.write_entries.ensures
 
 sub-written-off : tie.Need-overflow-sub-written-off
 sub-written-off c =
@@ -40,12 +40,12 @@ written-off-requires : tie.Need-written-off-requires
 written-off-requires c κs =
     let p = c.before.before.before.before.before.before.before.before.before.before.before.before.before.before.requires in
     let out = c.before.before.before.before.before.before.before.write_entries.ensures in
-    (omega (arith, row-most _ _ p.0 _ _ p.1 _ _ _ p.3.few p.3.place p.3.words p.3.room _ _ _ _ out), (row_words _ _ p.0 _ _ p.1 _ _ _ p.3.few p.3.place p.3.words p.3.room _ _ _ _ out _ _ c.before.before.before.before.before.before.before.before.before.before.before.free-words.ensures c.before.before.before.free-words2.ensures).1)
+    (omega (arith, row_most _ _ p.0 _ _ p.1 _ _ _ p.3.few p.3.place p.3.words p.3.room _ _ _ _ out), (row_words _ _ p.0 _ _ p.1 _ _ _ p.3.few p.3.place p.3.words p.3.room _ _ _ _ out _ _ c.before.before.before.before.before.before.before.before.before.before.before.free-words.ensures c.before.before.before.free-words2.ensures).1)
 
 add-t17 : tie.Need-overflow-add-t17
 add-t17 c =
     let p = c.before.before.before.before.before.before.before.before.before.before.before.before.before.before.before.before.requires in
-    omega (arith, row-most _ _ p.0 _ _ p.1 _ _ _ p.3.few p.3.place p.3.words p.3.room _ _ _ _ c.before.before.before.before.before.before.before.before.before.write_entries.ensures, valid-few _ _ p.0, valid-small _ _ p.0, p.2, p.3.few)
+    omega (arith, row_most _ _ p.0 _ _ p.1 _ _ _ p.3.few p.3.place p.3.words p.3.room _ _ _ _ c.before.before.before.before.before.before.before.before.before.write_entries.ensures, valid_few _ _ p.0, valid_small _ _ p.0, p.2, p.3.few)
 
 same_length : tie.Need-same-length
 same_length c = c.before.before.before.before.before.before.before.before.before.buf.given

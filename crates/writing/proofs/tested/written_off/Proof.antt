@@ -1,5 +1,5 @@
 -- There are more words than headers exactly where one command has words.
-use Rattle.writing.proofs.Repeating.{off-starts, off-stays}
+use Rattle.writing.proofs.Repeating.{off_starts, off_stays}
 use borrow.Author.Rules.{rules}
 use Rattle.writing.proofs.tested.written_off.Statement.{statement}
 use Rattle.writing.proofs.tested.written_off.Tie as tie
@@ -14,10 +14,10 @@ start-requires : tie.Need-start-requires
 start-requires c κs = search rules
 
 returns : tie.Need-returns
-returns c = off-starts c.before.before.before.before.before.before.args.s c.before.before.before.before.before.before.args.cfg c.before.before.before.before.before.before.args.time _ _ _ c.before.if1.true c.start.ensures
+returns c = off_starts c.before.before.before.before.before.before.args.s c.before.before.before.before.before.before.args.cfg c.before.before.before.before.before.before.args.time _ _ _ c.before.if1.true c.start.ensures
 
 returns-2 : tie.Need-returns-2
-returns-2 c = off-stays c.before.before.before.before.before.args.s c.before.before.before.before.before.args.cfg c.before.before.before.before.before.args.time _ _ c.if1.false
+returns-2 c = off_stays c.before.before.before.before.before.args.s c.before.before.before.before.before.args.cfg c.before.before.before.before.before.args.time _ _ c.if1.false
 
 pub written-off-spec : {M : Type 1} → statement M
 written-off-spec =

@@ -1,6 +1,6 @@
 -- Settings, state and payload are tested, and the rest is `tested::write`.
 use mathlib.Core.Path.{sym, ◌∙◌}
-use Rattle.writing.proofs.Answers.{write-settings, write-state, write-payload, write-made}
+use Rattle.writing.proofs.Answers.{write_settings, write_state, write_payload, write_made}
 use borrow.Author.Rules.{rules}
 use Rattle.writing.proofs.writing.write.Statement.{statement}
 use Rattle.writing.proofs.writing.write.Tie as tie
@@ -40,7 +40,7 @@ same-length-2 c = c.before.ring.given
 returns : tie.Need-returns
 returns c =
     let start = c.before.before.before.before.before.before.before.before.before.before.before.before.before.before.before.before.before.before.before in
-    c.before.before.before.before.write.ensures ∙ write-made start.args.s start.args.cfg start.args.time start.args.p _ _ (sym c.before.before.before.before.before.before.before.before.before.before.before.before.before.before.before.before.check.ensures ∙ c.before.before.before.before.before.before.before.before.before.before.before.before.before.before.enum_told.given.1) (sym c.before.before.before.before.before.before.before.before.before.before.before.test.ensures.answer ∙ c.before.before.before.before.before.before.before.before.before.before.if1.true) (sym c.before.before.before.before.before.before.before.before.before.is-valid.ensures ∙ c.before.before.before.before.before.before.before.before.if2.true)
+    c.before.before.before.before.write.ensures ∙ write_made start.args.s start.args.cfg start.args.time start.args.p _ _ (sym c.before.before.before.before.before.before.before.before.before.before.before.before.before.before.before.before.check.ensures ∙ c.before.before.before.before.before.before.before.before.before.before.before.before.before.before.enum_told.given.1) (sym c.before.before.before.before.before.before.before.before.before.before.before.test.ensures.answer ∙ c.before.before.before.before.before.before.before.before.before.before.if1.true) (sym c.before.before.before.before.before.before.before.before.before.is-valid.ensures ∙ c.before.before.before.before.before.before.before.before.if2.true)
 
 same-length-3 : tie.Need-same-length-3
 same-length-3 c = search rules
@@ -48,12 +48,12 @@ same-length-3 c = search rules
 returns-2 : tie.Need-returns-2
 returns-2 c =
     let start = c.before.before.before.before.before.before.before.before.before.before.before in
-    write-payload start.args.s start.args.cfg start.args.time start.args.p _ _ (sym c.before.before.before.before.before.before.before.before.check.ensures ∙ c.before.before.before.before.before.before.enum_told.given.1) (sym c.before.before.before.test.ensures.answer ∙ c.before.before.if1.true) (sym c.before.is-valid.ensures ∙ c.if2.false)
+    write_payload start.args.s start.args.cfg start.args.time start.args.p _ _ (sym c.before.before.before.before.before.before.before.before.check.ensures ∙ c.before.before.before.before.before.before.enum_told.given.1) (sym c.before.before.before.test.ensures.answer ∙ c.before.before.if1.true) (sym c.before.is-valid.ensures ∙ c.if2.false)
 
 returns-3 : tie.Need-returns-3
 returns-3 c =
     let start = c.before.before.before.before.before.before in
-    write-settings start.args.s start.args.cfg start.args.time start.args.p _ _ _ (sym c.before.before.before.check.ensures ∙ c.before.why.given.1)
+    write_settings start.args.s start.args.cfg start.args.time start.args.p _ _ _ (sym c.before.before.before.check.ensures ∙ c.before.why.given.1)
 
 same-length-4 : tie.Need-same-length-4
 same-length-4 c = search rules
@@ -61,7 +61,7 @@ same-length-4 c = search rules
 returns-4 : tie.Need-returns-4
 returns-4 c =
     let start = c.before.before.before.before.before.before.before.before.before in
-    write-state start.args.s start.args.cfg start.args.time start.args.p _ _ (sym c.before.before.before.before.before.before.check.ensures ∙ c.before.before.before.before.enum_told.given.1) (sym c.before.test.ensures.answer ∙ c.if1.false)
+    write_state start.args.s start.args.cfg start.args.time start.args.p _ _ (sym c.before.before.before.before.before.before.check.ensures ∙ c.before.before.before.before.enum_told.given.1) (sym c.before.test.ensures.answer ∙ c.if1.false)
 
 pub write_spec : {M : Type 1} → statement M
 write_spec =

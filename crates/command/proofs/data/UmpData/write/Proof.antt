@@ -1,7 +1,7 @@
 -- The state test, the length, the messages, and then the write over a tested state.
 use mathlib.Core.Path.{sym, ◌∙◌}
 use native.Mathlib.Omega.{arith}
-use Rattle.command.proofs.Written.{data-invalid, data-long, data-cut, data-whole}
+use Rattle.command.proofs.Written.{data_invalid, data_long, data_cut, data_whole}
 use borrow.Author.Rules.{rules}
 use Rattle.command.proofs.data.UmpData.write.Statement.{statement}
 use Rattle.command.proofs.data.UmpData.write.Tie as tie
@@ -14,7 +14,7 @@ refused-requires c κs = search rules
 
 returns : tie.Need-returns
 returns c =
-    data-long _ _ _ _ (sym c.before.before.before.is-valid.ensures ∙ c.before.before.if1.true) _ c.refused.ensures c.before.if2.true
+    data_long _ _ _ _ (sym c.before.before.before.is-valid.ensures ∙ c.before.before.if1.true) _ c.refused.ensures c.before.if2.true
 
 whole-messages-requires : tie.Need-whole-messages-requires
 whole-messages-requires c κs = search rules
@@ -37,7 +37,7 @@ returns-2 c =
     let whole = c.before.before.before.before in
     let test = whole.before.before.before in
     c.before.before.command.ensures
-    ∙ data-whole _ _ _ _ (sym test.before.is-valid.ensures ∙ test.if1.true) whole.before.before.if2.false (sym whole.before.whole-messages.ensures ∙ whole.if3.true)
+    ∙ data_whole _ _ _ _ (sym test.before.is-valid.ensures ∙ test.if1.true) whole.before.before.if2.false (sym whole.before.whole-messages.ensures ∙ whole.if3.true)
 
 refused-requires-2 : tie.Need-refused-requires-2
 refused-requires-2 c κs = search rules
@@ -45,14 +45,14 @@ refused-requires-2 c κs = search rules
 returns-3 : tie.Need-returns-3
 returns-3 c =
     let test = c.before.before.before.before in
-    data-cut _ _ _ _ (sym test.before.is-valid.ensures ∙ test.if1.true) c.before.before.before.if2.false _ c.refused2.ensures (sym c.before.before.whole-messages.ensures ∙ c.before.if3.false)
+    data_cut _ _ _ _ (sym test.before.is-valid.ensures ∙ test.if1.true) c.before.before.before.if2.false _ c.refused2.ensures (sym c.before.before.whole-messages.ensures ∙ c.before.if3.false)
 
 refused-requires-3 : tie.Need-refused-requires-3
 refused-requires-3 c κs = search rules
 
 returns-4 : tie.Need-returns-4
 returns-4 c =
-    data-invalid _ _ _ _ _ c.refused3.ensures (sym c.before.before.is-valid.ensures ∙ c.before.if1.false)
+    data_invalid _ _ _ _ _ c.refused3.ensures (sym c.before.before.is-valid.ensures ∙ c.before.if1.false)
 
 pub write_spec : {M : Type 1} → statement M
 write_spec =

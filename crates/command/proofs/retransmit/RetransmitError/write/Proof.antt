@@ -1,6 +1,6 @@
 -- The state test, and then the write over a tested state.
 use mathlib.Core.Path.{sym, ◌∙◌}
-use Rattle.command.proofs.Written.{error-invalid}
+use Rattle.command.proofs.Written.{error_invalid}
 use borrow.Author.Rules.{rules}
 use Rattle.command.proofs.retransmit.RetransmitError.write.Statement.{statement}
 use Rattle.command.proofs.retransmit.RetransmitError.write.Tie as tie
@@ -18,7 +18,7 @@ returns : tie.Need-returns
 returns c = search rules
 
 returns-2 : tie.Need-returns-2
-returns-2 c = error-invalid _ _ _ (sym c.before.is-valid.ensures ∙ c.if1.false)
+returns-2 c = error_invalid _ _ _ (sym c.before.is-valid.ensures ∙ c.if1.false)
 
 pub write_spec : {M : Type 1} → statement M
 write_spec =

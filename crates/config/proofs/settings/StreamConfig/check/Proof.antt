@@ -1,5 +1,5 @@
--- Each answer of `checkOf` is reached by the tests that the code has passed.
-use Rattle.config.proofs.Checks.{refused-words, refused-interval, refused-growth, passed}
+-- Each answer of `check_of` is reached by the tests that the code has passed.
+use Rattle.config.proofs.Checks.{refused_words, refused_interval, refused_growth, passed}
 use Rattle.std.proofs.Common.{sym, ◌∙◌, rules}
 use Rattle.config.proofs.settings.StreamConfig.check.Statement.{statement}
 use Rattle.config.proofs.settings.StreamConfig.check.Tie as tie
@@ -8,7 +8,7 @@ outside-requires : tie.Need-outside-requires
 outside-requires c κs = search rules
 
 returns : tie.Need-returns
-returns c = refused-words _ (sym c.before.outside.ensures ∙ c.if1.true)
+returns c = refused_words _ (sym c.before.outside.ensures ∙ c.if1.true)
 
 cast-outside : tie.Need-overflow-cast-outside
 cast-outside c = search rules
@@ -17,10 +17,10 @@ outside-requires-2 : tie.Need-outside-requires-2
 outside-requires-2 c κs = search rules
 
 returns-2 : tie.Need-returns-2
-returns-2 c = refused-interval _ (sym c.before.before.before.before.outside.ensures ∙ c.before.before.before.if1.false) (sym c.before.outside2.ensures ∙ c.if2.true)
+returns-2 c = refused_interval _ (sym c.before.before.before.before.outside.ensures ∙ c.before.before.before.if1.false) (sym c.before.outside2.ensures ∙ c.if2.true)
 
 returns-3 : tie.Need-returns-3
-returns-3 c = refused-growth _ (sym c.before.before.before.before.before.before.outside.ensures ∙ c.before.before.before.before.before.if1.false) (sym c.before.before.before.outside2.ensures ∙ c.before.before.if2.false) c.if3.true
+returns-3 c = refused_growth _ (sym c.before.before.before.before.before.before.outside.ensures ∙ c.before.before.before.before.before.if1.false) (sym c.before.before.before.outside2.ensures ∙ c.before.before.if2.false) c.if3.true
 
 returns-4 : tie.Need-returns-4
 returns-4 c = passed _ (sym c.before.before.before.before.before.before.outside.ensures ∙ c.before.before.before.before.before.if1.false) (sym c.before.before.before.outside2.ensures ∙ c.before.before.if2.false) c.if3.false

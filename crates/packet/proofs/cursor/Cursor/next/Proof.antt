@@ -1,15 +1,15 @@
 -- The four bytes of a header, and a test against what is left of the payload.
 use native.Mathlib.Omega.{arith}
-use Rattle.packet.proofs.Reading.{next-end, next-cut, next-whole}
+use Rattle.packet.proofs.Reading.{next_end, next_cut, next_whole}
 use borrow.Author.Rules.{rules}
 use Rattle.packet.proofs.cursor.Cursor.next.Statement.{statement}
 use Rattle.packet.proofs.cursor.Cursor.next.Tie as tie
 
 returns : tie.Need-returns
-returns c = next-end _ _ (omega arith)
+returns c = next_end _ _ (omega arith)
 
 returns-2 : tie.Need-returns-2
-returns-2 c = next-end _ _ (omega arith)
+returns-2 c = next_end _ _ (omega arith)
 
 shared-slice-read-t10 : tie.Need-shared-slice-read-t10
 shared-slice-read-t10 c = search rules
@@ -39,7 +39,7 @@ sub-if3 : tie.Need-overflow-sub-if3
 sub-if3 c = search rules
 
 returns-3 : tie.Need-returns-3
-returns-3 c = next-cut _ _ (omega arith) (omega arith)
+returns-3 c = next_cut _ _ (omega arith) (omega arith)
 
 add-t16-2 : tie.Need-overflow-add-t16-2
 add-t16-2 c = search rules
@@ -48,7 +48,7 @@ add-t8-2 : tie.Need-overflow-add-t8-2
 add-t8-2 c = search rules
 
 returns-4 : tie.Need-returns-4
-returns-4 c = next-whole _ _ (omega arith) _ c.before.size.ensures.0 (omega arith)
+returns-4 c = next_whole _ _ (omega arith) _ c.before.size.ensures.0 (omega arith)
 
 pub next-spec : {M : Type 1} → statement M
 next-spec =

@@ -1,8 +1,8 @@
 -- Settings and state are tested, and the rest is `tested::poll`.
 use mathlib.Core.Path.{sym, ◌∙◌}
-use Rattle.config.specs.inner.Entries.{settings-refused, entry-refused, entry-made}
-use Rattle.receiver.specs.Receiver.{valid_of, polledOf}
-use Rattle.receiver.specs.Answers.{pollAnswer, eventRefused}
+use Rattle.config.specs.inner.Entries.{settings_refused, entry_refused, entry_made}
+use Rattle.receiver.specs.Receiver.{valid_of, polled_of}
+use Rattle.receiver.specs.Answers.{poll_answer, event_refused}
 use borrow.Author.Rules.{rules}
 use Rattle.receiver.proofs.receiver.Receiver.poll.Statement.{statement}
 use Rattle.receiver.proofs.receiver.Receiver.poll.Tie as tie
@@ -23,18 +23,18 @@ poll-requires : tie.Need-poll-requires
 poll-requires c κs = sym c.before.is-valid.ensures ∙ c.if1.true
 
 returns : tie.Need-returns
-unfolding pollAnswer
+unfolding poll_answer
 returns c =
-    c.poll.ensures ∙ entry-made (eventRefused _) _ (sym c.before.before.before.before.before.check.ensures ∙ c.before.before.before.enum_told.given.1) (sym c.before.before.is-valid.ensures ∙ c.before.if1.true)
+    c.poll.ensures ∙ entry_made (event_refused _) _ (sym c.before.before.before.before.before.check.ensures ∙ c.before.before.before.enum_told.given.1) (sym c.before.before.is-valid.ensures ∙ c.before.if1.true)
 
 returns-2 : tie.Need-returns-2
-unfolding pollAnswer
-returns-2 c = settings-refused (eventRefused _) (polledOf _ _ _) (valid_of _) _ (sym c.before.before.before.check.ensures ∙ c.before.why.given.1)
+unfolding poll_answer
+returns-2 c = settings_refused (event_refused _) (polled_of _ _ _) (valid_of _) _ (sym c.before.before.before.check.ensures ∙ c.before.why.given.1)
 
 returns-3 : tie.Need-returns-3
-unfolding pollAnswer
+unfolding poll_answer
 returns-3 c =
-    entry-refused (eventRefused _) _ (sym c.before.before.before.before.check.ensures ∙ c.before.before.enum_told.given.1) (sym c.before.is-valid.ensures ∙ c.if1.false)
+    entry_refused (event_refused _) _ (sym c.before.before.before.before.check.ensures ∙ c.before.before.enum_told.given.1) (sym c.before.is-valid.ensures ∙ c.if1.false)
 
 pub poll_spec : {M : Type 1} → statement M
 poll_spec =

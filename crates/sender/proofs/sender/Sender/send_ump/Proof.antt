@@ -1,9 +1,9 @@
 -- Settings and state are tested, and the rest is `tested::send_ump`.
 use mathlib.Core.Path.{sym, ◌∙◌}
-use Rattle.config.specs.inner.Entries.{settings-refused, entry-refused, entry-made}
+use Rattle.config.specs.inner.Entries.{settings_refused, entry_refused, entry_made}
 use Rattle.sender.specs.State.{valid_of}
-use Rattle.sender.specs.Queueing.{unsent, sentOf}
-use Rattle.sender.specs.Answers.{sendAnswer}
+use Rattle.sender.specs.Queueing.{unsent, sent_of}
+use Rattle.sender.specs.Answers.{send_answer}
 use borrow.Author.Rules.{rules}
 use Rattle.sender.proofs.sender.Sender.send_ump.Statement.{statement}
 use Rattle.sender.proofs.sender.Sender.send_ump.Tie as tie
@@ -28,21 +28,21 @@ same_length : tie.Need-same-length
 same_length c = c.before.ring.given
 
 returns : tie.Need-returns
-unfolding sendAnswer
+unfolding send_answer
 returns c =
-    c.before.before.send-ump.ensures ∙ entry-made (unsent _ _) _ (sym c.before.before.before.before.before.before.before.before.before.check.ensures ∙ c.before.before.before.before.before.before.before.enum_told.given.1) (sym c.before.before.before.before.before.is-valid.ensures ∙ c.before.before.before.before.if1.true)
+    c.before.before.send_ump.ensures ∙ entry_made (unsent _ _) _ (sym c.before.before.before.before.before.before.before.before.before.check.ensures ∙ c.before.before.before.before.before.before.before.enum_told.given.1) (sym c.before.before.before.before.before.is-valid.ensures ∙ c.before.before.before.before.if1.true)
 
 returns-2 : tie.Need-returns-2
-unfolding sendAnswer
-returns-2 c = settings-refused (unsent _ _) (sentOf _ _ _ _) (valid_of _ _) _ (sym c.before.before.before.check.ensures ∙ c.before.why.given.1)
+unfolding send_answer
+returns-2 c = settings_refused (unsent _ _) (sent_of _ _ _ _) (valid_of _ _) _ (sym c.before.before.before.check.ensures ∙ c.before.why.given.1)
 
 same-length-2 : tie.Need-same-length-2
 same-length-2 c = search rules
 
 returns-3 : tie.Need-returns-3
-unfolding sendAnswer
+unfolding send_answer
 returns-3 c =
-    entry-refused (unsent _ _) _ (sym c.before.before.before.before.before.check.ensures ∙ c.before.before.before.enum_told.given.1) (sym c.before.is-valid.ensures ∙ c.if1.false)
+    entry_refused (unsent _ _) _ (sym c.before.before.before.before.before.check.ensures ∙ c.before.before.before.enum_told.given.1) (sym c.before.is-valid.ensures ∙ c.if1.false)
 
 pub send-ump-spec : {M : Type 1} → statement M
 send-ump-spec =

@@ -1,6 +1,6 @@
 -- Each end starts, or the definition refuses the same size.
 use mathlib.Core.Path.{sym, ◌∙◌}
-use Rattle.stream.proofs.Answers.{new-settings, new-window, new-sender, new-done}
+use Rattle.stream.proofs.Answers.{new_settings, new_window, new_sender_lem, new_done}
 use borrow.Author.Rules.{rules}
 use Rattle.stream.proofs.stream.DataStream.new.Statement.{statement}
 use Rattle.stream.proofs.stream.DataStream.new.Tie as tie
@@ -42,25 +42,25 @@ enum-told-2 : tie.Need-enum-told-2
 enum-told-2 c = search rules
 
 returns : tie.Need-returns
-returns c = new-settings _ _ _ _ _ _ _ c.not-started.ensures (sym c.before.before.before.before.check.ensures ∙ c.before.before.why.given.1)
+returns c = new_settings _ _ _ _ _ _ _ c.not_started_lem.ensures (sym c.before.before.before.before.check.ensures ∙ c.before.before.why.given.1)
 
 returns-2 : tie.Need-returns-2
 returns-2 c =
-    new-window _ _ _ _ _ _ _ c.not-started2.ensures (sym c.before.before.before.before.before.before.before.check.ensures ∙ c.before.before.before.before.before.enum_told.given.1) (sym c.before.before.before.before.new.ensures ∙ c.before.before.why2.given.1)
+    new_window _ _ _ _ _ _ _ c.not-started2.ensures (sym c.before.before.before.before.before.before.before.check.ensures ∙ c.before.before.before.before.before.enum_told.given.1) (sym c.before.before.before.before.new.ensures ∙ c.before.before.why2.given.1)
 
 same_length : tie.Need-same-length
 same_length c = c.before.before.before.before.before.before.ring.given
 
 returns-3 : tie.Need-returns-3
 returns-3 c =
-    new-sender _ _ _ _ _ _ _ c.not-started3.ensures (sym c.before.before.before.before.before.before.before.before.before.before.before.before.before.before.before.check.ensures ∙ c.before.before.before.before.before.before.before.before.before.before.before.before.before.enum_told.given.1) _ (sym c.before.before.before.before.before.before.before.before.before.before.before.before.new.ensures ∙ c.before.before.before.before.before.before.before.before.before.before.receiver.given.1) _ _ c.before.before.before.before.before.before.before.new2.ensures c.before.before.answer.given.1
+    new_sender_lem _ _ _ _ _ _ _ c.not-started3.ensures (sym c.before.before.before.before.before.before.before.before.before.before.before.before.before.before.before.check.ensures ∙ c.before.before.before.before.before.before.before.before.before.before.before.before.before.enum_told.given.1) _ (sym c.before.before.before.before.before.before.before.before.before.before.before.before.new.ensures ∙ c.before.before.before.before.before.before.before.before.before.before.receiver.given.1) _ _ c.before.before.before.before.before.before.before.new2.ensures c.before.before.answer.given.1
 
 same-length-2 : tie.Need-same-length-2
 same-length-2 c = c.before.before.before.before.ring.given
 
 returns-4 : tie.Need-returns-4
 returns-4 c =
-    new-done _ _ _ _ _ (sym c.before.before.before.before.before.before.before.before.before.before.before.before.before.check.ensures ∙ c.before.before.before.before.before.before.before.before.before.before.before.enum_told.given.1) _ (sym c.before.before.before.before.before.before.before.before.before.before.new.ensures ∙ c.before.before.before.before.before.before.before.before.receiver.given.1) _ _ c.before.before.before.before.before.new2.ensures c.enum-told2.given.1
+    new_done _ _ _ _ _ (sym c.before.before.before.before.before.before.before.before.before.before.before.before.before.check.ensures ∙ c.before.before.before.before.before.before.before.before.before.before.before.enum_told.given.1) _ (sym c.before.before.before.before.before.before.before.before.before.before.new.ensures ∙ c.before.before.before.before.before.before.before.before.receiver.given.1) _ _ c.before.before.before.before.before.new2.ensures c.enum-told2.given.1
 
 pub new_spec : {M : Type 1} → statement M
 new_spec =

@@ -1,6 +1,6 @@
 -- Both states are tested, and the rest is `earlier`.
 use mathlib.Core.Path.{sym, ◌∙◌}
-use Rattle.stream.proofs.Answers.{deadline-refused, deadline-told}
+use Rattle.stream.proofs.Answers.{deadline_refused_lem, deadline_told}
 use borrow.Author.Rules.{rules}
 use Rattle.stream.proofs.stream.DataStream.next_deadline.Statement.{statement}
 use Rattle.stream.proofs.stream.DataStream.next_deadline.Tie as tie
@@ -19,10 +19,10 @@ earlier-requires c κs = search rules
 
 returns : tie.Need-returns
 returns c =
-    deadline-told _ _ (sym c.before.before.before.before.before.before.is-valid.ensures ∙ c.before.before.before.before.before.if1.true) _ _ _ c.before.before.next-deadline.ensures c.before.next-deadline2.ensures c.earlier.ensures
+    deadline_told _ _ (sym c.before.before.before.before.before.before.is-valid.ensures ∙ c.before.before.before.before.before.if1.true) _ _ _ c.before.before.next_deadline.ensures c.before.next-deadline2.ensures c.earlier.ensures
 
 returns-2 : tie.Need-returns-2
-returns-2 c = deadline-refused _ _ (sym c.before.is-valid.ensures ∙ c.if1.false)
+returns-2 c = deadline_refused_lem _ _ (sym c.before.is-valid.ensures ∙ c.if1.false)
 
 pub next-deadline-spec : {M : Type 1} → statement M
 next-deadline-spec =

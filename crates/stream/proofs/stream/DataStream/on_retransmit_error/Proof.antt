@@ -1,5 +1,5 @@
 -- The receiver's call.
-use Rattle.stream.proofs.Ends.{error-end}
+use Rattle.stream.proofs.Ends.{error_end}
 use borrow.Author.Rules.{rules}
 use Rattle.stream.proofs.stream.DataStream.on_retransmit_error.Statement.{statement}
 use Rattle.stream.proofs.stream.DataStream.on_retransmit_error.Tie as tie
@@ -11,7 +11,7 @@ event-requires : tie.Need-event-requires
 event-requires c κs = search rules
 
 returns : tie.Need-returns
-returns c = error-end _ _ _ c.event.ensures _ c.before.on-retransmit-error.ensures
+returns c = error_end _ _ _ c.event.ensures _ c.before.on_retransmit_error.ensures
 
 pub on-retransmit-error-spec : {M : Type 1} → statement M
 on-retransmit-error-spec = tie.close (tie.spec on-retransmit-error-requires event-requires returns)

@@ -1,13 +1,13 @@
--- The state is tested. Then a number is in order, ahead or behind, and each way takes it as `acceptOf` does.
+-- The state is tested. Then a number is in order, ahead or behind, and each way takes it as `accept_of` does.
 use mathlib.Core.Path.{◌≡◌, sym, ◌∙◌}
 use mathlib.Core.Bool.{true}
 use Rattle.config.specs.Range.{within}
 use Rattle.config.specs.Sequence.{ahead}
 use Rattle.window.specs.Window.{Valid, valid_of}
 use Rattle.window.specs.Arrival.{reach}
-use Rattle.window.proofs.Validity.{valid-of}
+use Rattle.window.proofs.Validity.{valid_of_lem}
 use Rattle.window.proofs.Accepts.{taken_is}
-use Rattle.window.proofs.Answers.{accept-refused, accept-heard}
+use Rattle.window.proofs.Answers.{accept_refused, accept_heard}
 use borrow.Author.Rules.{rules}
 use Rattle.window.proofs.window.ReceiveWindow.accept.Statement.{statement}
 use Rattle.window.proofs.window.ReceiveWindow.accept.Tie as tie
@@ -18,23 +18,23 @@ tested c = sym c.before.is-valid.ensures ∙ c.if1.true
 -- what the steps of the way ahead require
 to : (c : tie.Then3) → let a = c.before.before.before.before.before.before.args in Valid a.self × (within 1 reach (ahead a.self.highest a.seq) ≡ true)
 to c =
-    (valid-of _ (tested c.before.before.before.before), sym c.before.is-ahead.ensures ∙ c.if3.true)
+    (valid_of_lem _ (tested c.before.before.before.before), sym c.before.is-ahead.ensures ∙ c.if3.true)
 
 is-valid-requires : tie.Need-is-valid-requires
 is-valid-requires c κs = search rules
 
 in-order-requires : tie.Need-in-order-requires
-in-order-requires c κs = valid-of _ (tested c)
+in-order-requires c κs = valid_of_lem _ (tested c)
 
 accept-next-requires : tie.Need-accept-next-requires
 accept-next-requires c κs =
-    (valid-of _ (tested c.before.before), sym c.before.in_order.ensures ∙ c.if2.true)
+    (valid_of_lem _ (tested c.before.before), sym c.before.in_order.ensures ∙ c.if2.true)
 
 heard-requires : tie.Need-heard-requires
 heard-requires c κs = search rules
 
 returns : tie.Need-returns
-returns c = c.heard.ensures ∙ accept-heard _ (tested c.before.before.before.before) _ c.before.accept-next.ensures
+returns c = c.heard.ensures ∙ accept_heard _ (tested c.before.before.before.before) _ c.before.accept-next.ensures
 
 is-ahead-requires : tie.Need-is-ahead-requires
 is-ahead-requires c κs = search rules
@@ -52,21 +52,21 @@ returns-2 : tie.Need-returns-2
 returns-2 c =
     let m = c.before in
     let l = m.before in
-    accept-heard _ (tested l.before.before.before.before.before) _ (taken_is _ m.moved_to.ensures c.class-ahead.ensures l.lost-to.ensures)
+    accept_heard _ (tested l.before.before.before.before.before) _ (taken_is _ m.moved_to.ensures c.class-ahead.ensures l.lost-to.ensures)
 
 accept-behind-requires : tie.Need-accept-behind-requires
 accept-behind-requires c κs =
-    (valid-of _ (tested c.before.before.before.before), sym c.before.is-ahead.ensures ∙ c.if3.false)
+    (valid_of_lem _ (tested c.before.before.before.before), sym c.before.is-ahead.ensures ∙ c.if3.false)
 
 heard-requires-2 : tie.Need-heard-requires-2
 heard-requires-2 c κs = search rules
 
 returns-3 : tie.Need-returns-3
 returns-3 c =
-    c.heard2.ensures ∙ accept-heard _ (tested c.before.before.before.before.before.before) _ c.before.accept-behind.ensures
+    c.heard2.ensures ∙ accept_heard _ (tested c.before.before.before.before.before.before) _ c.before.accept-behind.ensures
 
 returns-4 : tie.Need-returns-4
-returns-4 c = accept-refused _ (sym c.before.is-valid.ensures ∙ c.if1.false) _
+returns-4 c = accept_refused _ (sym c.before.is-valid.ensures ∙ c.if1.false) _
 
 pub accept-spec : {M : Type 1} → statement M
 accept-spec =
