@@ -3,6 +3,8 @@
 // first (0 where there is none). An odd last byte adds the line `cut`.
 //
 // It streams: two buffers, whatever the length of the input.
+#![tactic(auto)]
+
 ghost use Rattle.std.specs.Prelude.{◌≡◌, ◌+◌, ◌*◌};
 
 mod out;
@@ -11,7 +13,7 @@ use out::Out;
 use window::window::{Acceptance, Class, ReceiveWindow, SeqRange, Span, Started};
 
 // What is left after a block of input.
-#[derive(Drop)]
+#[derive(Clone, Copy)]
 struct Left {
     window: ReceiveWindow,
     // Another block may follow.
@@ -63,7 +65,7 @@ fn line(to: Out, buf: &mut [u8], seq: u16, class: Class, lost: Span) -> Out {
     loss(gapped, buf, range(lost))
 }
 
-#[derive(Drop)]
+#[derive(Clone, Copy)]
 struct Step {
     window: ReceiveWindow,
     out: Out,

@@ -2,7 +2,7 @@
 //
 //   0            used              buffer's end
 //   | lines ..    |  free           |
-#[derive(Drop)]
+#[derive(Clone, Copy)]
 pub struct Out {
     // Bytes that wait to be written.
     pub used: usize,

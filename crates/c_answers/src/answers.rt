@@ -13,7 +13,7 @@ use writing::writing::Writing;
 // What became of a Retransmit Request: 0 queued, 1 one with its number waits, 2 every place is
 // taken, 3 the error to write, 4 not supported.
 #[repr(C)]
-#[derive(Drop)]
+#[derive(Clone, Copy)]
 pub struct COutcome {
     pub refusal: u8,
     pub kind: u8,
@@ -24,7 +24,7 @@ pub struct COutcome {
 // A data command: 0 new, 1 late, 2 a duplicate; the numbers skipped before it, and the numbers
 // lost. A count of 0 is none.
 #[repr(C)]
-#[derive(Drop)]
+#[derive(Clone, Copy)]
 pub struct CDelivery {
     pub refusal: u8,
     pub class: u8,
@@ -37,7 +37,7 @@ pub struct CDelivery {
 
 // An event: 0 nothing, 1 numbers lost, 2 numbers lost by an error, 3 an error.
 #[repr(C)]
-#[derive(Drop)]
+#[derive(Clone, Copy)]
 pub struct CEvent {
     pub refusal: u8,
     pub kind: u8,
@@ -49,7 +49,7 @@ pub struct CEvent {
 
 // A write of a request: 0 nothing was due, 1 written, 2 it does not fit.
 #[repr(C)]
-#[derive(Drop)]
+#[derive(Clone, Copy)]
 pub struct CRequest {
     pub refusal: u8,
     pub kind: u8,
@@ -57,7 +57,7 @@ pub struct CRequest {
 
 // A time, where `kind` is 1.
 #[repr(C)]
-#[derive(Drop)]
+#[derive(Clone, Copy)]
 pub struct CDeadline {
     pub time: u64,
     pub refusal: u8,
@@ -65,7 +65,7 @@ pub struct CDeadline {
 }
 
 #[repr(C)]
-#[derive(Drop)]
+#[derive(Clone, Copy)]
 pub struct CWants {
     pub refusal: u8,
     pub wants: u8,
@@ -73,14 +73,14 @@ pub struct CWants {
 
 // How many commands were written, and whether there are more.
 #[repr(C)]
-#[derive(Drop)]
+#[derive(Clone, Copy)]
 pub struct CWritten {
     pub commands: u64,
     pub refusal: u8,
     pub more: u8,
 }
 
-#[derive(Drop)]
+#[derive(Clone, Copy)]
 pub struct Numbers {
     pub first: u16,
     pub count: u16,

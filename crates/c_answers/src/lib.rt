@@ -4,5 +4,7 @@
 // Each function takes one of the library's enums. `refusal` is 0, or 01's number of a refusal, and then every other field
 // is 0, but for `queued` of the last. Which case an answer is stands in `kind`, and what the case holds in the other
 // fields, which are 0 where it holds nothing. Nothing is refused here.
+#![tactic(auto)]
+
 pub mod answers;
 pub mod sending;

@@ -8,7 +8,7 @@ use stream::sending::SendAndWrite;
 // Whether the words were queued; then what the write answers: `refusal` is its number, else that of
 // the queueing, and nothing was written.
 #[repr(C)]
-#[derive(Drop)]
+#[derive(Clone, Copy)]
 pub struct CSentWritten {
     pub commands: u64,
     pub refusal: u8,

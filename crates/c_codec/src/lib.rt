@@ -7,5 +7,7 @@
 // call is made, and what that leaves is stored. Nothing is asked of a caller but pointers to arrays that do not overlap:
 // words that are no payload's are refused as 13, and nothing is changed. A received payload is read by place, one call for
 // each command.
+#![tactic(auto)]
+
 pub mod exports;
 pub mod theorems;

@@ -17,7 +17,7 @@ use c_state::pack;
 use command::parse::Command;
 
 // What was answered.
-#[derive(Drop)]
+#[derive(Clone, Copy)]
 pub struct Figures {
     pub first: u64,
     pub second: u64,

@@ -12,6 +12,8 @@
 //
 // Settings and words are tested once for all commands, and no command's words are copied. A stream is the words of crate
 // c_stream's calls, and stands beside them, as crate c_sending does.
+#![tactic(auto)]
+
 pub mod exports;
 mod figures;
 mod given;

@@ -21,7 +21,7 @@ const ANSWER: usize = 4;
 // The answers that stand in `heard`, and where the first command is that was not heard: at 0 there is
 // none.
 #[repr(C)]
-#[derive(Drop)]
+#[derive(Clone, Copy)]
 pub struct CHeard {
     pub next: u64,
     pub count: u64,
@@ -30,7 +30,7 @@ pub struct CHeard {
 
 // After a command: the answers, and the place of the next command. Where hearing ends, that of the first
 // that was not heard, or 0.
-#[derive(Drop)]
+#[derive(Clone, Copy)]
 pub struct Turn {
     pub ends: bool,
     pub next: usize,

@@ -14,7 +14,7 @@ use window::window::{Class, SeqRange, Span};
 
 // What a call leaves and gives: 0, or the number of its refusal.
 #[repr(C)]
-#[derive(Drop)]
+#[derive(Clone, Copy)]
 pub struct CGiven {
     pub state: HeldNotes,
     pub notes: Notes,

@@ -1,5 +1,7 @@
 // A run on the pretend link as a C function, which include/sirmjold.h declares. The settings are eight lent words, as
 // for every other function, and both histories are lent.
+#![tactic(auto)]
+
 ghost use Rattle.std.specs.Prelude.{◌≡◌};
 ghost use Rattle.c_link.specs.Export.{report_of, refused_by, run_export};
 
@@ -9,7 +11,7 @@ use link_rules::run::Ran;
 
 // What a run reports; where `refusal` is not 0, all else is.
 #[repr(C)]
-#[derive(Drop)]
+#[derive(Clone, Copy)]
 pub struct CReport {
     pub steps: u32,
     pub handed: u32,

@@ -1,5 +1,7 @@
 // The load as C functions, which include/sirmjold.h declares. A load is its last value, at first the seed:
 // no memory is lent, and nothing is refused.
+#![tactic(auto)]
+
 ghost use Rattle.std.specs.Prelude.{◌≡◌};
 ghost use Rattle.load.specs.Load.{draw_of, jump_of, asked_of};
 

@@ -2,6 +2,8 @@
 // words of a payload are lent. Further commands go after it as into any payload (crate c_codec), with its length and its limit.
 //
 //   theorems   a refused call changes nothing that was lent
+#![tactic(auto)]
+
 ghost use Rattle.std.specs.Prelude.{◌≡◌};
 ghost use Rattle.c_payload.specs.Export.{made_of, payload_export};
 
@@ -13,7 +15,7 @@ pub mod theorems;
 
 // How many bytes are to be sent; 0 where `refusal` is not.
 #[repr(C)]
-#[derive(Drop)]
+#[derive(Clone, Copy)]
 pub struct CMade {
     pub len: u64,
     pub refusal: u8,

@@ -1,5 +1,7 @@
 // The loss sheet as C functions, which include/sirmjold.h declares. A sheet is its three figures, by value, and a
 // ring of `n` words that the caller lends; answers are numbers.
+#![tactic(auto)]
+
 ghost use Rattle.std.specs.Prelude.{◌≡◌};
 ghost use Rattle.sheet_blocks.specs.Columns.{stored_of, restored_of};
 ghost use Rattle.loss_sheet.specs.Sheet.{start_of, block_of};

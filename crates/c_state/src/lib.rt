@@ -27,6 +27,8 @@
 //   receiving                   a receiver's frequent calls on its words
 //   theorems                    a stream that is stored and loaded is the same, and so are words; no
 //                               call leaves a stream that has no words
+#![tactic(auto)]
+
 pub mod pack;
 mod receiver_part;
 pub mod receiving;

@@ -4,7 +4,7 @@
 ghost use Rattle.std.specs.Prelude.{◌≡◌};
 ghost use Rattle.c_state.specs.Pack.{four_in, word as word_of, two_in, pair as pair_of, flags_in, flags_number, held as held_of};
 
-#[derive(Drop)]
+#[derive(Clone, Copy)]
 pub struct Quarters {
     pub a: u16,
     pub b: u16,
@@ -34,7 +34,7 @@ pub fn word(a: u16, b: u16, c: u16, d: u16) -> u64
         + (d as u64) * 0x1_0000_0000_0000
 }
 
-#[derive(Drop)]
+#[derive(Clone, Copy)]
 pub struct Halves {
     pub low: u8,
     pub high: u8,
@@ -58,7 +58,7 @@ pub fn pair(low: u8, high: u8) -> u16
 }
 
 // The receiver's.
-#[derive(Drop)]
+#[derive(Clone, Copy)]
 pub struct Flags {
     pub timer: bool,
     pub request_due: bool,

@@ -131,7 +131,7 @@ pub fn load(words: &[u64]) -> Receiver
 }
 
 // The figures of the request timer.
-#[derive(Drop)]
+#[derive(Clone, Copy)]
 struct TimerWords {
     on: bool,
     due: u64,
@@ -156,7 +156,7 @@ fn timer_words(timer: Timer) -> TimerWords
 }
 
 // The figures of the request that has no answer yet.
-#[derive(Drop)]
+#[derive(Clone, Copy)]
 struct AskedWords {
     on: bool,
     seq: u16,

@@ -145,7 +145,7 @@ pub fn load(words: &[u64]) -> Sender
 }
 
 // The figures of the idle timer.
-#[derive(Drop)]
+#[derive(Clone, Copy)]
 struct IdleWords {
     on: bool,
     due: u64,

@@ -9,6 +9,8 @@
 // nothing is stored. Nothing is asked of a caller but pointers to arrays that do not overlap: settings are refused by their
 // own numbers, then words that no state has as 13, and nothing is changed (crate c_words). Answers are numbers (crate
 // c_answers).
+#![tactic(auto)]
+
 mod event_word;
 pub mod exports;
 pub mod theorems;

@@ -1,5 +1,7 @@
 // The uplink as a C function, which include/sirmjold.h declares. Grants come by value, so that no memory is
 // lent for them and none can be of a wrong length; the turn is the caller's to keep.
+#![tactic(auto)]
+
 ghost use Rattle.std.specs.Prelude.{◌≡◌};
 ghost use Rattle.uplink.specs.Grants.{step_of};
 ghost use Rattle.c_uplink.specs.Numbers.{numbers_of};
@@ -8,7 +10,7 @@ use uplink::grants::Step;
 
 // A step: `refusal` is 0 or 18. Where it is 18 nothing is granted, and the turn is the one that was given.
 #[repr(C)]
-#[derive(Drop)]
+#[derive(Clone, Copy)]
 pub struct CStep {
     pub grants: [u16; 8],
     pub turn: u16,

@@ -7,6 +7,8 @@
 //
 // Functions that load ask for words that have passed the test beside them, and functions that store for as many words
 // as there are; a C function tests first.
+#![tactic(auto)]
+
 pub mod guard;
 pub mod lent;
 pub mod payload;

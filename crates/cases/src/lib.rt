@@ -20,4 +20,6 @@
 //   idle_times      when idle commands are written after data at 0
 //
 // The cases of the codec that are not marked P go through the program `replay`.
+#![tactic(auto)]
+
 pub mod theorems;

@@ -4,6 +4,8 @@
 //
 // It streams: two buffers, whatever the length of the input. A last block whose length is not a multiple of 16
 // is not written, but answers `refused 16` on standard error.
+#![tactic(auto)]
+
 use text::{lines, out};
 
 fn same(a: &[u8], b: &[u8]) -> bool {

@@ -11,7 +11,7 @@ use config::settings::MAX_COMMAND_WORDS;
 use packet::writer::{PayloadWriter, Wrote};
 
 // A data command that was read: its number. Its messages are in the command's bytes.
-#[derive(Drop)]
+#[derive(Clone, Copy)]
 pub struct UmpData {
     pub seq: SeqNum,
 }

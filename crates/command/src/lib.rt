@@ -13,6 +13,8 @@
 //   parse       what a received command is (10)
 //   tested      writing into a payload that has passed the state test
 //   theorems    reading gives back what was written
+#![tactic(auto)]
+
 pub mod data;
 pub mod message;
 pub mod parse;

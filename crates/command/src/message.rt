@@ -62,12 +62,12 @@ pub fn whole_messages(words: &[u32]) -> bool
 }
 
 // A walk over the messages of a data command: the index of the next one's first word.
-#[derive(Drop)]
+#[derive(Clone, Copy)]
 pub struct UmpMessages {
     pub at: usize,
 }
 
-#[derive(Drop)]
+#[derive(Clone, Copy)]
 pub enum MessageItem {
     // A whole message: the index of its first word, how many it has, and the way on.
     Message {

@@ -8,7 +8,7 @@ use super::retransmit::{RetransmitError, RetransmitRequest};
 use config::refusal::Refusal;
 use packet::cursor::{Header, Lookup, word};
 
-#[derive(Drop)]
+#[derive(Clone, Copy)]
 pub enum Command {
     // Its messages stand in the command's bytes.
     UmpData(UmpData),

@@ -9,7 +9,7 @@ use config::refusal::Refusal;
 use config::sequence::SeqNum;
 use packet::writer::{PayloadWriter, Wrote};
 
-#[derive(Drop)]
+#[derive(Clone, Copy)]
 pub struct RetransmitRequest {
     // The first number that is asked for.
     pub seq: SeqNum,
@@ -17,7 +17,7 @@ pub struct RetransmitRequest {
     pub count: u16,
 }
 
-#[derive(Drop)]
+#[derive(Clone, Copy)]
 pub struct RetransmitError {
     pub reason: u8,
     pub seq: SeqNum,

@@ -11,6 +11,8 @@
 // A function that takes, makes or returns a struct with a reference in it is proved by a walk of
 // its code by hand. There are three: `command_packets`, `next` and `first`. Each takes the struct
 // apart or puts it together, and calls functions on plain slices for the rest.
+#![tactic(auto)]
+
 pub mod packets;
 pub mod theorems;
 mod unread;

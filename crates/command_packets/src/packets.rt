@@ -6,13 +6,13 @@ ghost use Rattle.command_packets.specs.Held.{opened_of, step_of};
 use super::unread;
 use packet::cursor::{Cursor, PacketItem, Packets};
 
-#[derive(Drop)]
+#[derive(Clone, Copy)]
 pub struct CommandPackets<'a> {
     // The unread bytes: the end of a payload, from a header on.
     pub rest: &'a [u8],
 }
 
-#[derive(Drop)]
+#[derive(Clone, Copy)]
 pub struct Opened<'a> {
     // A reader of all commands; one with nothing to read where opening was refused.
     pub packets: CommandPackets<'a>,
@@ -21,7 +21,7 @@ pub struct Opened<'a> {
 }
 
 // One step. An enum cannot hold a slice, so a command's payload stands beside the item.
-#[derive(Drop)]
+#[derive(Clone, Copy)]
 pub struct Step<'a> {
     // The reader after the step.
     pub packets: CommandPackets<'a>,

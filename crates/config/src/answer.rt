@@ -4,7 +4,7 @@ ghost use Rattle.config.specs.Refusals.{outcome_number};
 
 use super::refusal::Refusal;
 
-#[derive(Drop)]
+#[derive(Clone, Copy)]
 pub enum Outcome {
     Done,
     Refused(Refusal),
@@ -22,13 +22,13 @@ impl Outcome {
     }
 }
 
-#[derive(Drop)]
+#[derive(Clone, Copy)]
 pub enum Answered {
     Is(bool),
     Refused(Refusal),
 }
 
-#[derive(Drop)]
+#[derive(Clone, Copy)]
 pub enum Deadline {
     // Nothing is timed.
     Nothing,

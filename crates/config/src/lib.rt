@@ -8,6 +8,8 @@
 //   settings   `StreamConfig`, its `DEFAULT` and its `check`
 //
 // Nothing here has a state. A call that is given settings tests them first, by `check`.
+#![tactic(auto)]
+
 pub mod answer;
 pub mod range;
 pub mod refusal;

@@ -11,7 +11,7 @@ pub const MAX_COMMAND_WORDS: usize = 64;
 // The longest first idle interval, in ms.
 pub const MAX_IDLE_INTERVAL_MS: usize = 300;
 
-#[derive(Drop)]
+#[derive(Clone, Copy)]
 pub struct StreamConfig {
     // T1: ms from the last command with words to the first idle command, 1 to 300.
     pub idle_interval_ms: u32,

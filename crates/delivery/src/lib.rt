@@ -27,4 +27,6 @@
 // payload, one that is sent at two moments, and refused calls; proofs/Reach.antt shows what a command
 // out of reach would do. proofs/RepeatsExample.antt has a run on repeats alone; proofs/PacedExample.antt
 // shows what a history or a payload with too little room would do.
+#![tactic(auto)]
+
 pub mod theorems;

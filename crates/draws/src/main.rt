@@ -5,6 +5,8 @@
 //
 // SEED is at most 4294967295 and N at most 65535, both decimal. Empty lines and those that begin with # answer
 // nothing; a line that is none of these answers `bad`.
+#![tactic(auto)]
+
 use load::load::{Jump, Load};
 use text::lines::Input;
 use text::{fields, lines, out};

@@ -3,4 +3,6 @@
 //
 //   tested  how many words a front has, whether every message fits, and how many commands there are,
 //           over words that were tested to be whole messages, for the sender
+#![tactic(auto)]
+
 pub mod tested;

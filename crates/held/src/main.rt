@@ -14,6 +14,8 @@
 // `refused 12`, which a group above 15 answers, and each call until the next `group`. Empty lines and those
 // that begin with # answer nothing; a line that is none of these, and one before the first `group`, answers
 // `bad`.
+#![tactic(auto)]
+
 use command::retransmit::RetransmitError;
 use config::answer::Outcome;
 use held_notes::held::{Given, HeldNotes};
@@ -53,7 +55,7 @@ const REFUSES: usize = 3;
 
 const NOTE: usize = 4;
 
-#[derive(Drop)]
+#[derive(Clone, Copy)]
 struct Session {
     state: HeldNotes,
     // A `group` came.

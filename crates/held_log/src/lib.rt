@@ -16,4 +16,6 @@
 //
 // proofs/Example.antt has a run that meets demand 3's premises, with a held note, and one for which
 // the converse of the third is false.
+#![tactic(auto)]
+
 pub mod theorems;

@@ -15,7 +15,7 @@ use window::window::{Class, Span};
 
 // Lies in memory as in C, and so do notes: crate `c_held_notes` hands them out.
 #[repr(C)]
-#[derive(Drop)]
+#[derive(Clone, Copy)]
 pub struct HeldNotes {
     // 0 to 15.
     pub group: u8,
@@ -23,7 +23,7 @@ pub struct HeldNotes {
     pub held: [u64; 32],
 }
 
-#[derive(Drop)]
+#[derive(Clone, Copy)]
 pub struct Given {
     pub state: HeldNotes,
     // On a reported loss or a restart, the notes that were held.

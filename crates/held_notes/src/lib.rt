@@ -14,6 +14,8 @@
 //
 // What one message does is crate `notes`. What the stream's promise adds, no held note's release is known
 // lost and no pipe sounds on, is in crate `held_log`: a chamber needs neither sender nor delivery.
+#![tactic(auto)]
+
 pub mod held;
 pub mod listing;
 mod note;

@@ -6,7 +6,7 @@ use super::set;
 
 // Notes by channel, then note: each is its channel times 128 plus its note byte.
 #[repr(C)]
-#[derive(Drop)]
+#[derive(Clone, Copy)]
 pub struct Notes {
     // How many there are, at most 2048.
     pub count: usize,

@@ -16,7 +16,7 @@ use config::sequence::SeqNum;
 pub const MAX_PL: usize = 64;
 
 // Where a walk stands.
-#[derive(Drop)]
+#[derive(Clone, Copy)]
 pub struct Stop {
     // A header was wrong, or took more words than were left.
     pub lost: bool,
@@ -31,7 +31,7 @@ pub struct Stop {
 }
 
 // Where a leg has come to.
-#[derive(Drop)]
+#[derive(Clone, Copy)]
 pub struct Leg {
     // A header was wrong.
     pub lost: bool,

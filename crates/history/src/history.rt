@@ -13,7 +13,7 @@ pub const MIN_WORDS: usize = 65;
 
 pub const MAX_WORDS: usize = 32768;
 
-#[derive(Drop)]
+#[derive(Clone, Copy)]
 pub struct SendHistory {
     // C: the words of the lent slice, 65 to 32,768.
     pub size: usize,
@@ -31,14 +31,14 @@ pub struct SendHistory {
 
 // The header of an entry: which entry, 0 the oldest, and the header's place. The end of all entries where
 // the entry is their count.
-#[derive(Drop)]
+#[derive(Clone, Copy)]
 pub struct Mark {
     pub entry: usize,
     pub at: usize,
 }
 
 // What the state test answers, and a header that its walk came by.
-#[derive(Drop)]
+#[derive(Clone, Copy)]
 pub struct Tested {
     pub ok: bool,
     pub mark: Mark,

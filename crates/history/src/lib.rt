@@ -21,6 +21,8 @@
 //
 // A state that fails its test is refused as `InvalidState`. Nothing is shifted: the oldest leave by
 // moving the head, and words go in and out as at most two straight runs.
+#![tactic(auto)]
+
 mod headers;
 pub mod history;
 pub mod queue;

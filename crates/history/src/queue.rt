@@ -11,7 +11,7 @@ pub const PLACES: usize = 16;
 //   items   | . | r | r | r | . |     places 0 to `size` - 1, and round the end
 //                 |     len
 //                head: the oldest
-#[derive(Drop)]
+#[derive(Clone, Copy)]
 pub struct RetransmitQueue {
     pub items: [RetransmitRequest; 16],
     // The place of the oldest request, below `size`.
@@ -23,7 +23,7 @@ pub struct RetransmitQueue {
 }
 
 // Why a request is not queued.
-#[derive(Drop)]
+#[derive(Clone, Copy)]
 pub enum Ignored {
     // One with the same number waits already.
     Pending,
@@ -31,26 +31,26 @@ pub enum Ignored {
     Full,
 }
 
-#[derive(Drop)]
+#[derive(Clone, Copy)]
 pub enum Push {
     Queued,
     Ignored(Ignored),
 }
 
-#[derive(Drop)]
+#[derive(Clone, Copy)]
 pub struct Pushed {
     pub queue: RetransmitQueue,
     pub answer: Push,
 }
 
 // The oldest request.
-#[derive(Drop)]
+#[derive(Clone, Copy)]
 pub enum Oldest {
     Request(RetransmitRequest),
     Nothing,
 }
 
-#[derive(Drop)]
+#[derive(Clone, Copy)]
 pub struct Popped {
     pub queue: RetransmitQueue,
     pub oldest: Oldest,

@@ -8,7 +8,7 @@ use config::time::later_by;
 // The most idle commands that are queued while one more is due: R + K.
 const MAX_STEP: u16 = 510;
 
-#[derive(Drop)]
+#[derive(Clone, Copy)]
 pub struct Idle {
     // When the next idle command is due, in ms.
     pub due: u64,
@@ -18,7 +18,7 @@ pub struct Idle {
     pub interval: u64,
 }
 
-#[derive(Drop)]
+#[derive(Clone, Copy)]
 pub enum IdleTimer {
     Off,
     Waiting(Idle),

@@ -8,5 +8,7 @@
 //
 //   idle    `IdleTimer`: its start, its state test, and whether a command is due
 //   tested  the next step, over settings and a timer that were tested
+#![tactic(auto)]
+
 pub mod idle;
 pub mod tested;

@@ -12,14 +12,14 @@ use load::load::Load;
 use stream::stream::DataStream;
 
 // The console after its turn, and the chamber that has read.
-#[derive(Drop)]
+#[derive(Clone, Copy)]
 pub struct Gone {
     pub console: DataStream,
     pub chamber: Tally,
 }
 
 // The console that has read, and the chamber after its turn.
-#[derive(Drop)]
+#[derive(Clone, Copy)]
 pub struct Come {
     pub console: Tally,
     pub chamber: DataStream,

@@ -14,6 +14,8 @@
 // `run` equals `run_answer` of crate `link_rules`, with both lent histories: steps done, commands handed on and losses
 // reported. It refuses with 9, 7, 8 for settings, and 12 for sizes that a start does not take or a budget above
 // 65,536; a refused run changes nothing. What holds of every run stands there too.
+#![tactic(auto)]
+
 mod halves;
 pub mod link;
 mod quiet;

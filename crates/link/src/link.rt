@@ -15,7 +15,7 @@ use stream::stream::DataStream;
 // The largest step budget.
 const MOST_STEPS: u32 = 65536;
 
-#[derive(Drop)]
+#[derive(Clone, Copy)]
 pub struct State {
     pub console: DataStream,
     pub chamber: DataStream,

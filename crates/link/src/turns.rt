@@ -13,7 +13,7 @@ use packet::writer::{MAX_PAYLOAD, PayloadWriter};
 use stream::stream::DataStream;
 
 // An end after its turn: `len` bytes of its buffer are its payload.
-#[derive(Drop)]
+#[derive(Clone, Copy)]
 pub struct Turn {
     pub stream: DataStream,
     pub len: usize,

@@ -10,5 +10,7 @@
 // specs/Link.antt has a step's calls in order (`calls_of`), the step, the run and its answer (`run_answer`), which
 // refuses with 9, 7, 8, then 12 for sizes or a budget above 65,536; specs/Arriving.antt has what an end does with a
 // payload and what is counted of its answers; specs/Cases.antt has runs computed.
+#![tactic(auto)]
+
 pub mod run;
 pub mod theorems;

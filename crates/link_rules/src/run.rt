@@ -3,21 +3,21 @@ use command::retransmit::RetransmitError;
 use config::refusal::Refusal;
 
 // The error that the console answered and has not yet sent.
-#[derive(Drop)]
+#[derive(Clone, Copy)]
 pub enum Waiting {
     Nothing,
     Error(RetransmitError),
 }
 
 // What a run reports: steps done, commands handed on and losses reported.
-#[derive(Drop)]
+#[derive(Clone, Copy)]
 pub struct Report {
     pub steps: u32,
     pub handed: u32,
     pub losses: u32,
 }
 
-#[derive(Drop)]
+#[derive(Clone, Copy)]
 pub enum Ran {
     Done(Report),
     Refused(Refusal),

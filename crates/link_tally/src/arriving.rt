@@ -21,7 +21,7 @@ use stream::stream::DataStream;
 use window::window::{Class, Span};
 
 // An end, and what is counted of the answers that it has given.
-#[derive(Drop)]
+#[derive(Clone, Copy)]
 pub struct Tally {
     pub stream: DataStream,
     pub waiting: Waiting,

@@ -3,4 +3,6 @@
 //     payload ----> stream ----> answers:   commands handed on, losses, the error that waits
 //
 //   arriving  `Tally`, an end and its counts; `arrive`, over a payload of at most 1,400 bytes, for the link
+#![tactic(auto)]
+
 pub mod arriving;

@@ -9,6 +9,8 @@
 //
 // All are decimal. K, R and M have 8 bits, X is 0 or 1, FIGURE has 16 bits, the others have 32. A run that is refused
 // answers `refused N`. Empty lines and those that begin with # answer nothing; a line that is none of these answers `bad`.
+#![tactic(auto)]
+
 ghost use Rattle.std.specs.Prelude.{◌≤◌};
 
 use config::settings::StreamConfig;
@@ -31,7 +33,7 @@ fn wide(n: u64) -> u32 {
 }
 
 // The run that a line asks for.
-#[derive(Drop)]
+#[derive(Clone, Copy)]
 struct Given {
     settings: StreamConfig,
     window: u32,

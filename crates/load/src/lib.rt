@@ -9,5 +9,7 @@
 //   theorems   what holds of whole lists of calls
 //
 // Nothing is refused: every 32-bit number is a seed, and every 16-bit number a count.
+#![tactic(auto)]
+
 pub mod load;
 pub mod theorems;

@@ -12,7 +12,7 @@ pub const WORD: u32 = 0x2090_3C40;
 
 // Lies in memory as in C, and so do the two below: crate `c_load` hands them out.
 #[repr(C)]
-#[derive(Drop)]
+#[derive(Clone, Copy)]
 pub struct Load {
     // The last value drawn, at first the seed.
     pub last: u32,
@@ -20,7 +20,7 @@ pub struct Load {
 
 // Where a jump has led.
 #[repr(C)]
-#[derive(Drop)]
+#[derive(Clone, Copy)]
 pub struct Jump {
     pub load: Load,
     // How many rounds it took: as many as the count has binary digits, 0 to 16.
@@ -29,7 +29,7 @@ pub struct Jump {
 
 // What a value asks to send.
 #[repr(C)]
-#[derive(Drop)]
+#[derive(Clone, Copy)]
 pub struct Words {
     // The first `count` of these.
     pub words: [u32; 8],

@@ -6,7 +6,7 @@ ghost use Rattle.loss_sheet.specs.inner.Fits.{Few, Within};
 
 use sheet_blocks::bytes::put_word;
 
-#[derive(Drop)]
+#[derive(Clone, Copy)]
 pub struct Figures {
     // How many are New, Late and Duplicate.
     pub new: u32,

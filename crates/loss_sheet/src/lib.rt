@@ -11,5 +11,7 @@
 //
 // All numbers are big-endian. An answer is 0, or the refusal's number; a refused call changes nothing. The figures of the words held are worked
 // out once in a call and kept while the block goes by.
+#![tactic(auto)]
+
 mod figures;
 pub mod sheet;

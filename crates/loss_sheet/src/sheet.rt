@@ -17,7 +17,7 @@ pub const MAX_ARRIVALS: usize = 4096;
 
 // Lies in memory as in C, and so does `Answered`: crate `c_sheet` hands them out.
 #[repr(C)]
-#[derive(Drop)]
+#[derive(Clone, Copy)]
 pub struct Sheet {
     // How many arrivals the figures go over, 1 to 4,096: the words of the lent ring.
     pub n: usize,
@@ -29,14 +29,14 @@ pub struct Sheet {
 
 // The state after a call, as it was where the call was refused; the answer is 0, or the refusal's number.
 #[repr(C)]
-#[derive(Drop)]
+#[derive(Clone, Copy)]
 pub struct Answered {
     pub sheet: Sheet,
     pub refusal: u8,
 }
 
 // The state inside a call, with the figures of the words held.
-#[derive(Drop)]
+#[derive(Clone, Copy)]
 pub struct Running {
     pub sheet: Sheet,
     pub figures: Figures,

@@ -7,6 +7,8 @@
 //   loaded    what C has no function for: state, window and next
 //
 // What a call leaves beside what was lent to it is in the session. Nothing is refused here but by the library.
+#![tactic(auto)]
+
 mod codec;
 mod loaded;
 mod numbers;

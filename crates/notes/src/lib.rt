@@ -6,4 +6,6 @@
 //   message   `is_ours`, `is_on`, `is_off`, `note_of`
 //
 // There is no state, and nothing is refused.
+#![tactic(auto)]
+
 pub mod message;

@@ -11,7 +11,7 @@ ghost use Rattle.packet.specs.Read.{csd_of, signed, open_of, next_of, body_of, w
 use super::bytes::get_word;
 use config::refusal::Refusal;
 
-#[derive(Drop)]
+#[derive(Clone, Copy)]
 pub struct Header {
     // Command code.
     pub code: u8,
@@ -38,18 +38,18 @@ impl Header {
     }
 }
 
-#[derive(Drop)]
+#[derive(Clone, Copy)]
 pub struct Cursor {
     pub at: usize,
 }
 
-#[derive(Drop)]
+#[derive(Clone, Copy)]
 pub enum Packets {
     At(Cursor),
     Refused(Refusal),
 }
 
-#[derive(Drop)]
+#[derive(Clone, Copy)]
 pub enum PacketItem {
     // A whole command: its header, the header's place, and the place of the next.
     Command {
@@ -142,7 +142,7 @@ pub fn body(payload: &[u8], at: usize, header: Header) -> &[u8]
     &payload[from..end]
 }
 
-#[derive(Drop)]
+#[derive(Clone, Copy)]
 pub enum Lookup {
     Word(u32),
     Absent,

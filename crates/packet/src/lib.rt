@@ -16,6 +16,8 @@
 //
 // A refused call writes nothing. No call writes at or past the new length, nor below the old one,
 // but for the signature, which comes with the first command.
+#![tactic(auto)]
+
 mod bytes;
 pub mod cursor;
 pub mod tested;

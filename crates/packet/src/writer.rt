@@ -18,7 +18,7 @@ pub const MIN_PAYLOAD: usize = 8;
 
 pub const MAX_PAYLOAD: usize = 1400;
 
-#[derive(Drop)]
+#[derive(Clone, Copy)]
 pub struct PayloadWriter {
     // Bytes written: 0, or 8 and more, a multiple of 4, at most `max`.
     pub len: usize,
@@ -26,14 +26,14 @@ pub struct PayloadWriter {
     pub max: usize,
 }
 
-#[derive(Drop)]
+#[derive(Clone, Copy)]
 pub enum Opened {
     Payload(PayloadWriter),
     Refused(Refusal),
 }
 
 // The payload after a write, as it was where the write was refused.
-#[derive(Drop)]
+#[derive(Clone, Copy)]
 pub struct Wrote {
     pub payload: PayloadWriter,
     pub answer: Outcome,

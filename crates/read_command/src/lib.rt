@@ -11,5 +11,7 @@
 //   words   words in order, and how they divide into messages
 //
 // It is made of `packet` and `command`, for callers to whom each step is a call that costs something.
+#![tactic(auto)]
+
 pub mod next;
 mod words;

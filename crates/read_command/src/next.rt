@@ -18,7 +18,7 @@ const MOST: usize = 255;
 // What stands at a place: 0 the end, 1 a command that is cut, 2 one of any other code, 3 data, 4 a
 // request, 5 an error. Where `refusal` is 10 there is a next place too: reading goes on.
 #[repr(C)]
-#[derive(Drop)]
+#[derive(Clone, Copy)]
 pub struct Read {
     // The place of the next command; 0 where reading ends.
     pub next: u64,

@@ -12,6 +12,8 @@
 //   receiver   the entry points: 9, 7, 8 for settings, then 13 for a state that no call has left
 //   tested     the same over settings and a state that were tested
 //   messages   what of a heard command is handed on
+#![tactic(auto)]
+
 pub mod messages;
 pub mod receiver;
 pub mod tested;

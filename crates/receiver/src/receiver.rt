@@ -12,7 +12,7 @@ use config::settings::StreamConfig;
 use packet::writer::PayloadWriter;
 use window::window::{Class, ReceiveWindow, SeqRange, Span, Started};
 
-#[derive(Drop)]
+#[derive(Clone, Copy)]
 pub struct RequestTimer {
     // When the next step is due, in ms.
     pub due: u64,
@@ -20,19 +20,19 @@ pub struct RequestTimer {
     pub sent: u8,
 }
 
-#[derive(Drop)]
+#[derive(Clone, Copy)]
 pub enum Timer {
     Stopped,
     Running(RequestTimer),
 }
 
-#[derive(Drop)]
+#[derive(Clone, Copy)]
 pub enum Asked {
     Nothing,
     Request(RetransmitRequest),
 }
 
-#[derive(Drop)]
+#[derive(Clone, Copy)]
 pub struct Receiver {
     pub window: ReceiveWindow,
     pub timer: Timer,
@@ -45,7 +45,7 @@ pub struct Receiver {
 }
 
 // What a data command was.
-#[derive(Drop)]
+#[derive(Clone, Copy)]
 pub struct Delivery {
     pub seq: SeqNum,
     pub class: Class,
@@ -55,19 +55,19 @@ pub struct Delivery {
     pub lost: Span,
 }
 
-#[derive(Drop)]
+#[derive(Clone, Copy)]
 pub enum Hearing {
     Delivery(Delivery),
     Refused(Refusal),
 }
 
-#[derive(Drop)]
+#[derive(Clone, Copy)]
 pub struct Heard {
     pub receiver: Receiver,
     pub answer: Hearing,
 }
 
-#[derive(Drop)]
+#[derive(Clone, Copy)]
 pub enum StreamEvent {
     Nothing,
     // The numbers of the range that were not processed before are lost.
@@ -79,13 +79,13 @@ pub enum StreamEvent {
     Refused(Refusal),
 }
 
-#[derive(Drop)]
+#[derive(Clone, Copy)]
 pub struct Told {
     pub receiver: Receiver,
     pub event: StreamEvent,
 }
 
-#[derive(Drop)]
+#[derive(Clone, Copy)]
 pub enum Request {
     // Nothing was due.
     Nothing,
@@ -95,20 +95,20 @@ pub enum Request {
     Refused(Refusal),
 }
 
-#[derive(Drop)]
+#[derive(Clone, Copy)]
 pub struct RequestWritten {
     pub receiver: Receiver,
     pub payload: PayloadWriter,
     pub answer: Request,
 }
 
-#[derive(Drop)]
+#[derive(Clone, Copy)]
 pub enum Start {
     Receiver(Receiver),
     Refused(Refusal),
 }
 
-#[derive(Drop)]
+#[derive(Clone, Copy)]
 pub struct WasReset {
     pub receiver: Receiver,
     pub answer: Outcome,

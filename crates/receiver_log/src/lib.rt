@@ -18,4 +18,6 @@
 //   never_invalid      no call is refused with 13 for the receiver's state
 //   receiver_answers   what the next call answers is what the log says
 //   request_times      the times of requests and of the report after a new gap and silence
+#![tactic(auto)]
+
 pub mod theorems;

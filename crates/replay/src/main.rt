@@ -12,6 +12,8 @@
 //
 // It is run on directed call lists, 01's session cases, a sample of made lists, and lists by hand: every call and
 // answer, and the codec's cases. The expected answers are the Rust's; tools/compare.py says how they are made.
+#![tactic(auto)]
+
 mod hear;
 
 use c_state::state::WORDS;

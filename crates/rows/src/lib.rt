@@ -10,5 +10,7 @@
 //   rows    `Row`, what a row has come to; how far a request reaches
 //   tested  rows of entries, the row of an error, and the entries that are repeated, over a payload and
 //           entries that were tested, for the sender
+#![tactic(auto)]
+
 pub mod rows;
 pub mod tested;

@@ -6,7 +6,7 @@ use config::range::least;
 use packet::writer::PayloadWriter;
 
 // Commands written one after the other, up to the first that does not fit.
-#[derive(Drop)]
+#[derive(Clone, Copy)]
 pub struct Row {
     pub payload: PayloadWriter,
     pub written: usize,
@@ -15,14 +15,14 @@ pub struct Row {
 }
 
 // Where a walk over entries has come to, and the words that they take.
-#[derive(Drop)]
+#[derive(Clone, Copy)]
 pub struct Walked {
     pub at: usize,
     pub words: usize,
 }
 
 // The commands that are repeated: the first one's header, how many, and the words that they take.
-#[derive(Drop)]
+#[derive(Clone, Copy)]
 pub struct Repeated {
     pub at: usize,
     pub count: usize,

@@ -61,7 +61,7 @@ pub const QUEUELONG: usize = 27;
 pub const HEAR: usize = 28;
 
 // A call, the first three of its figures and bytes in their order, and how many words it has.
-#[derive(Drop)]
+#[derive(Clone, Copy)]
 pub struct Call {
     pub kind: usize,
     pub words: usize,

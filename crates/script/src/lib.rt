@@ -30,6 +30,8 @@
 // the same, and the calls that are given settings answer its refusal.
 //
 // Lines, fields and output are the crate `text`'s.
+#![tactic(auto)]
+
 pub mod answers;
 pub mod calls;
 pub mod items;

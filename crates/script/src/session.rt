@@ -7,7 +7,7 @@ use super::{answers, calls};
 use text::forms::Answer;
 use text::lines::Input;
 
-#[derive(Drop)]
+#[derive(Clone, Copy)]
 pub struct Session {
     // How many words of the memory are the history.
     pub size: usize,

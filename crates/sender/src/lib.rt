@@ -15,5 +15,7 @@
 //   sender    the entry points: 9, 7, 8 for settings, then 13 for a state that no call has left; 5, 3
 //             and 6 for words that are not queued; 12 for sizes that a start does not take
 //   tested    the same over settings and a state that were tested; `is_valid` is the state test
+#![tactic(auto)]
+
 pub mod sender;
 pub mod tested;

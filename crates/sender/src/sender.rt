@@ -15,7 +15,7 @@ use history::queue::{Ignored, PLACES, RetransmitQueue};
 use idle::idle::IdleTimer;
 
 //   history:  | written .. | unsent .. |      newest
-#[derive(Drop)]
+#[derive(Clone, Copy)]
 pub struct Sender {
     pub history: SendHistory,
     pub queue: RetransmitQueue,
@@ -27,25 +27,25 @@ pub struct Sender {
 }
 
 // A fresh sender; where the start is refused, one that every call refuses.
-#[derive(Drop)]
+#[derive(Clone, Copy)]
 pub struct Started {
     pub sender: Sender,
     pub answer: Outcome,
 }
 
-#[derive(Drop)]
+#[derive(Clone, Copy)]
 pub struct WasReset {
     pub sender: Sender,
     pub answer: Outcome,
 }
 
-#[derive(Drop)]
+#[derive(Clone, Copy)]
 pub struct Sent {
     pub sender: Sender,
     pub answer: Outcome,
 }
 
-#[derive(Drop)]
+#[derive(Clone, Copy)]
 pub enum RequestOutcome {
     Queued,
     Ignored(Ignored),
@@ -56,13 +56,13 @@ pub enum RequestOutcome {
     Refused(Refusal),
 }
 
-#[derive(Drop)]
+#[derive(Clone, Copy)]
 pub struct RequestHeard {
     pub sender: Sender,
     pub outcome: RequestOutcome,
 }
 
-#[derive(Drop)]
+#[derive(Clone, Copy)]
 pub enum Next {
     Number(SeqNum),
     Refused(Refusal),

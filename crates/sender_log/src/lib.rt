@@ -23,4 +23,6 @@
 //   sender_held            the whole state, from all commands ever opened, the requests and the log
 //   idle_times             the due times of the idle commands after data and silence
 //   not_started            a start that is refused leaves a sender that every call refuses
+#![tactic(auto)]
+
 pub mod theorems;

@@ -4,6 +4,8 @@
 // It streams: blocks of 4,096 records, whatever the length of the input. Where a record is refused, the figures
 // before it are written, then `refused 17` on standard error; 16 for a cut record, 12 for an N that is not a number
 // from 1 to 4,096.
+#![tactic(auto)]
+
 ghost use Rattle.std.specs.Prelude.{◌≤◌, ◌<◌};
 ghost use Rattle.io.specs.Counts.{IsPrefixLen};
 
@@ -12,7 +14,7 @@ use loss_sheet::sheet::{Answered, Sheet};
 use text::{fields, lines, out};
 
 // What is left after a block of input.
-#[derive(Drop)]
+#[derive(Clone, Copy)]
 struct Left {
     sheet: Sheet,
     // Another may follow.

@@ -7,6 +7,8 @@
 //   bytes     words as bytes, for the sheet
 //
 // All numbers are big-endian. An answer is 0, or the refusal's number; a refused call changes nothing.
+#![tactic(auto)]
+
 pub mod bytes;
 pub mod columns;
 pub mod records;

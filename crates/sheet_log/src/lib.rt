@@ -11,4 +11,6 @@
 //
 //   runs_on    the figures run on across blocks, and 13 refuses just the states that no calls have left
 //   restores   columns and `restore` are inverse, both ways
+#![tactic(auto)]
+
 pub mod theorems;

@@ -15,6 +15,8 @@
 //   sending   queueing and writing in one call
 //   tested    the same over settings and states that were tested
 //   theorems  a write is made of the calls of its ends; queueing and writing in one call is those two
+#![tactic(auto)]
+
 pub mod sending;
 pub mod stream;
 pub mod tested;

@@ -17,7 +17,7 @@ use history::history::Mark;
 use packet::writer::PayloadWriter;
 use writing::writing::Writing;
 
-#[derive(Drop)]
+#[derive(Clone, Copy)]
 pub enum SendAndWrite {
     // What `send_ump` refuses: nothing is queued and nothing written.
     NotQueued(Refusal),
@@ -25,7 +25,7 @@ pub enum SendAndWrite {
     Queued(Writing),
 }
 
-#[derive(Drop)]
+#[derive(Clone, Copy)]
 pub struct SentAndWrote {
     pub stream: DataStream,
     pub payload: PayloadWriter,

@@ -18,57 +18,57 @@ use window::set;
 use window::window::ReceiveWindow;
 use writing::writing::Writing;
 
-#[derive(Drop)]
+#[derive(Clone, Copy)]
 pub struct DataStream {
     pub sender: Sender,
     pub receiver: Receiver,
 }
 
 // A fresh stream; where the start is refused, one that every call refuses.
-#[derive(Drop)]
+#[derive(Clone, Copy)]
 pub struct Started {
     pub stream: DataStream,
     pub answer: Outcome,
 }
 
-#[derive(Drop)]
+#[derive(Clone, Copy)]
 pub struct WasReset {
     pub stream: DataStream,
     pub answer: Outcome,
 }
 
-#[derive(Drop)]
+#[derive(Clone, Copy)]
 pub struct Sent {
     pub stream: DataStream,
     pub answer: Outcome,
 }
 
-#[derive(Drop)]
+#[derive(Clone, Copy)]
 pub struct RequestHeard {
     pub stream: DataStream,
     pub outcome: RequestOutcome,
 }
 
-#[derive(Drop)]
+#[derive(Clone, Copy)]
 pub struct Heard {
     pub stream: DataStream,
     pub answer: Hearing,
 }
 
-#[derive(Drop)]
+#[derive(Clone, Copy)]
 pub struct Told {
     pub stream: DataStream,
     pub event: StreamEvent,
 }
 
-#[derive(Drop)]
+#[derive(Clone, Copy)]
 pub struct RequestWritten {
     pub stream: DataStream,
     pub payload: PayloadWriter,
     pub answer: Request,
 }
 
-#[derive(Drop)]
+#[derive(Clone, Copy)]
 pub struct Wrote {
     pub stream: DataStream,
     pub payload: PayloadWriter,

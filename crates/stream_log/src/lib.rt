@@ -24,4 +24,6 @@
 //
 // proofs/Example.antt has two streams that meet all premises, with a payload that is lost, asked for
 // and retransmitted; proofs/Covered.antt names every call and size that the theorems are said of.
+#![tactic(auto)]
+
 pub mod theorems;

@@ -13,14 +13,14 @@ ghost use Rattle.io.specs.Counts.{IsPrefixLen};
 pub const FAILED: usize = 0xFFFF_FFFF_FFFF_FFFF;
 
 // A figure, a byte or a word.
-#[derive(Drop)]
+#[derive(Clone, Copy)]
 pub struct Field {
     pub n: u64,
     pub next: usize,
 }
 
 // Words or bytes, by their number.
-#[derive(Drop)]
+#[derive(Clone, Copy)]
 pub struct Count {
     pub n: usize,
     pub next: usize,

@@ -11,14 +11,14 @@ use super::fields::{Count, FAILED, Field};
 use super::{fields, out};
 
 // The call of a line: its place in the table, the first being 1, or 0 for none; and how many words it has.
-#[derive(Drop)]
+#[derive(Clone, Copy)]
 pub struct Call {
     pub kind: usize,
     pub words: usize,
 }
 
 // An answer: its place in the table, the first being 0, and its figures.
-#[derive(Drop)]
+#[derive(Clone, Copy)]
 pub struct Answer {
     pub form: usize,
     pub a: u64,
@@ -28,7 +28,7 @@ pub struct Answer {
 }
 
 // An entry of a table of calls, and the place of its fields.
-#[derive(Drop)]
+#[derive(Clone, Copy)]
 struct Entry {
     kind: usize,
     at: usize,

@@ -9,6 +9,8 @@
 //
 // Nothing here knows a call or a stream. A field that is not right has no value: reading answers FAILED,
 // or the call 0. No public function asks anything of its caller.
+#![tactic(auto)]
+
 pub mod fields;
 pub mod forms;
 pub mod lines;

@@ -15,7 +15,7 @@ pub const LIMIT: usize = 4096;
 
 // Where the input goes on: the bytes of the line so far, the place in the block, at a newline or at the
 // block's end.
-#[derive(Drop)]
+#[derive(Clone, Copy)]
 pub struct Part {
     pub used: usize,
     pub at: usize,
@@ -25,7 +25,7 @@ pub struct Part {
 //
 //   0          at             have      block's end
 //   | read      |  to be read  |         |
-#[derive(Drop)]
+#[derive(Clone, Copy)]
 pub struct Input {
     pub at: usize,
     pub have: usize,

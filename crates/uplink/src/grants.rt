@@ -10,7 +10,7 @@ use config::refusal::Refusal;
 // The most divisions.
 pub const DIVISIONS: usize = 8;
 
-#[derive(Drop)]
+#[derive(Clone, Copy)]
 pub struct Step {
     // The words of each division; places past the last are 0.
     pub grants: [u16; 8],
@@ -20,7 +20,7 @@ pub struct Step {
 }
 
 // What a row of divisions was granted, and what it left.
-#[derive(Drop)]
+#[derive(Clone, Copy)]
 struct Served {
     grants: [u16; 8],
     left: u16,

@@ -11,5 +11,7 @@
 // There is no state but the turn, which the caller keeps: it gives the turn that the step before
 // answered, at first 0. Refused by 18, with the turn as it was: no divisions, more than eight, or a turn
 // that is not one of them.
+#![tactic(auto)]
+
 pub mod grants;
 pub mod theorems;

@@ -6,6 +6,8 @@
 //   | space | A | space | TURN | ..    |
 //
 // The space in front of each line stays, so that each field is one after a space.
+#![tactic(auto)]
+
 ghost use Rattle.std.specs.Prelude.{◌≤◌, length};
 
 mod line;

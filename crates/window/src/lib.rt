@@ -14,6 +14,8 @@
 //
 // Starting refuses 12, a size that is not 1 to 128. Each other operation refuses 13, a state that no call has left:
 // its size is not one that starting takes, or a position outside the size is set. A refused call changes nothing.
+#![tactic(auto)]
+
 pub mod arrival;
 pub mod set;
 mod span;

@@ -12,7 +12,7 @@ pub const MAX_WINDOW: u32 = 128;
 // The positions of one word.
 const WORD: u32 = 64;
 
-#[derive(Drop)]
+#[derive(Clone, Copy)]
 pub struct Bits {
     // Positions 0 to 63.
     pub low: u64,

@@ -17,7 +17,7 @@ const FRESH: SeqNum = 0xFFFF;
 //     | bit size - 1 | .. | bit 1 | bit 0 |      processed
 //
 // A bit is set where the number was processed. Whatever is further behind counts as processed.
-#[derive(Drop)]
+#[derive(Clone, Copy)]
 pub struct ReceiveWindow {
     // How many numbers behind the highest are kept, 1 to 128.
     pub size: u32,
@@ -28,7 +28,7 @@ pub struct ReceiveWindow {
 }
 
 // `count` numbers from `first` on, going up and round.
-#[derive(Drop)]
+#[derive(Clone, Copy)]
 pub struct SeqRange {
     // The oldest number.
     pub first: SeqNum,
@@ -37,13 +37,13 @@ pub struct SeqRange {
 }
 
 // From the oldest to the newest of some numbers, if there is one.
-#[derive(Drop)]
+#[derive(Clone, Copy)]
 pub enum Span {
     Nothing,
     Of(SeqRange),
 }
 
-#[derive(Drop)]
+#[derive(Clone, Copy)]
 pub enum Class {
     // Ahead of the highest, with this many numbers skipped in between.
     New(u16),
@@ -54,7 +54,7 @@ pub enum Class {
 }
 
 // What the arrival of a number leaves and answers.
-#[derive(Drop)]
+#[derive(Clone, Copy)]
 pub struct Arrival {
     pub window: ReceiveWindow,
     pub class: Class,
@@ -63,65 +63,65 @@ pub struct Arrival {
 }
 
 // What `tested::mark_range` leaves and answers.
-#[derive(Drop)]
+#[derive(Clone, Copy)]
 pub struct Marked {
     pub window: ReceiveWindow,
     // From the oldest to the newest number that it marked.
     pub span: Span,
 }
 
-#[derive(Drop)]
+#[derive(Clone, Copy)]
 pub enum Started {
     Window(ReceiveWindow),
     Refused(Refusal),
 }
 
-#[derive(Drop)]
+#[derive(Clone, Copy)]
 pub struct Changed {
     pub window: ReceiveWindow,
     pub answer: Outcome,
 }
 
 // The answer of `classify`.
-#[derive(Drop)]
+#[derive(Clone, Copy)]
 pub enum Classification {
     Found(Class),
     Refused(Refusal),
 }
 
-#[derive(Drop)]
+#[derive(Clone, Copy)]
 pub struct Classified {
     pub window: ReceiveWindow,
     pub answer: Classification,
 }
 
 // The answer of `accept`.
-#[derive(Drop)]
+#[derive(Clone, Copy)]
 pub enum Acceptance {
     Heard { class: Class, lost: Span },
     Refused(Refusal),
 }
 
-#[derive(Drop)]
+#[derive(Clone, Copy)]
 pub struct Accepted {
     pub window: ReceiveWindow,
     pub answer: Acceptance,
 }
 
-#[derive(Drop)]
+#[derive(Clone, Copy)]
 pub struct Known {
     pub window: ReceiveWindow,
     pub answer: Answered,
 }
 
 // The answer of `missing`, `request` and `mark_range`.
-#[derive(Drop)]
+#[derive(Clone, Copy)]
 pub enum Extent {
     Numbers(Span),
     Refused(Refusal),
 }
 
-#[derive(Drop)]
+#[derive(Clone, Copy)]
 pub struct Extended {
     pub window: ReceiveWindow,
     pub answer: Extent,

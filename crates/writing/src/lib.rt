@@ -10,6 +10,8 @@
 //   tested    the same over settings, a state and a payload that were tested, for the stream
 //   placing   where a write walks from: the state test that hands on a mark, and the mark after words
 //             were queued
+#![tactic(auto)]
+
 pub mod placing;
 pub mod tested;
 pub mod writing;

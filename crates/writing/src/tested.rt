@@ -93,7 +93,7 @@ fn leaves(out: Row) -> bool
 }
 
 // What serving the waiting requests has come to.
-#[derive(Drop)]
+#[derive(Clone, Copy)]
 struct Served {
     // The requests that wait still.
     queue: RetransmitQueue,

@@ -11,20 +11,20 @@ use packet::writer::PayloadWriter;
 use sender::sender::Sender;
 
 // What a write has written into the payload.
-#[derive(Drop)]
+#[derive(Clone, Copy)]
 pub struct Written {
     pub commands: usize,
     // The next command in order did not fit.
     pub more: bool,
 }
 
-#[derive(Drop)]
+#[derive(Clone, Copy)]
 pub enum Writing {
     Written(Written),
     Refused(Refusal),
 }
 
-#[derive(Drop)]
+#[derive(Clone, Copy)]
 pub struct Wrote {
     pub sender: Sender,
     pub payload: PayloadWriter,
