@@ -105,7 +105,7 @@ def main():
         out = []
         imported = set()
         for line in re.findall(r"(?m)^(?:pub )?(?:ghost )?use " + LIBRARY + r".*$", text):
-            imported.update(it[0] for it in re.findall(r"[{,] *(" + SEP + r")(?= *[,}])", line))
+            imported.update(re.findall(r"[{,] *(" + SEP + r")(?= *[,}])", line))
         for line in text.split("\n"):
             code, remark = line, ""
             if re.match(r"(pub )?(ghost )?use " + LIBRARY, line) and " as " not in line:

@@ -18,7 +18,7 @@ module _ (write : PayloadWriter → Wrote × List ℕ) (p b : List ℕ) where
   unfolding command_export
   written x w bytes p' n two e f g h =
       let q : (w, bytes) ≡ write (payload_in p) = f ∙ ap write e in
-      made _ _ refl (eq_eqb _ 2 two) (rw (h, g, ← q))
+      made _ _ refl (eq-eqb _ 2 two) (rw (h, g, ← q))
 
   pub not_written : (length p ≡ 2 → ⊥) → (13, p, b) ≡ command_export write p b
   unfolding command_export

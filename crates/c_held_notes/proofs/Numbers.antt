@@ -22,11 +22,11 @@ use Rattle.c_held_notes.specs.declared.exports.CGiven.{CGiven}
 module _ (n : ℕ) where
   pub class_new : n ≡ 0 → New 0 ≡ class_of n
   unfolding class_of
-  class_new a = rw (eq_eqb n 0 a)
+  class_new a = rw (eq-eqb n 0 a)
 
   pub class_late : (n ≡ 0 → ⊥) → n ≡ 1 → Late ≡ class_of n
   unfolding class_of
-  class_late a b = rw (ne_eqb n 0 a, eq_eqb n 1 b)
+  class_late a b = rw (ne_eqb n 0 a, eq-eqb n 1 b)
 
   pub class_other : (n ≡ 0 → ⊥) → (n ≡ 1 → ⊥) → Duplicate ≡ class_of n
   unfolding class_of
@@ -34,7 +34,7 @@ module _ (n : ℕ) where
 
   pub span_none : n ≡ 0 → Nothing ≡ span_of n
   unfolding span_of
-  span_none a = rw (eq_eqb n 0 a)
+  span_none a = rw (eq-eqb n 0 a)
 
   pub span_some : (n ≡ 0 → ⊥) → Of record { first = 0; count = n } ≡ span_of n
   unfolding span_of
@@ -42,11 +42,11 @@ module _ (n : ℕ) where
 
   pub event_loss_lem : n ≡ 1 → DataLoss record { first = 0; count = 1 } ≡ event_of n
   unfolding event_of
-  event_loss_lem a = rw (eq_eqb n 1 a)
+  event_loss_lem a = rw (eq-eqb n 1 a)
 
   pub event_error_loss : (n ≡ 1 → ⊥) → n ≡ 2 → DataLoss record { first = 0; count = 1 } ≡ event_of n
   unfolding event_of
-  event_error_loss a b = rw (ne_eqb n 1 a, eq_eqb n 2 b)
+  event_error_loss a b = rw (ne_eqb n 1 a, eq-eqb n 2 b)
 
   pub event_none : (n ≡ 1 → ⊥) → (n ≡ 2 → ⊥) → NoEvent ≡ event_of n
   unfolding event_of
@@ -56,7 +56,7 @@ module _ (refusal class count : ℕ) where
   pub hearing_done : refusal ≡ 0 → (c : Class) (l : Span) → c ≡ class_of class → l ≡ span_of count
       → Delivered record { seq = 0; class = c; gap = Nothing; lost = l } ≡ hearing_of refusal class count
   unfolding hearing_of
-  hearing_done a c l e f = rw (eq_eqb refusal 0 a) (ap₂ (λ (x : Class) (y : Span). Delivered record { seq = 0; class = x; gap = Nothing; lost = y }) e f)
+  hearing_done a c l e f = rw (eq-eqb refusal 0 a) (ap₂ (λ (x : Class) (y : Span). Delivered record { seq = 0; class = x; gap = Nothing; lost = y }) e f)
 
   pub hearing_refused_lem : (refusal ≡ 0 → ⊥) → HearingRefused InvalidState ≡ hearing_of refusal class count
   unfolding hearing_of

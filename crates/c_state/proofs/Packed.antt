@@ -113,11 +113,11 @@ module _ (on : Bool) (x y z : ℕ) where
 
     pub held_second : x ≡ 0 → (y ≡ 0 → ⊥) → false ≡ held on x y z
     unfolding held
-    held_second e h = rw (unset, eq_eqb x 0 e, ne_eqb y 0 h)
+    held_second e h = rw (unset, eq-eqb x 0 e, ne_eqb y 0 h)
 
     pub held_last : x ≡ 0 → y ≡ 0 → eqb z 0 ≡ held on x y z
     unfolding held
-    held_last e f = rw (unset, eq_eqb x 0 e, eq_eqb y 0 f)
+    held_last e f = rw (unset, eq-eqb x 0 e, eq-eqb y 0 f)
 
 -- what holds where the flag is set, and where it is not and the figures are 0, holds of all that is taken
 pub by_flag : (P : Bool → ℕ → ℕ → ℕ → Type 0) (on : Bool) (x y z : ℕ) → held on x y z ≡ true → P true x y z → P false 0 0 0 → P on x y z
@@ -131,7 +131,7 @@ by_flag P false x y z h set unset =
     rw (ex, ey, ez) unset
 
 eqb_not : (n : ℕ) → eqb n 0 ≡ false → n ≡ 0 → ⊥
-eqb_not n e z = let t = eq_eqb n 0 z in let y : ◌≡◌ {A = ℕ} 0 1 = cc in omega arith
+eqb_not n e z = let t = eq-eqb n 0 z in let y : ◌≡◌ {A = ℕ} 0 1 = cc in omega arith
 
 and_same : (a b : Bool) → ((a && b) && true) ≡ (a && (b && true))
 and_same true b = refl

@@ -202,12 +202,12 @@ module _ (ws : List ℕ) where
 
     pub flags_fail : 4095 < at ws 6 → false ≡ holds_but_timer ws
     unfolding holds_but_timer
-    flags_fail h = rw (eq_eqb (at ws 2) 0 upper, eq_eqb (at ws 3) 0 top, lt-leb (at ws 6) 4095 h)
+    flags_fail h = rw (eq-eqb (at ws 2) 0 upper, eq-eqb (at ws 3) 0 top, lt-leb (at ws 6) 4095 h)
 
     pub asked_last : at ws 6 ≤ 4095 → (m : Halves) (on : Flags) → m ≡ s → on ≡ flags_in m.high → held on.asked (at ws 5 / 4294967296) 0 0 ≡ holds_but_timer ws
     unfolding holds_but_timer
     asked_last h m on em eo =
-        rw (eq_eqb (at ws 2) 0 upper, eq_eqb (at ws 3) 0 top, le-leb (at ws 6) 4095 h, eo, em) (held_upper g.asked (at ws 5))
+        rw (eq-eqb (at ws 2) 0 upper, eq-eqb (at ws 3) 0 top, le-leb (at ws 6) 4095 h, eo, em) (held_upper g.asked (at ws 5))
 
   pub but_timer_flags : holds_but_timer ws ≡ true → at ws 6 ≤ 4095
   unfolding holds_but_timer

@@ -35,11 +35,11 @@ module _ (ws : List ℕ) where
 
   pub receiver_long : length ws ≡ 20 → receiver_holds (receiver_part ws) ≡ receiver_fits ws
   unfolding receiver_fits
-  receiver_long l = rw (eq_eqb (length ws) 20 l)
+  receiver_long l = rw (eq-eqb (length ws) 20 l)
 
   pub sender_long : length ws ≡ 20 → sender_holds (sender_part ws) ≡ sender_fits ws
   unfolding sender_fits
-  sender_long l = rw (eq_eqb (length ws) 20 l)
+  sender_long l = rw (eq-eqb (length ws) 20 l)
 
   pub receiver_known : receiver_fits ws ≡ true → (length ws ≡ 20) × (receiver_holds (receiver_part ws) ≡ true)
   unfolding receiver_fits

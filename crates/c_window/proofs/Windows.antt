@@ -32,7 +32,7 @@ module _ (ws : List ℕ) where
 
   pub window_last : length ws ≡ 4 → at 0 ≤ max_window → leb (at 1) 65535 ≡ window_fits ws
   unfolding window_fits within
-  window_last l a = rw (eq_eqb (length ws) 4 l, le-leb (at 0) max_window a) (and_true (leb (at 1) 65535))
+  window_last l a = rw (eq-eqb (length ws) 4 l, le-leb (at 0) max_window a) (and_true (leb (at 1) 65535))
 
   pub window_known : window_fits ws ≡ true → Narrow ws
   unfolding window_fits

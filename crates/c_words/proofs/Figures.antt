@@ -95,11 +95,11 @@ module _ (ws : List ℕ) where
   module _ (l : length ws ≡ 8) where
     pub own_refused : (why : Refusal) → Refused why ≡ check_of (settings_of ws) → number_of why ≡ outcome_number (settings_check ws)
     unfolding settings_check
-    own_refused why e = rw (eq_eqb (length ws) 8 l, ← e)
+    own_refused why e = rw (eq-eqb (length ws) 8 l, ← e)
 
     pub own_passed : Done ≡ check_of (settings_of ws) → outcome_number (on_state (within settings_limits ws) Refused Done) ≡ outcome_number (settings_check ws)
     unfolding settings_check
-    own_passed e = rw (eq_eqb (length ws) 8 l, ← e)
+    own_passed e = rw (eq-eqb (length ws) 8 l, ← e)
 
   -- what settings that pass are
   are : settings_check ws ≡ Done → (eqb (length ws) 8 ≡ true) × (check_of (settings_of ws) ≡ Done) × (within settings_limits ws ≡ true)

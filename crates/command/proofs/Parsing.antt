@@ -42,17 +42,17 @@ module _ (h : Header) (b : List ℕ) where
 module _ (h : Header) (ws : List ℕ) where
   pub parsed_data : (seq : ℕ) → seq ≡ csd_of h → h.code ≡ 0xFF → UmpData record { seq = seq } ≡ parsed_of h ws
   unfolding parsed_of
-  parsed_data seq e c = rw (eq_eqb _ _ c, e)
+  parsed_data seq e c = rw (eq-eqb _ _ c, e)
 
   module _ (n : h.code ≡ 0xFF → ⊥) where
     pub parsed_request : h.code ≡ 0x80 → request_in h ws ≡ parsed_of h ws
     unfolding parsed_of
-    parsed_request c = rw (ne_eqb _ _ n, eq_eqb _ _ c)
+    parsed_request c = rw (ne_eqb _ _ n, eq-eqb _ _ c)
 
     module _ (m : h.code ≡ 0x80 → ⊥) where
       pub parsed_error : h.code ≡ 0x81 → error_in h ws ≡ parsed_of h ws
       unfolding parsed_of
-      parsed_error c = rw (ne_eqb _ _ n, ne_eqb _ _ m, eq_eqb _ _ c)
+      parsed_error c = rw (ne_eqb _ _ n, ne_eqb _ _ m, eq-eqb _ _ c)
 
       pub parsed_raw : (h.code ≡ 0x81 → ⊥) → Raw h ≡ parsed_of h ws
       unfolding parsed_of

@@ -19,7 +19,7 @@ module _ (s : StreamConfig) where
     module _ (i : outside 1 300 s.idle_interval_ms ≡ false) where
       pub refused_growth : s.idle_growth ≡ 0 → Refused IdleGrowth ≡ check_of s
       unfolding check_of
-      refused_growth g = rw (w, i, eq_eqb _ _ g)
+      refused_growth g = rw (w, i, eq-eqb _ _ g)
 
       pub passed : (s.idle_growth ≡ 0 → ⊥) → Done ≡ check_of s
       unfolding check_of

@@ -47,7 +47,7 @@ module _ (ws : List ℕ) (e : whole_of ws ≡ true) where
 
   whole_uncut : (b : List ℕ) → words_of b ≡ ws → (messages_of (words_of b)).cut ≡ false
   unfolding whole_of
-  whole_uncut b w = rw w (not_true (messages_of ws).cut e)
+  whole_uncut b w = rw w (not-true (messages_of ws).cut e)
 
   pub whole_handed : (class : Class) → AllHanded class ws
   unfolding handed_words handed_bytes handed_cut

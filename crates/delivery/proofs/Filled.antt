@@ -85,7 +85,7 @@ module _ (R s c : ℕ) (history : (R + 1) * (1 + s) ≤ c) (most : c ≤ 32768) 
 
   valid : payload_valid p (length by) ≡ true
   unfolding payload_valid
-  valid = rw (le-leb 8 p.max (omega (arith, room)), le-leb p.max 1400 (opened), eq_eqb p.len 0 ready.empty)
+  valid = rw (le-leb 8 p.max (omega (arith, room)), le-leb p.max 1400 (opened), eq-eqb p.len 0 ready.empty)
 
   holds_none : Holds p by []
   unfolding payload_of
@@ -148,7 +148,7 @@ module _ (R s c : ℕ) (history : (R + 1) * (1 + s) ≤ c) (most : c ≤ 32768) 
           omega (
             arith,
             sizes_few s (after (oldest_in b) j) repeated (all_drop (Few s) j b.written k.few),
-            mul_le_mul_right (4 + 4 * s) (let l : length repeated ≤ R = omega (arith, length-drop j b.written) in l),
+            mul-le-mul_right (4 + 4 * s) (let l : length repeated ≤ R = omega (arith, length-drop j b.written) in l),
           )
 
       first_fits : fit_all p by (first ∷ []) ≡ true

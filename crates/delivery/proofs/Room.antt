@@ -71,7 +71,7 @@ module _ (s : ℕ) where
     | inl k ↦ rw k (elim (split (ltb R (length (e ∷ es)))) [
       | inl m ↦ omega (arith, tests, kept_enough R room need es h.1 l)
       | inr m ↦
-          let z : ⊥ = omega (arith, tests, size_few (e ∷ es) h, mul_le_mul_right (1 + s) (fewer m)) in
+          let z : ⊥ = omega (arith, tests, size_few (e ∷ es) h, mul-le-mul_right (1 + s) (fewer m)) in
           absurd z
     ])
     | inr k ↦ rw k (omega arith)

@@ -164,7 +164,7 @@ flat_walk (ws ∷ es) b i n p l o s r w =
     let h : get_or b i 0 ≡ n * turn + length_at b i = first_word b ws i n es p o a w ∙ ap (λ (m : ℕ). n * turn + m) (sym f) in
     let q : size es ≤ length b = omega (arith, size_first ws es) in
     let t = flat_walk es b (next_at b i) (after n 1) (next_in_lem b i p l (omega arith)) l (omega arith) (short_first ws es s).1 q (rest_flat b ws i n es p o a w r) in (
-      rw (le-leb (length_at b i) 64 (omega arith), eq_eqb (get_or b i 0) (n * turn + length_at b i) h) t.0,
+      rw (le-leb (length_at b i) 64 (omega arith), eq-eqb (get_or b i 0) (n * turn + length_at b i) h) t.0,
       ap (λ (x : List ℕ). x ∷ entries_from (length es) b (next_at b i)) (first_words b ws i n es p o a w r) ∙ ap (λ (x : List (List ℕ)). ws ∷ x) t.1,
     )
 

@@ -51,7 +51,7 @@ pub past_entry : (b : List ℕ) (i n p : ℕ) → length_at b i ≤ 64 → get_o
 unfolding numbered header_at words_from newest_from
 past_entry b i n p short header =
     record {
-      numbers = λ j. (let e : 1 + j ≡ suc j = omega arith in rw (e, le-leb (length_at b i) 64 short, eq_eqb (get_or b i 0) (n * turn + length_at b i) header));
+      numbers = λ j. (let e : 1 + j ≡ suc j = omega arith in rw (e, le-leb (length_at b i) 64 short, eq-eqb (get_or b i 0) (n * turn + length_at b i) header));
       place = λ j. (let e : 1 + j ≡ suc j = omega arith in rw e);
       taken = λ j. (let e : 1 + j ≡ suc j = omega arith in rw e);
       newest = λ j. (let e : 1 + j ≡ suc j = omega arith in rw e);
@@ -86,7 +86,7 @@ pub numbered_fails : (k : ℕ) (b : List ℕ) (i n u : ℕ) → numbered k b i n
 numbered_fails k b i n u h = rw h
 
 pub words_fail : (k : ℕ) (b : List ℕ) (i n u : ℕ) → u < words_from k b i → passes k b i n u ≡ false
-words_fail k b i n u h = rw (lt-leb (words_from k b i) u h, and_false)
+words_fail k b i n u h = rw (lt-leb (words_from k b i) u h, and-false)
 
 -- what fails behind the entries passed fails from the start
 pub past_fails : (b : List ℕ) (i n p d i' n' p' u w j k : ℕ) → Past b i n p d i' n' p' (u - w) → w ≤ u → d + j ≡ k → passes j b i' n' w ≡ false → passes k b i n u ≡ false

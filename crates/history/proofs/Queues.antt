@@ -17,7 +17,7 @@ use Rattle.history.proofs.Slots.{slot_in, slot_zero, slot_add, slot_apart}
 
 module _ (q : RetransmitQueue) where
   pub queue_size : outside 1 16 q.size ≡ true → false ≡ queue_ok q
-  queue_size e = rw (not_true (within 1 16 q.size) e)
+  queue_size e = rw (not-true (within 1 16 q.size) e)
 
   module _ (s : outside 1 16 q.size ≡ false) where
     pub queue_head : q.size ≤ q.head → false ≡ queue_ok q
@@ -52,7 +52,7 @@ module _ (q : RetransmitQueue) (n i at : ℕ) (r : RetransmitRequest) (place : a
 
   pub asks_found : r.seq ≡ n → asks (requests q (q.len - i) i) n ≡ true
   unfolding asks requests
-  asks_found h = rw (one, ← same, eq_eqb _ _ h)
+  asks_found h = rw (one, ← same, eq-eqb _ _ h)
 
   pub asks_passed : (r.seq ≡ n → ⊥) → asks (requests q (q.len - i) i) n ≡ asks (requests q (q.len - (i + 1)) (i + 1)) n
   unfolding asks requests
@@ -81,7 +81,7 @@ module _ (q : RetransmitQueue) (r : RetransmitRequest) where
 
   pub set_none : q.len ≡ 0 → q ≡ set_front_of q r
   unfolding set_front_of
-  set_none e = rw (eq_eqb _ _ e)
+  set_none e = rw (eq-eqb _ _ e)
 
   pub set_some : (q.len ≡ 0 → ⊥) → in_front q r ≡ set_front_of q r
   unfolding set_front_of
@@ -100,7 +100,7 @@ module _ (q : RetransmitQueue) where
 
   pub pop_none : (o : Oldest) → o ≡ oldest_of (waiting q) → q.len ≡ 0 → record { queue = q; oldest = o } ≡ pop_of q
   unfolding pop_of
-  pop_none o f e = rw (eq_eqb _ _ e, f)
+  pop_none o f e = rw (eq-eqb _ _ e, f)
 
   pub pop_some : (o : Oldest) (at : ℕ) → o ≡ oldest_of (waiting q) → at ≡ slot_of q.size q.head 1 → (q.len ≡ 0 → ⊥)
       → record { queue = record { items = q.items; head = at; len = q.len - 1; size = q.size }; oldest = o } ≡ pop_of q

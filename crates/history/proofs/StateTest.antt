@@ -31,10 +31,10 @@ newest_is (suc k) b i p = newest_is k b (next_at b i) i
 
 newest_at_lem : (last k : ℕ) (b : List ℕ) (i : ℕ) → eqb (newest_from k b i last) last ≡ newest_at last b k i
 unfolding newest_from
-newest_at_lem last zero b i = eq_eqb last last refl
+newest_at_lem last zero b i = eq-eqb last last refl
 newest_at_lem last (suc k) b i =
     let e : suc k - 1 ≡ k = omega arith in
-    rw (newest_is k b i last, eqb_suc_zero k, e)
+    rw (newest_is k b i last, eqb-suc-zero k, e)
 
 module _ (b : List ℕ) (last unsent words k i n u : ℕ) where
   pub walk_fails : passes k b i n u ≡ false → walk_ok b last unsent words k i n u ≡ false
@@ -68,7 +68,7 @@ module _ (b : List ℕ) (last unsent words k i n u : ℕ) where
     unfolding walk_ok
     walk_unsent h =
         rw
-        (unsent_words_lem, and_under (words_from k b i) u (newest_at last b k i) (eqb (words_from unsent b at) words) false (λ e. ne_eqb (words_from unsent b at) words (λ f. h (omega (arith, all_words)))), and_false, and_false, and_false)
+        (unsent_words_lem, and_under (words_from k b i) u (newest_at last b k i) (eqb (words_from unsent b at) words) false (λ e. ne_eqb (words_from unsent b at) words (λ f. h (omega (arith, all_words)))), and-false, and-false, and-false)
 
     module _ (at' seq' prev' w' : ℕ) (y : Past b i n last k at' seq' prev' (u - w')) (l' : w' ≤ u) where
       none_left : words_from k b i ≡ u - w'
@@ -77,7 +77,7 @@ module _ (b : List ℕ) (last unsent words k i n u : ℕ) where
 
       pub walk_left : (w' ≡ 0 → ⊥) → walk_ok b last unsent words k i n u ≡ false
       unfolding walk_ok
-      walk_left h = rw (ne_eqb (words_from k b i) u (λ e. h (omega (arith, none_left))), and_false)
+      walk_left h = rw (ne_eqb (words_from k b i) u (λ e. h (omega (arith, none_left))), and-false)
 
       pub walk_all : w ≡ words → w' ≡ 0 → walk_ok b last unsent words k i n u ≡ eqb prev' last
       unfolding walk_ok numbered newest_from
@@ -87,7 +87,7 @@ module _ (b : List ℕ) (last unsent words k i n u : ℕ) where
           let g : newest_from k b i last ≡ prev' = rw e at (y.newest 0) in
           let q : words_from k b i ≡ u = omega (arith, none_left) in
           let t : words_from unsent b at ≡ words = omega (arith, all_words) in
-          rw (unsent_words_lem, eq_eqb (words_from unsent b at) words t, f, eq_eqb (words_from k b i) u q, and_true, ← newest_at_lem last k b i, g)
+          rw (unsent_words_lem, eq-eqb (words_from unsent b at) words t, f, eq-eqb (words_from k b i) u q, and-true, ← newest_at_lem last k b i, g)
 
 -- ---- the state
 
@@ -97,7 +97,7 @@ size_in n s = not-false (within 65 32768 n) s
 module _ (h : SendHistory) (b : List ℕ) (unsent words : ℕ) where
   pub test_size : outside 65 32768 h.size ≡ true → false ≡ state_ok h b unsent words
   unfolding state_ok
-  test_size e = rw (not_true (within 65 32768 h.size) e)
+  test_size e = rw (not-true (within 65 32768 h.size) e)
 
   module _ (s : outside 65 32768 h.size ≡ false) where
     pub test_length : (length b ≡ h.size → ⊥) → false ≡ state_ok h b unsent words
@@ -107,21 +107,21 @@ module _ (h : SendHistory) (b : List ℕ) (unsent words : ℕ) where
     module _ (l : length b ≡ h.size) where
       pub test_head : h.size ≤ h.head → false ≡ state_ok h b unsent words
       unfolding state_ok
-      test_head p = rw (size_in h.size s, eq_eqb _ _ l, le-ltb _ _ p)
+      test_head p = rw (size_in h.size s, eq-eqb _ _ l, le-ltb _ _ p)
 
       module _ (i : h.head < h.size) where
         pub test_used : h.size < h.used → false ≡ state_ok h b unsent words
         unfolding state_ok
-        test_used p = rw (size_in h.size s, eq_eqb _ _ l, lt-ltb _ _ i, lt-leb _ _ p)
+        test_used p = rw (size_in h.size s, eq-eqb _ _ l, lt-ltb _ _ i, lt-leb _ _ p)
 
         module _ (r : h.used ≤ h.size) where
           pub test_unsent : h.count < unsent → false ≡ state_ok h b unsent words
           unfolding state_ok
-          test_unsent p = rw (size_in h.size s, eq_eqb _ _ l, lt-ltb _ _ i, le-leb _ _ r, lt-leb _ _ p)
+          test_unsent p = rw (size_in h.size s, eq-eqb _ _ l, lt-ltb _ _ i, le-leb _ _ r, lt-leb _ _ p)
 
           pub test_walk : (t : Bool) → t ≡ walk_ok b h.last unsent words h.count h.head h.oldest h.used → unsent ≤ h.count → t ≡ state_ok h b unsent words
           unfolding state_ok
-          test_walk t e p = rw (size_in h.size s, eq_eqb _ _ l, lt-ltb _ _ i, le-leb _ _ r, le-leb _ _ p, e)
+          test_walk t e p = rw (size_in h.size s, eq-eqb _ _ l, lt-ltb _ _ i, le-leb _ _ r, le-leb _ _ p, e)
 
 -- ---- the answer
 

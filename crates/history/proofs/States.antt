@@ -80,8 +80,8 @@ module _ (h : SendHistory) (b : List ℕ) (unsent words : ℕ) where
   newest_ok : Good h b → newest_at h.last b h.count h.head ≡ true
   newest_ok g =
       ⊎_elim
-      (λ (p : 0 < h.count). rw (ne_eqb h.count 0 (λ e. omega arith)) (eq_eqb _ _ (g.newest p)))
-      (λ (p : h.count ≤ 0). rw (eq_eqb h.count 0 (omega arith)))
+      (λ (p : 0 < h.count). rw (ne_eqb h.count 0 (λ e. omega arith)) (eq-eqb _ _ (g.newest p)))
+      (λ (p : h.count ≤ 0). rw (eq-eqb h.count 0 (omega arith)))
       (lt_or_ge 0 h.count)
 
   -- a state that holds entries passes the test
@@ -98,13 +98,13 @@ module _ (h : SendHistory) (b : List ℕ) (unsent words : ℕ) where
       rw (
         le-leb 65 h.size a.least,
         le-leb h.size 32768 a.most,
-        eq_eqb (length b) h.size a.ring,
+        eq-eqb (length b) h.size a.ring,
         lt-ltb h.head h.size a.inside,
         le-leb h.used h.size a.room,
         le-leb unsent h.count few,
         g.headers,
-        eq_eqb (words_from h.count b h.head) h.used g.words,
+        eq-eqb (words_from h.count b h.head) h.used g.words,
         newest_ok g,
         le-ltb h.count unsent few,
-        eq_eqb (words_from unsent b (header_at (h.count - unsent) b h.head)) words w,
+        eq-eqb (words_from unsent b (header_at (h.count - unsent) b h.head)) words w,
       )

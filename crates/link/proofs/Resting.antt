@@ -67,7 +67,7 @@ above_zero : (n : ℕ) → 0 < n → eqb n 0 ≡ false
 above_zero n l = ne_eqb n 0 (λ (z : n ≡ 0). let y : ⊥ = omega arith in y)
 
 zero_only : (n : ℕ) → n ≤ 0 → eqb n 0 ≡ true
-zero_only n l = eq_eqb n 0 (omega arith)
+zero_only n l = eq-eqb n 0 (omega arith)
 
 module _ (d : Bool) (u q : ℕ) (i : Bool) where
   due_by : d ≡ true → false ≡ (not d && (eqb u 0 && (eqb q 0 && i)))

@@ -40,7 +40,7 @@ twice p l = omega arith
 pub next_sum : (delay n : ℕ) → sum delay n + delay * 2 ^ (n + 1) ≡ sum delay (n + 1)
 next_sum delay n =
     let p : ℕ = 2 ^ (n + 1) in
-    sym (mul_add delay (p - 1) p) ∙ ap (λ (x : ℕ). delay * x) (twice p (pow_pos (n + 1)) ∙ ap (λ (x : ℕ). x - 1) (sym (pow-add 2 (n + 1) 1)))
+    sym (mul-add delay (p - 1) p) ∙ ap (λ (x : ℕ). delay * x) (twice p (pow_pos (n + 1)) ∙ ap (λ (x : ℕ). x - 1) (sym (pow-add 2 (n + 1) 1)))
 
 less : (p q : ℕ) → p ≤ q → p - 1 ≤ q - 1
 less p q l = omega arith

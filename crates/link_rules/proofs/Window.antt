@@ -48,13 +48,13 @@ module _ (w : ReceiveWindow) (v : Valid w) (none : nothing_missing w ≡ true) (
           let n = new_at w seq e in
           let r = within_range 1 reach (ahead w.highest seq) n.0 in
           let one : ahead w.highest seq ≡ 1 = omega (arith, tests, zero, n.1, r.0) in
-          in_order_complete w v seq (rw (eq_eqb (ahead w.highest seq) 1 one, none))
+          in_order_complete w v seq (rw (eq-eqb (ahead w.highest seq) 1 one, none))
       go Late e = absurd (not_late e)
       go Duplicate e = rw (accept_class w seq e) none
 
 pub full_missing : (size highest : ℕ) → nothing_missing (fresh_of size highest) ≡ true
 unfolding missing_of val set_of
-full_missing size highest = eq_eqb _ _ (same (2 ^ size - 1))
+full_missing size highest = eq-eqb _ _ (same (2 ^ size - 1))
   where
     same : (n : ℕ) → n - (n / 2 ^ 64 * 2 ^ 64 + n % 2 ^ 64) ≡ 0
     same n = omega arith

@@ -8,7 +8,7 @@ idle x h = rw (ne_eqb (x / 2 ^ 31 % 2) 1 (λ z. let w : ⊥ = omega (arith, z) i
 
 pub sending : (x : ℕ) → x < 4294967296 → 8 ≤ x / 268435456 → x / 268435456 % 8 + 1 ≡ count_of x
 unfolding count_of
-sending x b h = rw (eq_eqb (x / 2 ^ 31 % 2) 1 (omega arith)) refl
+sending x b h = rw (eq-eqb (x / 2 ^ 31 % 2) 1 (omega arith)) refl
 
 pub count_le : (x : ℕ) → count_of x ≤ 8
 unfolding count_of

@@ -22,7 +22,7 @@ use Rattle.loss_sheet.specs.declared.sheet.Answered.{Answered}
 -- ---- the state test
 
 pub head_first : (h l n : ℕ) → h ≡ 0 → true ≡ (eqb h 0 || eqb l n)
-head_first h l n e = rw (eq_eqb h 0 e)
+head_first h l n e = rw (eq-eqb h 0 e)
 
 pub head_later : (h l n : ℕ) → (h ≡ 0 → ⊥) → eqb l n ≡ (eqb h 0 || eqb l n)
 head_later h l n e = rw (ne_eqb h 0 e)
@@ -35,26 +35,26 @@ module _ (s : Sheet) (b : List ℕ) where
   module _ (r : length b ≡ s.n) where
     pub state_head : s.n ≤ s.head → false ≡ state_ok s b
     unfolding state_ok
-    state_head h = rw (eq_eqb (length b) s.n r, le-ltb s.head s.n h)
+    state_head h = rw (eq-eqb (length b) s.n r, le-ltb s.head s.n h)
 
     module _ (i : s.head < s.n) where
       pub state_len : s.n < s.len → false ≡ state_ok s b
       unfolding state_ok
-      state_len h = rw (eq_eqb (length b) s.n r, lt-ltb s.head s.n i, lt-leb s.len s.n h)
+      state_len h = rw (eq-eqb (length b) s.n r, lt-ltb s.head s.n i, lt-leb s.len s.n h)
 
       module _ (l : s.len ≤ s.n) where
         pub state_first : (eqb s.head 0 || eqb s.len s.n) ≡ false → false ≡ state_ok s b
         unfolding state_ok
-        state_first h = rw (eq_eqb (length b) s.n r, lt-ltb s.head s.n i, le-leb s.len s.n l, h)
+        state_first h = rw (eq-eqb (length b) s.n r, lt-ltb s.head s.n i, le-leb s.len s.n l, h)
 
         module _ (f : (eqb s.head 0 || eqb s.len s.n) ≡ true) where
           pub state_words : all_below 196608 (take s.len b) ≡ false → false ≡ state_ok s b
           unfolding state_ok
-          state_words h = rw (eq_eqb (length b) s.n r, lt-ltb s.head s.n i, le-leb s.len s.n l, f, h)
+          state_words h = rw (eq-eqb (length b) s.n r, lt-ltb s.head s.n i, le-leb s.len s.n l, f, h)
 
           pub state_rest : (t : Bool) → all_below 196608 (take s.len b) ≡ true → t ≡ all_below 1 (drop s.len b) → t ≡ state_ok s b
           unfolding state_ok
-          state_rest t h e = rw (eq_eqb (length b) s.n r, lt-ltb s.head s.n i, le-leb s.len s.n l, f, h) e
+          state_rest t h e = rw (eq-eqb (length b) s.n r, lt-ltb s.head s.n i, le-leb s.len s.n l, f, h) e
 
 -- what a part up to the end is
 pub state_part : (b : List ℕ) (l : ℕ) (t : Bool) → t ≡ all_below 1 (take (length b - l) (drop l b)) → t ≡ all_below 1 (drop l b)
@@ -132,7 +132,7 @@ good s b o t =
 module _ (n : ℕ) (b : List ℕ) where
   pub start_size : (a : ℕ) → a ≡ 12 → outside 1 4096 n ≡ true → (record { sheet = fresh n; refusal = a }, b) ≡ start_of n b
   unfolding start_of
-  start_size a e o = rw (not_true (within 1 4096 n) o, e)
+  start_size a e o = rw (not-true (within 1 4096 n) o, e)
 
   module _ (o : outside 1 4096 n ≡ false) where
     pub start_ring : (a : ℕ) → a ≡ 12 → (length b ≡ n → ⊥) → (record { sheet = fresh n; refusal = a }, b) ≡ start_of n b
@@ -141,7 +141,7 @@ module _ (n : ℕ) (b : List ℕ) where
 
     pub started : (b' : List ℕ) → length b ≡ n → b' ≡ replicate (length b) 0 → (record { sheet = fresh n; refusal = 0 }, b') ≡ start_of n b
     unfolding start_of
-    started b' h e = rw (outside_not 1 4096 n o, eq_eqb (length b) n h) (ap (λ (l : List ℕ). (record { sheet = fresh n; refusal = 0 }, l)) (e ∙ ap (λ (k : ℕ). replicate k 0) h))
+    started b' h e = rw (outside_not 1 4096 n o, eq-eqb (length b) n h) (ap (λ (l : List ℕ). (record { sheet = fresh n; refusal = 0 }, l)) (e ∙ ap (λ (k : ℕ). replicate k 0) h))
 
 -- ---- the block
 
@@ -154,7 +154,7 @@ module _ (s : Sheet) (b bs o : List ℕ) (a : ℕ) (e : a ≡ answer_of s b bs (
       → o' ≡ spliced o 0 (sheet_bytes s.n (held s b) (arrivals bs))
       → (record { sheet = s'; refusal = 0 }, b', o') ≡ block_of s b bs o
   unfolding block_of
-  block_done s' b' o' h p q = rw (← e, eq_eqb a 0 h, ← p, ← q)
+  block_done s' b' o' h p q = rw (← e, eq-eqb a 0 h, ← p, ← q)
 
   pub done_good : a ≡ 0 → Good s b
   done_good h =

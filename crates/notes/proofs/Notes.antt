@@ -14,16 +14,16 @@ module _ (g w : ℕ) where
   module _ (a : type_of w ≡ 2) where
     pub ours_group : (group_of w ≡ g → ⊥) → false ≡ is_ours g w
     unfolding is_ours
-    ours_group b = rw (eq_eqb (type_of w) 2 a, ne_eqb _ _ b)
+    ours_group b = rw (eq-eqb (type_of w) 2 a, ne_eqb _ _ b)
 
     module _ (b : group_of w ≡ g) where
       pub ours_key : 0x7F < key_of w → false ≡ is_ours g w
       unfolding is_ours
-      ours_key d = rw (eq_eqb (type_of w) 2 a, eq_eqb (group_of w) g b, lt-leb _ _ d)
+      ours_key d = rw (eq-eqb (type_of w) 2 a, eq-eqb (group_of w) g b, lt-leb _ _ d)
 
       pub ours_velocity : key_of w ≤ 0x7F → leb (velocity_of w) 0x7F ≡ is_ours g w
       unfolding is_ours
-      ours_velocity d = rw (eq_eqb (type_of w) 2 a, eq_eqb (group_of w) g b, le-leb _ _ d)
+      ours_velocity d = rw (eq-eqb (type_of w) 2 a, eq-eqb (group_of w) g b, le-leb _ _ d)
 
 module _ (w : ℕ) where
   pub on_status : (status_of w ≡ 9 → ⊥) → false ≡ is_on w
@@ -32,11 +32,11 @@ module _ (w : ℕ) where
 
   pub on_velocity : status_of w ≡ 9 → ltb 0 (velocity_of w) ≡ is_on w
   unfolding is_on
-  on_velocity a = rw (eq_eqb (status_of w) 9 a)
+  on_velocity a = rw (eq-eqb (status_of w) 9 a)
 
   pub off_8 : status_of w ≡ 8 → true ≡ is_off w
   unfolding is_off
-  off_8 a = rw (eq_eqb (status_of w) 8 a)
+  off_8 a = rw (eq-eqb (status_of w) 8 a)
 
   module _ (a : status_of w ≡ 8 → ⊥) where
     pub off_status : (status_of w ≡ 9 → ⊥) → false ≡ is_off w
@@ -45,4 +45,4 @@ module _ (w : ℕ) where
 
     pub off_velocity : status_of w ≡ 9 → eqb (velocity_of w) 0 ≡ is_off w
     unfolding is_off
-    off_velocity b = rw (ne_eqb (status_of w) 8 a, eq_eqb (status_of w) 9 b)
+    off_velocity b = rw (ne_eqb (status_of w) 8 a, eq-eqb (status_of w) 9 b)

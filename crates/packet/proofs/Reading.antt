@@ -51,14 +51,14 @@ module _ (b : List ℕ) (h : 4 ≤ length b) where
 
   module _ (e₀ : get_or b 0 0 ≡ 0x4D) where
     pub signed_not_second : (get_or b 1 0 ≡ 0x49 → ⊥) → false ≡ signed b
-    signed_not_second n = rw (signed_four b h, eq_eqb _ _ e₀, ne_eqb _ _ n)
+    signed_not_second n = rw (signed_four b h, eq-eqb _ _ e₀, ne_eqb _ _ n)
 
     module _ (e₁ : get_or b 1 0 ≡ 0x49) where
       pub signed_not_third : (get_or b 2 0 ≡ 0x44 → ⊥) → false ≡ signed b
-      signed_not_third n = rw (signed_four b h, eq_eqb _ _ e₀, eq_eqb _ _ e₁, ne_eqb _ _ n)
+      signed_not_third n = rw (signed_four b h, eq-eqb _ _ e₀, eq-eqb _ _ e₁, ne_eqb _ _ n)
 
       pub signed_by_last : get_or b 2 0 ≡ 0x44 → eqb (get_or b 3 0) 0x49 ≡ signed b
-      signed_by_last e₂ = rw (signed_four b h, eq_eqb _ _ e₀, eq_eqb _ _ e₁, eq_eqb _ _ e₂)
+      signed_by_last e₂ = rw (signed_four b h, eq-eqb _ _ e₀, eq-eqb _ _ e₁, eq-eqb _ _ e₂)
 
 -- ---- the next item
 item_short : (at : ℕ) (xs : List ℕ) → length xs < 4 → End ≡ item_of at xs

@@ -24,17 +24,17 @@ use Rattle.packet.proofs.Words.{length_bytes_of, bytes_of_append}
 module _ (p : PayloadWriter) (room : ℕ) where
   pub valid_limit_not : outside 8 1400 p.max ≡ true → false ≡ valid_of p room
   unfolding valid_of
-  valid_limit_not o = rw (not_true (within 8 1400 p.max) o)
+  valid_limit_not o = rw (not-true (within 8 1400 p.max) o)
 
   module _ (o : outside 8 1400 p.max ≡ false) where
     pub valid_empty : p.len ≡ 0 → true ≡ valid_of p room
     unfolding valid_of
-    valid_empty z = rw (not-false (within 8 1400 p.max) o, eq_eqb _ _ z)
+    valid_empty z = rw (not-false (within 8 1400 p.max) o, eq-eqb _ _ z)
 
     module _ (z : p.len ≡ 0 → ⊥) (most : ℕ) (e : most ≡ limit_of p room) where
       pub valid_length_not : outside 8 most p.len ≡ true → false ≡ valid_of p room
       unfolding valid_of
-      valid_length_not l = rw (not-false (within 8 1400 p.max) o, ne_eqb _ _ z, ← e, not_true (within 8 most p.len) l)
+      valid_length_not l = rw (not-false (within 8 1400 p.max) o, ne_eqb _ _ z, ← e, not-true (within 8 most p.len) l)
 
       pub valid_length : outside 8 most p.len ≡ false → eqb (p.len % 4) 0 ≡ valid_of p room
       unfolding valid_of
@@ -43,14 +43,14 @@ module _ (p : PayloadWriter) (room : ℕ) where
 -- ---- where the next command goes
 module _ (p : PayloadWriter) where
   pub start_empty : p.len ≡ 0 → 4 ≡ start_of p
-  start_empty z = rw (eq_eqb _ _ z)
+  start_empty z = rw (eq-eqb _ _ z)
 
   pub start_after : (p.len ≡ 0 → ⊥) → p.len ≡ start_of p
   start_after z = rw (ne_eqb _ _ z)
 
 module _ (p : PayloadWriter) (b : List ℕ) where
   pub begun_empty : p.len ≡ 0 → (e : List ℕ) → e ≡ spliced b 0 signature → e ≡ begun_of p b
-  begun_empty z e h = rw (eq_eqb _ _ z) h
+  begun_empty z e h = rw (eq-eqb _ _ z) h
 
   pub begun_after : (p.len ≡ 0 → ⊥) → b ≡ begun_of p b
   begun_after z = rw (ne_eqb _ _ z)

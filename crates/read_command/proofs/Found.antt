@@ -94,7 +94,7 @@ module _ (h : Header) (next : ℕ) (ws words lens : List ℕ) (words' : List ℕ
       let g : take n words' ≡ ws = rw stored (front_stored words ws n e f) in
       let p' : r ≡ read_of next 3 0 h.len (csd_of h) (whole_count ws) = rw g at p in
       let q' : lens' ≡ spliced lens 0 (lengths_of ws) = rw g at q in
-      rw (eq_eqb h.code 0xFF c, ← parsed_data h ws (csd_of h) refl c, stored, p', q')
+      rw (eq-eqb h.code 0xFF c, ← parsed_data h ws (csd_of h) refl c, stored, p', q')
 
   pub whole_other : (h.code ≡ 0xFF → ⊥) → (r : Read) → r ≡ command_read h.len next (whole_count ws) (parsed_of h ws) → ◌≡◌ {A = Answer} (r, words', lens) (whole_read h next ws words lens)
   unfolding whole_read

@@ -30,7 +30,7 @@ use Rattle.receiver_log.proofs.Held.{Held}
 
 one_behind : (H a b : ℕ) (p q : Bool) → a ≤ H → b ≤ H → p ≡ q → (p || eqb b a) ≡ (eqb (H - b) (H - a) || q)
 one_behind H a b p q l m e = elim (split (eqb b a)) [
-  | inl k ↦ let u : eqb (H - b) (H - a) ≡ true = omega (arith, tests, lifts) in rw (k, u) (or_true p)
+  | inl k ↦ let u : eqb (H - b) (H - a) ≡ true = omega (arith, tests, lifts) in rw (k, u) (or-true p)
   | inr k ↦ let u : eqb (H - b) (H - a) ≡ false = omega (arith, tests, lifts) in rw (k, u) (or-false p ∙ e)
 ]
 

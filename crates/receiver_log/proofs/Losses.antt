@@ -61,7 +61,7 @@ module _ (H low n : ℕ) (f p q : ℕ → Bool)
       let s : p b ≡ q (H - b) = same b l in
       let i : Bool = in_loss H (span_from H (ends_of f low n)) (H - b) in
       elim (split (p b)) [
-        | inl e ↦ let g : q (H - b) ≡ true = sym s ∙ e in rw (e, g) (sym (or_true i))
+        | inl e ↦ let g : q (H - b) ≡ true = sym s ∙ e in rw (e, g) (sym (or-true i))
         | inr e ↦
             let g : q (H - b) ≡ false = sym s ∙ e in
             rw (e, g) (sym (loss_holds (ends_of f low n) (ends_ok f low n) b l e) ∙ sym (or-false i))

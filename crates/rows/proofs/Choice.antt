@@ -24,7 +24,7 @@ use Rattle.rows.proofs.Filling.{row_with, start_done, out_length, row_size, row_
 
 -- ---- how far a request reaches
 pub reach_all : (count left : ℕ) → count ≡ 0 → left ≡ reached count left
-reach_all count left e = rw (eq_eqb _ _ e)
+reach_all count left e = rw (eq-eqb _ _ e)
 
 pub reach_some : (count left n : ℕ) → (count ≡ 0 → ⊥) → n ≡ min count left → n ≡ reached count left
 reach_some count left n e f = rw (ne_eqb _ _ e) f

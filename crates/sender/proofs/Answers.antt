@@ -28,7 +28,7 @@ module _ (words places : ℕ) (ring : List ℕ) (r : Started) where
 
     pub new_places : outside 65 32768 words ≡ false → length ring ≡ words → outside 1 16 places ≡ true → (r, ring) ≡ new_answer words places ring
     unfolding new_answer
-    new_places w l p = rw (w, eq_eqb _ _ l, p, n)
+    new_places w l p = rw (w, eq-eqb _ _ l, p, n)
 
 -- sizes that pass the tests are those that a start asks for
 pub sizes_fit : (words places n : ℕ) → outside 65 32768 words ≡ false → n ≡ words → outside 1 16 places ≡ false
@@ -45,7 +45,7 @@ unfolding new_answer
 new_done words places ring after s w l p e =
     let one = ap (λ (x : Sender × List ℕ). x.0) e in
     let two = ap (λ (x : Sender × List ℕ). x.1) e in
-    rw (w, eq_eqb _ _ l, p, one, two)
+    rw (w, eq-eqb _ _ l, p, one, two)
 
 -- ---- a reset
 module _ (s : Sender) (ring : List ℕ) where

@@ -51,7 +51,7 @@ module _ (s : Sender) (cfg : StreamConfig) (r : RetransmitRequest) where
 module _ (s : Sender) where
   pub deadline_idle : s.unsent ≡ 0 → due_at s.idle ≡ deadline_of s
   unfolding deadline_of
-  deadline_idle e = rw (eq_eqb _ _ e)
+  deadline_idle e = rw (eq-eqb _ _ e)
 
   pub deadline_none : (s.unsent ≡ 0 → ⊥) → Nothing ≡ deadline_of s
   unfolding deadline_of

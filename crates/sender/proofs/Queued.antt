@@ -39,7 +39,7 @@ use Rattle.sender.specs.declared.sender.Sender.{Sender}
 module _ (s : Sender) (ring : List ℕ) (max : ℕ) where
   pub room_none : s.unsent ≡ 0 → 0 ≡ room_of s ring max
   unfolding room_of
-  room_none e = rw (eq_eqb _ _ e)
+  room_none e = rw (eq-eqb _ _ e)
 
   module _ (some : s.unsent ≡ 0 → ⊥) (n : ℕ) (e : n ≡ length_at ring s.history.last) where
     pub room_some : max - n ≡ room_of s ring max
@@ -86,7 +86,7 @@ module _ (max : ℕ) (ws : List ℕ) where
 module _ (s : Sender) (ring : List ℕ) (max : ℕ) (ws : List ℕ) where
   pub sent_none : length ws ≡ 0 → (sent s Done, ring) ≡ sent_of s ring max ws
   unfolding sent_of
-  sent_none e = rw (eq_eqb _ _ e)
+  sent_none e = rw (eq-eqb _ _ e)
 
   pub sent_refused : (length ws ≡ 0 → ⊥) → (why : Refusal) → words_check max ws ≡ Refused why → unsent s ring why ≡ sent_of s ring max ws
   unfolding sent_of

@@ -29,7 +29,7 @@ module _ (s : Sender) (ring : List ℕ) where
 
   pub test_queue : queue_ok s.queue ≡ false → false ≡ valid_of s ring
   unfolding valid_of
-  test_queue q = rw (q, and_false)
+  test_queue q = rw (q, and-false)
 
   pub test_idle : history_ok ≡ true → queue_ok s.queue ≡ true → (b : Bool) → b ≡ idle_ok s.idle → b ≡ valid_of s ring
   unfolding valid_of

@@ -19,11 +19,11 @@ module _ (len room : ℕ) where
 
   pub block_long : len % 16 ≡ 0 → 65536 < len → false ≡ is_block len room
   unfolding is_block
-  block_long h k = rw (eq_eqb (len % 16) 0 h, lt-leb len 65536 k)
+  block_long h k = rw (eq-eqb (len % 16) 0 h, lt-leb len 65536 k)
 
   pub block_fits : len % 16 ≡ 0 → len ≤ 65536 → leb len room ≡ is_block len room
   unfolding is_block
-  block_fits h k = rw (eq_eqb (len % 16) 0 h, le-leb len 65536 k)
+  block_fits h k = rw (eq-eqb (len % 16) 0 h, le-leb len 65536 k)
 
   module _ (t : is_block len room ≡ true) where
     pub block_whole : len % 16 ≡ 0
@@ -74,7 +74,7 @@ module _ (b : List ℕ) (k i : ℕ) (more : 0 < k) where
   next_record' zero m h z = absurd (let z : ⊥ = omega arith in z)
   next_record' (suc k) m h z =
       let e : suc k - 1 ≡ k = omega arith in
-      rw (e, le-leb (class_at b i) 2 h, eq_eqb (zero_at b i) 0 z)
+      rw (e, le-leb (class_at b i) 2 h, eq-eqb (zero_at b i) 0 z)
 
   pub next_record : class_at b i ≤ 2 → zero_at b i ≡ 0 → all_records b (k - 1) (i + 16) ≡ all_records b k i
   next_record = next_record' k more

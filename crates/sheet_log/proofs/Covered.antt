@@ -20,7 +20,7 @@ every_n n h k = rw (le-leb 1 n h, le-leb n 4096 k)
 -- a start over any ring of n words leads to where the lists begin
 pub every_start : (n : ℕ) (b : List ℕ) → within 1 4096 n ≡ true → length b ≡ n → start_of n b ≡ (record { sheet = fresh n; refusal = 0 }, (started n []).1)
 unfolding start_of after
-every_start n b h e = rw (h, eq_eqb (length b) n e)
+every_start n b h e = rw (h, eq-eqb (length b) n e)
 
 -- a list may begin with any block and any output, bytes both, and goes on with any other such list
 pub every_call : (bs o : List ℕ) (cs : List Call) → all_below 256 bs ≡ true → all_below 256 o ≡ true → all_bytes cs ≡ true → all_bytes ((bs, o) ∷ cs) ≡ true
@@ -40,4 +40,4 @@ refused_no_part bs o cs h = rw (ne_eqb (taken_of bs (length o)) 0 h)
 -- an accepted one is
 pub accepted_part : (bs o : List ℕ) (cs : List Call) → taken_of bs (length o) ≡ 0 → file ((bs, o) ∷ cs) ≡ bs ++ file cs
 unfolding file
-accepted_part bs o cs h = rw (eq_eqb (taken_of bs (length o)) 0 h)
+accepted_part bs o cs h = rw (eq-eqb (taken_of bs (length o)) 0 h)

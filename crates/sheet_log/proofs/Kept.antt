@@ -74,8 +74,8 @@ first_or : (h l n : ℕ) → l ≤ n → (l < n → h ≡ 0) → (eqb h 0 || eqb
 first_or h l n k f = by (split (ltb l n))
   where
     by : (ltb l n ≡ true) ⊎ (ltb l n ≡ false) → (eqb h 0 || eqb l n) ≡ true
-    by (inl e) = rw (eq_eqb h 0 (f (ltb-true l n e)))
-    by (inr e) = let q = ltb-false l n e in let z : l ≡ n = omega arith in rw (eq_eqb l n z) (or_true (eqb h 0))
+    by (inl e) = rw (eq-eqb h 0 (f (ltb-true l n e)))
+    by (inr e) = let q = ltb-false l n e in let z : l ≡ n = omega arith in rw (eq-eqb l n z) (or_true (eqb h 0))
       where
         or_true : (t : Bool) → (t || true) ≡ true
         or_true true = refl

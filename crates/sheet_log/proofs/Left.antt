@@ -74,7 +74,7 @@ module _ (ws : List ℕ) (t : all_below 196608 ws ≡ true) (few : length ws ≤
   unfolding taken_of is_block
   taken_made =
       let l = length_made ws in
-      rw (eq_eqb (length (made_of ws) % 16) 0 (omega arith), le-leb (length (made_of ws)) 65536 (omega arith), le-leb (length (made_of ws)) (length (made_of ws)) (omega arith), rows_made, records_made ws t)
+      rw (eq-eqb (length (made_of ws) % 16) 0 (omega arith), le-leb (length (made_of ws)) 65536 (omega arith), le-leb (length (made_of ws)) (length (made_of ws)) (omega arith), rows_made, records_made ws t)
 
   after_made : (s : Sheet) (b : List ℕ) (cs : List Call) → Kept s b → within 1 4096 s.n ≡ true
       → after s b (call_of ws ∷ cs) ≡ after (pushed_all s b ws).0 (pushed_all s b ws).1 cs

@@ -94,7 +94,7 @@ every_setting cfg a b c d g =
 pub every_size : (cfg : StreamConfig) → check_of cfg ≡ Done → (W c q : ℕ) (ring₀ : List ℕ) → 1 ≤ W → W ≤ 128 → 65 ≤ c → c ≤ 32768 → length ring₀ ≡ c → 1 ≤ q → q ≤ 16 → Started cfg W c q ring₀
 unfolding new_answer
 every_size cfg k W c q ring₀ a b d f e g h =
-    rw (k, le-leb 1 W a, le-leb W 128 b, le-leb 65 c d, le-leb c 32768 f, eq_eqb (length ring₀) c e, le-leb 1 q g, le-leb q 16 h)
+    rw (k, le-leb 1 W a, le-leb W 128 b, le-leb 65 c d, le-leb c 32768 f, eq-eqb (length ring₀) c e, le-leb 1 q g, le-leb q 16 h)
 
 -- so each of them is an end of a line, with any calls
 pub every_end : (cfg : StreamConfig) → check_of cfg ≡ Done → (W c q : ℕ) (ring₀ : List ℕ) → 1 ≤ W → W ≤ 128 → 65 ≤ c → c ≤ 32768 → length ring₀ ≡ c → 1 ≤ q → q ≤ 16

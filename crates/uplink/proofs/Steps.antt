@@ -35,7 +35,7 @@ module _ (a turn : ℕ) (ws : List ℕ) where
 
   pub refused_number : outside 1 8 (length ws) ≡ true → kept ≡ step_of a turn ws
   unfolding step_of allowed
-  refused_number e = rw (not_true (within 1 8 (length ws)) e)
+  refused_number e = rw (not-true (within 1 8 (length ws)) e)
 
   module _ (e : outside 1 8 (length ws) ≡ false) where
     pub refused_turn : length ws ≤ turn → kept ≡ step_of a turn ws

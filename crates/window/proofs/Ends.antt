@@ -116,7 +116,7 @@ top_join h l w p b =
     let t = top_is h p in
     let k : ℕ = top_of h in
     top_unique (h * 2 ^ w + l) (k + w) (
-      le_trans (le_of_eq (pow-add 2 k w)) (le_trans (mul_le_mul_right (2 ^ w) t.0) (le-add_right (h * 2 ^ w) l)),
+      le_trans (le_of_eq (pow-add 2 k w)) (le_trans (mul-le-mul_right (2 ^ w) t.0) (le-add_right (h * 2 ^ w) l)),
       lt_of_lt_of_le (digits_lt t.1 b) (le_of_eq (sym (pow-add 2 (suc k) w) ∙ ap (λ (y : ℕ). 2 ^ y) (suc-add k w))),
     )
 
@@ -125,7 +125,7 @@ bottom_join h l w p bl =
     let b = bottom_is l p in
     let x : ℕ = b.0 * 2 + 1 in
     let t : ℕ = bottom_of l in
-    let short : t < w = pow_lt_cancel (lt_of_le_of_lt (le_trans (le_of_eq (sym (one-mul (2 ^ t)))) (le_trans (mul_le_mul_right (2 ^ t) (le-add_left 1 (b.0 * 2))) (le_of_eq (sym b.1)))) bl) in
+    let short : t < w = pow_lt_cancel (lt_of_le_of_lt (le_trans (le_of_eq (sym (one-mul (2 ^ t)))) (le_trans (mul-le-mul_right (2 ^ t) (le-add_left 1 (b.0 * 2))) (le_of_eq (sym b.1)))) bl) in
     let k : ℕ = w - 1 - t in
     let e : k + suc t ≡ w = omega arith in
     let word : h * 2 ^ w ≡ h * 2 ^ k * 2 * 2 ^ t =
@@ -156,7 +156,7 @@ pub top_shift : (n k : ℕ) → 0 < n → top_of n + k ≡ top_of (n * 2 ^ k)
 top_shift n k p =
     let t = top_is n p in
     top_unique (n * 2 ^ k) (top_of n + k) (
-      le_trans (le_of_eq (pow-add 2 (top_of n) k)) (mul_le_mul_right (2 ^ k) t.0),
+      le_trans (le_of_eq (pow-add 2 (top_of n) k)) (mul-le-mul_right (2 ^ k) t.0),
       lt_of_lt_of_le (mul-lt-mul_of_pos_right t.1 (pow_pos k)) (le_of_eq (sym (pow-add 2 (suc (top_of n)) k) ∙ ap (λ (z : ℕ). 2 ^ z) (suc-add (top_of n) k))),
     )
 
@@ -174,7 +174,7 @@ top_from n k p l =
     let j : ℕ = top_of n - k in
     let e : 2 ^ top_of n ≡ 2 ^ j * 2 ^ k = ap (λ (x : ℕ). 2 ^ x) (sym (sub-add_cancel {n = top_of n} {m = k} l)) ∙ pow-add 2 j k in
     let one : 2 ^ j ≤ n / 2 ^ k = (le-div_iff_mul-le (pow_pos k)).1 (le_trans (le_of_eq (sym e)) t.0) in
-    let lo : 2 ^ top_of n ≤ n / 2 ^ k * 2 ^ k = le_trans (le_of_eq e) (mul_le_mul_right (2 ^ k) one) in
+    let lo : 2 ^ top_of n ≤ n / 2 ^ k * 2 ^ k = le_trans (le_of_eq e) (mul-le-mul_right (2 ^ k) one) in
     let le : n / 2 ^ k * 2 ^ k ≤ n = le_trans (le-add_right (n / 2 ^ k * 2 ^ k) (n % 2 ^ k)) (le_of_eq (split n k)) in
     (le_trans (pow_pos (top_of n)) lo, top_unique (n / 2 ^ k * 2 ^ k) (top_of n) (lo, lt_of_le_of_lt le t.1))
 
@@ -182,7 +182,7 @@ pub bottom_le_top : (n : ℕ) → 0 < n → bottom_of n ≤ top_of n
 bottom_le_top n p =
     let b = bottom_is n p in
     let t = top_is n p in
-    let low : 2 ^ bottom_of n ≤ n = le_trans (le_of_eq (sym (one-mul (2 ^ bottom_of n)))) (le_trans (mul_le_mul_right (2 ^ bottom_of n) (le-add_left 1 (b.0 * 2))) (le_of_eq (sym b.1))) in
+    let low : 2 ^ bottom_of n ≤ n = le_trans (le_of_eq (sym (one-mul (2 ^ bottom_of n)))) (le_trans (mul-le-mul_right (2 ^ bottom_of n) (le-add_left 1 (b.0 * 2))) (le_of_eq (sym b.1))) in
     let h : bottom_of n < suc (top_of n) = pow_lt_cancel (lt_of_le_of_lt low t.1) in
     omega arith
 

@@ -27,7 +27,7 @@ use Rattle.window.proofs.Accepts.{accept_as_new, taken_is}
 module _ (w : ReceiveWindow) (seq : ℕ) {dist : ℕ} (ed : dist ≡ ahead w.highest seq) where
   pub in_order_next : dist ≡ 1 → eqb (missing_of w) 0 ≡ in_order w seq
   unfolding in_order
-  in_order_next e = let next : eqb (ahead w.highest seq) 1 ≡ true = eq_eqb _ _ (sym ed ∙ e) in rw next
+  in_order_next e = let next : eqb (ahead w.highest seq) 1 ≡ true = eq-eqb _ _ (sym ed ∙ e) in rw next
 
   pub in_order_other : (dist ≡ 1 → ⊥) → false ≡ in_order w seq
   unfolding in_order
@@ -54,7 +54,7 @@ module _ (w : ReceiveWindow) (v : Valid w) (seq : ℕ) (e : in_order w seq ≡ t
   moved : moved_of w.size (val w.bits) 1 ≡ 2 ^ w.size - 1
   unfolding moved_of
   moved =
-      ap (λ (x : ℕ). ((x * 2 + 1) * 2 ^ 0) % 2 ^ w.size) all ∙ ap (λ (x : ℕ). x % 2 ^ w.size) (mul_one ((2 ^ w.size - 1) * 2 + 1) ∙ twice (2 ^ w.size) (pow_pos w.size)) ∙ low 1 w.size (ones_lt w.size)
+      ap (λ (x : ℕ). ((x * 2 + 1) * 2 ^ 0) % 2 ^ w.size) all ∙ ap (λ (x : ℕ). x % 2 ^ w.size) (mul-one ((2 ^ w.size - 1) * 2 + 1) ∙ twice (2 ^ w.size) (pow_pos w.size)) ∙ low 1 w.size (ones_lt w.size)
     where
       twice : (p : ℕ) → 0 < p → (p - 1) * 2 + 1 ≡ 1 * p + (p - 1)
       twice p l = omega arith
@@ -72,7 +72,7 @@ module _ (w : ReceiveWindow) (v : Valid w) (seq : ℕ) (e : in_order w seq ≡ t
   pub in_order_complete : eqb (missing_of (accept_of w seq).window) 0 ≡ true
   unfolding new_of missing_of
   in_order_complete =
-      eq_eqb _ _ (ap (λ (t : Arrival). missing_of t.window) accept_as_next ∙ ap (λ (x : ℕ). (2 ^ w.size - 1) - x) (val_of _ ∙ moved) ∙ self (2 ^ w.size - 1))
+      eq-eqb _ _ (ap (λ (t : Arrival). missing_of t.window) accept_as_next ∙ ap (λ (x : ℕ). (2 ^ w.size - 1) - x) (val_of _ ∙ moved) ∙ self (2 ^ w.size - 1))
     where
       self : (n : ℕ) → n - n ≡ 0
       self n = omega arith

@@ -44,7 +44,7 @@ module _ (size m d e : ℕ) (ed : e + 2 + size ≡ d) where
   far_pos = subst (λ (z : ℕ). 0 < z) (sym odd) (le-add_left 1 ((m * 2 ^ (e + 1) + (2 ^ e - 1)) * 2))
 
   pub far_bottom : 0 ≡ bottom_of (lost_of size m d)
-  far_bottom = bottom_unique (lost_of size m d) 0 far_pos (m * 2 ^ (e + 1) + (2 ^ e - 1), odd ∙ sym (mul_one ((m * 2 ^ (e + 1) + (2 ^ e - 1)) * 2 + 1)))
+  far_bottom = bottom_unique (lost_of size m d) 0 far_pos (m * 2 ^ (e + 1) + (2 ^ e - 1), odd ∙ sym (mul-one ((m * 2 ^ (e + 1) + (2 ^ e - 1)) * 2 + 1)))
 
   -- the oldest is the oldest that was missing, or the first that was skipped
   pub far_top : 0 < m → top_of m + (e + 2) ≡ top_of (lost_of size m d)
@@ -52,7 +52,7 @@ module _ (size m d e : ℕ) (ed : e + 2 + size ≡ d) where
       let t = top_is m p in
       let small : 2 ^ (e + 1) - 1 < 2 ^ (e + 2) = lt_of_lt_of_le (ones_lt (e + 1)) (pow_mono grow) in
       let lo : 2 ^ (top_of m + (e + 2)) ≤ m * 2 ^ (e + 2) + (2 ^ (e + 1) - 1) =
-      le_trans (le_of_eq (pow-add 2 (top_of m) (e + 2))) (le_trans (mul_le_mul_right (2 ^ (e + 2)) t.0) (le-add_right (m * 2 ^ (e + 2)) (2 ^ (e + 1) - 1))) in
+      le_trans (le_of_eq (pow-add 2 (top_of m) (e + 2))) (le_trans (mul-le-mul_right (2 ^ (e + 2)) t.0) (le-add_right (m * 2 ^ (e + 2)) (2 ^ (e + 1) - 1))) in
       let hi : m * 2 ^ (e + 2) + (2 ^ (e + 1) - 1) < 2 ^ suc (top_of m + (e + 2)) =
       lt_of_lt_of_le (digits_lt t.1 small) (le_of_eq (sym (pow-add 2 (suc (top_of m)) (e + 2)) ∙ ap (λ (z : ℕ). 2 ^ z) (suc-add (top_of m) (e + 2)))) in
       top_unique (m * 2 ^ (e + 2) + (2 ^ (e + 1) - 1)) (top_of m + (e + 2)) (lo, hi) ∙ ap top_of (sym far_is)
@@ -108,7 +108,7 @@ near size m d k p q ek = go (eq-or-lt_of_le q)
     go : (d ≡ size + 1) ⊎ (d < size + 1) → Near size d (m / 2 ^ k * 2 ^ k) (lost_of size m d)
     go (inl e) =
         let k0 : 0 ≡ k = omega arith in
-        let old : m ≡ m / 2 ^ k * 2 ^ k = subst (λ (z : ℕ). m ≡ m / 2 ^ z * 2 ^ z) k0 (sym (mul_one (m / 1) ∙ div-one m)) in
+        let old : m ≡ m / 2 ^ k * 2 ^ k = subst (λ (z : ℕ). m ≡ m / 2 ^ z * 2 ^ z) k0 (sym (mul-one (m / 1) ∙ div-one m)) in
         let d1 : d - 1 ≡ size = omega arith in
         let gone : lost_of size m d ≡ m * 2 =
         ap₂ (λ (y z : ℕ). (m * 2 ^ y + (2 ^ z - 1)) / 2 ^ size) e d1

@@ -22,7 +22,7 @@ complete_is w v = go (2 ^ w.size) (val w.bits) v.inside
   where
     go : (p n : ℕ) → n < p → eqb n (p - 1) ≡ eqb (p - 1 - n) 0
     go p n l = elim (split (eqb n (p - 1))) [
-      | inl q ↦ q ∙ sym (eq_eqb (p - 1 - n) 0 (omega (arith, tests)))
+      | inl q ↦ q ∙ sym (eq-eqb (p - 1 - n) 0 (omega (arith, tests)))
       | inr q ↦ q ∙ sym (ne_eqb (p - 1 - n) 0 (λ z. eqb-false n (p - 1) q (omega arith)))
     ]
 

@@ -20,7 +20,7 @@ module _ (h base m : ℕ) where
   span_nothing f = go m refl
     where
       go : (n : ℕ) → m ≡ n → span_of h base m ≡ Nothing
-      go zero e = rw (eq_eqb m 0 e)
+      go zero e = rw (eq-eqb m 0 e)
       go (suc n) e =
           let p : 0 < m = omega arith in
           let t : has m (top_of m) ≡ true = has_top m p in

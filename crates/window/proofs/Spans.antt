@@ -16,7 +16,7 @@ use Rattle.window.proofs.Words.{val_is}
 
 pub span_none : (h base m : ℕ) → m ≡ 0 → Nothing ≡ span_of h base m
 unfolding span_of
-span_none h base m e = simp (eq_eqb m 0 e)
+span_none h base m e = simp (eq-eqb m 0 e)
 
 -- the numbers from position o to position n behind h
 abbrev pub RangeTo : ℕ → ℕ → ℕ → SeqRange → Type 0

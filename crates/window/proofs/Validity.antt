@@ -13,7 +13,7 @@ use Rattle.config.specs.inner.Ranges.{outside_not, within_range}
 
 pub valid_size : (w : ReceiveWindow) → outside 1 max_window w.size ≡ true → false ≡ valid_of w
 unfolding valid_of
-valid_size w e = rw (not_true (within 1 max_window w.size) e)
+valid_size w e = rw (not-true (within 1 max_window w.size) e)
 
 pub valid_bits : (w : ReceiveWindow) → outside 1 max_window w.size ≡ false → ltb (val w.bits) (2 ^ w.size) ≡ valid_of w
 unfolding valid_of

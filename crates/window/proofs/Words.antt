@@ -29,10 +29,10 @@ flip m k b h l p q =
 
 -- nothing in the words
 pub empty_up : (h b l : ℕ) → 0 < b → l ≡ 0 → eqb h 0 ≡ eqb (h * b + l) 0
-empty_up zero b l p e = sym (eq_eqb (0 * b + l) 0 (ap (λ (x : ℕ). x + l) (zero-mul b) ∙ zero-add l ∙ e))
+empty_up zero b l p e = sym (eq-eqb (0 * b + l) 0 (ap (λ (x : ℕ). x + l) (zero-mul b) ∙ zero-add l ∙ e))
 empty_up (suc h) b l p e =
     let q : 0 < suc h * b = subst (λ (x : ℕ). x < suc h * b) (zero-mul b) (mul-lt-mul_of_pos_right {m = 0} {n = suc h} {k = b} (zero-lt-suc h) p) in
-    eqb_suc_zero h ∙ sym (ne_eqb (suc h * b + l) 0 (λ z. lt_irrefl 0 (subst (λ (y : ℕ). 0 < y) z (le_trans q (le-add_right (suc h * b) l)))))
+    eqb-suc-zero h ∙ sym (ne_eqb (suc h * b + l) 0 (λ z. lt_irrefl 0 (subst (λ (y : ℕ). 0 < y) z (le_trans q (le-add_right (suc h * b) l)))))
 
 pub empty_not : (h b l : ℕ) → (l ≡ 0 → ⊥) → false ≡ eqb (h * b + l) 0
 empty_not h b l f = sym (ne_eqb (h * b + l) 0 (λ z. f (le-zero (subst (λ (y : ℕ). l ≤ y) z (le-add_left l (h * b))))))
@@ -151,7 +151,7 @@ module _ (h l : ℕ) (hl : l < 2 ^ 64) where
   -- nothing at n and above, for n up to a word and for n beyond it
   pub below_not : (n : ℕ) → n ≤ 64 → (h ≡ 0 → ⊥) → false ≡ ltb (join h l) (2 ^ n)
   below_not n b f =
-      let one : 1 * 2 ^ 64 ≤ h * 2 ^ 64 = mul_le_mul_right (2 ^ 64) (pos_of_ne-zero f) in
+      let one : 1 * 2 ^ 64 ≤ h * 2 ^ 64 = mul-le-mul_right (2 ^ 64) (pos_of_ne-zero f) in
       sym (le-ltb (join h l) (2 ^ n) (le_trans (pow_mono b) (le_trans (le_of_eq (sym (one-mul (2 ^ 64)))) (le_trans one (le-add_right (h * 2 ^ 64) l)))))
 
   pub below_low : (n j : ℕ) → j + n ≡ 64 → h ≡ 0 → leb l ((2 ^ 64 - 1) / 2 ^ j) ≡ ltb (join h l) (2 ^ n)
@@ -169,7 +169,7 @@ module _ (h l : ℕ) (hl : l < 2 ^ 64) where
         | inl q ↦ q ∙ sym (lt-ltb (join h l) (2 ^ (k + 64)) (lt_of_lt_of_le (digits_lt (ltb-true h (2 ^ k) q) hl) (le_of_eq (sym (pow-add 2 k 64)))))
         | inr q ↦
             q ∙ sym (le-ltb (join h l) (2 ^ (k + 64))
-            (le_trans (le_of_eq (pow-add 2 k 64)) (le_trans (mul_le_mul_right (2 ^ 64) (ltb-false h (2 ^ k) q)) (le-add_right (h * 2 ^ 64) l))))
+            (le_trans (le_of_eq (pow-add 2 k 64)) (le_trans (mul-le-mul_right (2 ^ 64) (ltb-false h (2 ^ k) q)) (le-add_right (h * 2 ^ 64) l))))
       ]
 
   -- all the n lowest positions, the same
@@ -188,7 +188,7 @@ module _ (h l : ℕ) (hl : l < 2 ^ 64) where
 
     pub all_high : (j : ℕ) → j + n ≡ max_window → l ≡ 2 ^ 64 - 1 → eqb h ((2 ^ 64 - 1) / 2 ^ j) ≡ eqb (join h l) (2 ^ n - 1)
     all_high j e el = ap (eqb h) (word_ones (n - 64) j (omega arith)) ∙ elim (test (eqb h (2 ^ (n - 64) - 1))) [
-      | inl q ↦ q ∙ sym (eq_eqb (join h l) (2 ^ n - 1) (ap₂ join (eqb-true h (2 ^ (n - 64) - 1) q) el ∙ sym parts))
+      | inl q ↦ q ∙ sym (eq-eqb (join h l) (2 ^ n - 1) (ap₂ join (eqb-true h (2 ^ (n - 64) - 1) q) el ∙ sym parts))
       | inr q ↦
           q ∙ sym (ne_eqb (join h l) (2 ^ n - 1)
           (λ z. eqb-false h (2 ^ (n - 64) - 1) q (sym (high h 64 hl) ∙ ap (λ (x : ℕ). x / 2 ^ 64) (z ∙ parts) ∙ high (2 ^ (n - 64) - 1) 64 (ones_lt 64))))

@@ -43,7 +43,7 @@ use Rattle.sender.proofs.Kept.{ready, need_parts, sent_kept}
 module _ (s : Sender) (back : ℕ) where
   pub begins_none : s.queue.len ≡ 0 → back ≡ begins_of s back
   unfolding begins_of
-  begins_none e = rw (eq_eqb _ _ e)
+  begins_none e = rw (eq-eqb _ _ e)
 
   module _ (some : s.queue.len ≡ 0 → ⊥) where
     pub begins_short : s.history.count < 8 → back ≡ begins_of s back

@@ -145,7 +145,7 @@ module _ (s : Sender) (cfg : StreamConfig) (time n : ℕ) (p : PayloadWriter) (b
     new_by_lem = rw (← e) (ap (new_by s cfg time n p b ring) news)
 
     pub new_large : free_of p (length b) ≤ length_at ring first → p.len ≡ 0 → (refused s p, b) ≡ new_of s cfg time n p b ring
-    new_large h z = sym (new_by_lem ∙ rw (first_none p b ring first h, eq_eqb _ _ z))
+    new_large h z = sym (new_by_lem ∙ rw (first_none p b ring first h, eq-eqb _ _ z))
 
     pub new_more : free_of p (length b) ≤ length_at ring first → (p.len ≡ 0 → ⊥) → (wrote s p n true, b) ≡ new_of s cfg time n p b ring
     new_more h z = sym (new_by_lem ∙ rw (first_none p b ring first h, ne_eqb _ _ z))

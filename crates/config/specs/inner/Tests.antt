@@ -6,7 +6,7 @@ use Rattle.std.proofs.lemmas.Bool.{eqb-false, lt-leb}
 -- for omega: from a test to its fact, and back
 pub ruleset tests = (ltb-true, ltb-false, leb-true, leb-false, eqb-true, eqb-false)
 
-pub ruleset lifts = (lt-ltb, le-ltb, le-leb, lt-leb, eq_eqb, ne_eqb)
+pub ruleset lifts = (lt-ltb, le-ltb, le-leb, lt-leb, eq-eqb, ne_eqb)
 
 pub split : (t : Bool) → (t ≡ true) ⊎ (t ≡ false)
 split true = inl refl

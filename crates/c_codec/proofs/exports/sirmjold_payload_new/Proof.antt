@@ -23,7 +23,7 @@ returns : tie.Need-returns
 unfolding open_export
 returns c =
     let o = sym c.before.before.before.before.before.before.before.new.ensures ∙ c.before.before.before.before.before.payload.given.1 in
-    made _ _ refl (eq_eqb _ 2 c.before.before.before.before.before.before.before.before.if1.true) (rw (c.before.before.open.ensures, o))
+    made _ _ refl (eq-eqb _ 2 c.before.before.before.before.before.before.before.before.if1.true) (rw (c.before.before.open.ensures, o))
 
 enum-known-why : tie.Need-enum-known-why
 enum-known-why c = search rules
@@ -35,7 +35,7 @@ returns-2 : tie.Need-returns-2
 unfolding open_export
 returns-2 c =
     let o = sym c.before.before.before.before.new.ensures ∙ c.before.before.why.given.1 in
-    made _ _ refl (eq_eqb _ 2 c.before.before.before.before.before.if1.true) (rw (c.number.ensures, o))
+    made _ _ refl (eq-eqb _ 2 c.before.before.before.before.before.if1.true) (rw (c.number.ensures, o))
 
 returns-3 : tie.Need-returns-3
 unfolding open_export

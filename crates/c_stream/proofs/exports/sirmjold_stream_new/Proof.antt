@@ -33,7 +33,7 @@ same-length-2 c = search rules
 
 returns : tie.Need-returns
 unfolding new_export
-returns c = let q = rw c.before.before.before.before.before.before.before.before.before.before.before.load.ensures at c.before.before.before.before.before.before.before.before.before.new.ensures in let a = c.before.before.before.before.before.before.before.before.before.before.before.before.before.before.before.before.before.before.args in made _ _ (passed _ c.before.before.before.before.before.before.before.before.before.before.before.before.before.before.number.ensures c.before.before.before.before.before.before.before.before.before.before.before.before.before.if1.true) (eq_eqb _ _ c.before.before.before.before.before.before.before.before.before.before.before.before.if2.true) (new_started a.s.now a.ring.now _ _ _ q c.before.before.before.before.enum_told.given.1 _ c.before.before.store.ensures)
+returns c = let q = rw c.before.before.before.before.before.before.before.before.before.before.before.load.ensures at c.before.before.before.before.before.before.before.before.before.new.ensures in let a = c.before.before.before.before.before.before.before.before.before.before.before.before.before.before.before.before.before.before.args in made _ _ (passed _ c.before.before.before.before.before.before.before.before.before.before.before.before.before.before.number.ensures c.before.before.before.before.before.before.before.before.before.before.before.before.before.if1.true) (eq-eqb _ _ c.before.before.before.before.before.before.before.before.before.before.before.before.if2.true) (new_started a.s.now a.ring.now _ _ _ q c.before.before.before.before.enum_told.given.1 _ c.before.before.store.ensures)
 
 enum-known-answer : tie.Need-enum-known-answer
 enum-known-answer c = search rules
@@ -46,7 +46,7 @@ same-length-3 c = search rules
 
 returns-2 : tie.Need-returns-2
 unfolding new_export
-returns-2 c = let q = rw c.before.before.before.before.before.before.before.before.before.load.ensures at c.before.before.before.before.before.before.before.new.ensures in let a = c.before.before.before.before.before.before.before.before.before.before.before.before.before.before.before.before.args in let d = c.before.before.answer.given.1 in made _ _ (passed _ c.before.before.before.before.before.before.before.before.before.before.before.before.number.ensures c.before.before.before.before.before.before.before.before.before.before.before.if1.true) (eq_eqb _ _ c.before.before.before.before.before.before.before.before.before.before.if2.true) (new_refused a.s.now a.ring.now _ _ _ q _ d (new_kept a.ring.now _ _ _ _ _ _ q d) _ c.number2.ensures)
+returns-2 c = let q = rw c.before.before.before.before.before.before.before.before.before.load.ensures at c.before.before.before.before.before.before.before.new.ensures in let a = c.before.before.before.before.before.before.before.before.before.before.before.before.before.before.before.before.args in let d = c.before.before.answer.given.1 in made _ _ (passed _ c.before.before.before.before.before.before.before.before.before.before.before.before.number.ensures c.before.before.before.before.before.before.before.before.before.before.before.if1.true) (eq-eqb _ _ c.before.before.before.before.before.before.before.before.before.before.if2.true) (new_refused a.s.now a.ring.now _ _ _ q _ d (new_kept a.ring.now _ _ _ _ _ _ q d) _ c.number2.ensures)
 
 returns-3 : tie.Need-returns-3
 unfolding new_export

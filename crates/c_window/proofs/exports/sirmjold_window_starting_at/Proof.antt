@@ -20,7 +20,7 @@ returns : tie.Need-returns
 unfolding start_export
 returns c =
     let q = rw c.before.before.before.starting-at.ensures at c.before.before.start.ensures in
-    made _ _ refl (eq_eqb _ 4 c.before.before.before.before.before.if1.true) q
+    made _ _ refl (eq-eqb _ 4 c.before.before.before.before.before.if1.true) q
 
 returns-2 : tie.Need-returns-2
 unfolding start_export

@@ -4,7 +4,7 @@ use Rattle.packet.proofs.tested.refuse_fit.Statement.{statement}
 use Rattle.packet.proofs.tested.refuse_fit.Tie as tie
 
 returns : tie.Need-returns
-returns c = rw (eq_eqb _ _ c.if1.true)
+returns c = rw (eq-eqb _ _ c.if1.true)
 
 returns-2 : tie.Need-returns-2
 returns-2 c = rw (ne_eqb _ _ c.if1.false)

@@ -4,7 +4,7 @@ use Rattle.read_command.proofs.next.first.Statement.{statement}
 use Rattle.read_command.proofs.next.first.Tie as tie
 
 returns : tie.Need-returns
-returns c = rw (eq_eqb _ 0 c.if1.true)
+returns c = rw (eq-eqb _ 0 c.if1.true)
 
 returns-2 : tie.Need-returns-2
 returns-2 c = rw (ne_eqb _ 0 c.if1.false)

@@ -15,7 +15,7 @@ enum_told c = search rules
 returns : tie.Need-returns
 returns c =
     let e = opened_signed _ _ (sym c.before.before.command-packets.ensures ∙ c.enum_told.given.1) in
-    rw (eq_eqb _ 0 c.before.before.before.if1.true, e)
+    rw (eq-eqb _ 0 c.before.before.before.if1.true, e)
 
 enum-told-2 : tie.Need-enum-told-2
 enum-told-2 c = search rules
@@ -23,7 +23,7 @@ enum-told-2 c = search rules
 returns-2 : tie.Need-returns-2
 returns-2 c =
     let e = refused_unsigned _ _ (sym c.before.before.command-packets.ensures ∙ c.enum-told2.given.1) in
-    rw (eq_eqb _ 0 c.before.before.before.if1.true, e)
+    rw (eq-eqb _ 0 c.before.before.before.if1.true, e)
 
 returns-3 : tie.Need-returns-3
 returns-3 c = rw (ne_eqb _ 0 c.if1.false)

@@ -5,7 +5,7 @@ use Rattle.receiver.proofs.tested.no_fit.Statement.{statement}
 use Rattle.receiver.proofs.tested.no_fit.Tie as tie
 
 returns : tie.Need-returns
-returns c = rw (eq_eqb _ _ c.if1.true)
+returns c = rw (eq-eqb _ _ c.if1.true)
 
 returns-2 : tie.Need-returns-2
 returns-2 c = rw (ne_eqb _ _ c.if1.false)

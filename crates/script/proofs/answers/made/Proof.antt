@@ -7,7 +7,7 @@ use Rattle.script.proofs.answers.made.Tie as tie
 
 returns : tie.Need-returns
 unfolding unless_refused
-returns c = rw (eq_eqb _ 0 c.if1.true)
+returns c = rw (eq-eqb _ 0 c.if1.true)
 
 refused-requires : tie.Need-refused-requires
 refused-requires c κs = search rules

@@ -20,7 +20,7 @@ returns c =
     let x = s.args.s in
     let b = bounds s in
     of_words x.high x.low b.1 _
-    (sym (ap (λ (n : ℕ). (val x * 2 ^ n) % 2 ^ max_window) c.if1.true ∙ ap (λ (y : ℕ). y % 2 ^ max_window) (mul_one (val x)) ∙ mod-eq_of_lt (words_lt x.high x.low b.0 b.1)))
+    (sym (ap (λ (n : ℕ). (val x * 2 ^ n) % 2 ^ max_window) c.if1.true ∙ ap (λ (y : ℕ). y % 2 ^ max_window) (mul-one (val x)) ∙ mod-eq_of_lt (words_lt x.high x.low b.0 b.1)))
 
 bits-up-requires : tie.Need-bits-up-requires
 bits-up-requires c κs = search rules
