@@ -1,0 +1,6 @@
+-- The figures in their places.
+use borrow.Author.Rules.{rules}
+use Rattle.c_hearing.proofs.figures.of_delivery.Goals as goal
+
+pub returns : goal.returns
+returns c = rw (c.word-2.ensures, c.word.ensures, c.pair.ensures)

@@ -1,0 +1,6 @@
+-- The figures in their places.
+use borrow.Author.Rules.{rules}
+use Rattle.c_hearing.proofs.figures.read.Goals as goal
+
+pub returns : goal.returns
+returns c = rw (c.word.ensures, c.pair.ensures)

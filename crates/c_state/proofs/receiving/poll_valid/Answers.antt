@@ -1,0 +1,7 @@
+-- A timer that is stopped changes nothing.
+use Rattle.c_state.proofs.Hearings.{polled_stopped}
+use borrow.Author.Rules.{rules}
+use Rattle.c_state.proofs.receiving.poll_valid.Goals as goal
+
+pub returns-in-Stopped : goal.returns-in-Stopped
+returns-in-Stopped c = polled_stopped _ _ c.requires.0 c.requires.1 _ _ c.in-Stopped.is

@@ -1,0 +1,17 @@
+-- The words are loaded, and the call is made.
+use mathlib.Core.Path.{refl, sym, ◌∙◌}
+use Rattle.c_stream.specs.Exports.{wants_export}
+use Rattle.c_words.proofs.Entries.{made, words_refused}
+use borrow.Author.Rules.{rules}
+use Rattle.c_stream.proofs.exports.sirmjold_stream_wants_write.Goals as goal
+
+pub load-stream-requires : goal.load-stream-requires
+load-stream-requires c = sym c.fits.ensures ∙ c.if-fits.true
+
+pub returns-then-fits : goal.returns-then-fits
+unfolding wants_export
+returns-then-fits c = made _ _ refl (sym c.fits.ensures ∙ c.if-fits.true) (rw (c.of_wants.ensures, c.wants_write.ensures, c.load-stream.ensures))
+
+pub returns : goal.returns
+unfolding wants_export
+returns c = words_refused _ _ refl (sym c.fits.ensures ∙ c.if-fits.false) (rw c.refused_wants.ensures)

@@ -1,0 +1,8 @@
+-- The numbers of the library's step.
+use mathlib.Core.Path.{ap, ◌∙◌}
+use borrow.Author.Rules.{rules}
+use Rattle.c_uplink.specs.Numbers.{numbers_of}
+use Rattle.c_uplink.proofs.sirmjold_uplink_grant.Goals as goal
+
+pub returns : goal.returns
+returns c = c.numbers.ensures ∙ ap numbers_of c.grant-step.ensures

@@ -1,0 +1,19 @@
+-- By the tests in their order.
+use native.Mathlib.Omega.{arith}
+use mathlib.Core.Path.{sym, ap, ◌∙◌}
+use mathlib.Core.Bool.{Bool}
+use Rattle.config.specs.Entry.{on_state}
+use Rattle.config.specs.Refusals.{outcome_number}
+use Rattle.config.specs.declared.answer.Outcome.TheVariants.{Done, Refused}
+use Rattle.c_words.proofs.Figures.{not_eight, own_refused, own_passed}
+use borrow.Author.Rules.{rules}
+use Rattle.c_words.proofs.settings.number.Goals as goal
+
+pub returns-then-words-ne8 : goal.returns-then-words-ne8
+returns-then-words-ne8 c = not_eight _ c.if-words-ne8.true
+
+pub returns-in-Refused : goal.returns-in-Refused
+returns-in-Refused c = c.number.ensures ∙ own_refused _ (omega arith) _ (sym c.in-Refused.is ∙ c.check.ensures)
+
+pub returns-in-Done : goal.returns-in-Done
+returns-in-Done c = c.fit.ensures ∙ ap (λ (t : Bool). outcome_number (on_state t Refused Done)) c.narrow.ensures ∙ own_passed _ (omega arith) (sym c.in-Done.is ∙ c.check.ensures)

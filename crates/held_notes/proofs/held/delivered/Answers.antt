@@ -1,0 +1,14 @@
+-- By what the receiver answered.
+use native.Mathlib.Omega.{arith}
+use Rattle.held_notes.proofs.Calls.{refuses, by_hearing}
+use borrow.Author.Rules.{rules}
+use Rattle.held_notes.proofs.held.delivered.Goals as goal
+
+pub returns-then-state-gt15 : goal.returns-then-state-gt15
+returns-then-state-gt15 c = refuses _ _ _ (omega arith) c.refused.ensures
+
+pub returns-in-Delivery : goal.returns-in-Delivery
+returns-in-Delivery c = by_hearing _ c.heard.result (search rules) _ c.in-Delivery.is (omega arith) c.heard.ensures
+
+pub returns-in-Refused : goal.returns-in-Refused
+returns-in-Refused c = by_hearing _ c.unchanged.result (search rules) _ c.in-Refused.is (omega arith) c.unchanged.ensures

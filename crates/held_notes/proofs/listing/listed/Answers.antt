@@ -1,0 +1,43 @@
+use mathlib.Core.Path.{refl, sym, ◌∙◌}
+use mathlib.Core.Logic.{⊎_elim}
+use Prim.Native.Nat.{◌-◌}
+use native.Mathlib.Omega.{arith}
+use Rattle.held_notes.specs.State.{all_notes, notes_below}
+use Rattle.held_notes.proofs.Lists.{Listed, few, listed_held, listed_not, listed_all}
+use Rattle.held_notes.proofs.listing.listed.Goals as goal
+
+pub loop-note-init : goal.loop-note-init
+unfolding notes_below
+loop-note-init c = (omega arith, refl, refl)
+
+pub holds-requires : goal.holds-requires
+holds-requires c = omega arith
+
+pub overflow_cast-items : goal.overflow_cast-items
+overflow_cast-items c = omega arith
+
+pub offset_bounds-items-count : goal.offset_bounds-items-count
+offset_bounds-items-count c = omega (arith, few c.args.held c.loop-note.note c.loop-note.items c.loop-note.count c.loop-note.invariant (omega arith))
+
+pub bounds-items-count : goal.bounds-items-count
+bounds-items-count c = omega (arith, few c.args.held c.loop-note.note c.loop-note.items c.loop-note.count c.loop-note.invariant (omega arith))
+
+pub overflow_add-count : goal.overflow_add-count
+overflow_add-count c = omega (arith, few c.args.held c.loop-note.note c.loop-note.items c.loop-note.count c.loop-note.invariant (omega arith))
+
+pub overflow_add-note : goal.overflow_add-note
+overflow_add-note c = omega arith
+
+pub loop-note-smaller : goal.loop-note-smaller
+loop-note-smaller c = omega arith
+
+pub loop-note-preserved : goal.loop-note-preserved
+loop-note-preserved c =
+    ⊎_elim
+    (λ (f, m, n). listed_held c.args.held c.loop-note.note c.loop-note.items c.loop-note.count c.loop-note.invariant (omega arith) (sym c.holds.ensures ∙ f.taken) c.if-holds.items c.if-holds.count m n)
+    (λ (f, m, n). listed_not c.args.held c.loop-note.note c.loop-note.items c.loop-note.count c.loop-note.invariant (omega arith) (sym c.holds.ensures ∙ f.left) c.if-holds.items c.if-holds.count m n)
+    c.if-holds.branch
+
+pub returns : goal.returns
+returns c =
+    listed_all c.args.held c.loop-note.note c.loop-note.items c.loop-note.count c.loop-note.invariant (omega arith)

@@ -1,0 +1,6 @@
+-- The contract is the theorem of `proofs/Calls.antt`.
+use Rattle.held_notes.proofs.Calls.{held_kept}
+use Rattle.held_notes.proofs.theorems.held_kept.Goals as goal
+
+pub returns : goal.returns
+returns c = held_kept

@@ -1,0 +1,7 @@
+-- The sum is the due time, and the step has T1's length.
+use Rattle.idle.proofs.Steps.{started}
+use borrow.Author.Rules.{rules}
+use Rattle.idle.proofs.idle.IdleTimer.start.Goals as goal
+
+pub returns : goal.returns
+returns c = started c.args.cfg _ _ c.later_by.ensures

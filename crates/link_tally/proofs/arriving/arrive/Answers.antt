@@ -1,0 +1,15 @@
+-- Without the signature nothing is read; else the walk from byte 4 on is the whole.
+use native.Mathlib.Omega.{arith}
+use Rattle.link_tally.proofs.Walking.{arrive_unsigned, arrive_signed}
+use borrow.Author.Rules.{rules}
+use Rattle.link_tally.proofs.arriving.arrive.Reads as reads
+use Rattle.link_tally.proofs.arriving.arrive.Lts as lts
+use Rattle.link_tally.proofs.arriving.walk.Reads as walk_reads
+use Rattle.packet.proofs.cursor.command_packets.Reads as command_packets_reads
+use Rattle.link_tally.proofs.arriving.arrive.Goals as goal
+
+pub returns-in-Refused : goal.returns-in-Refused
+returns-in-Refused c = (arrive_unsigned _ _ _ _ _ _ c.command_packets.ensures _ c.in-Refused.is, record { handed = omega arith; losses = omega arith })
+
+pub returns-in-At : goal.returns-in-At
+returns-in-At c = (arrive_signed _ _ _ _ _ _ c.command_packets.ensures _ c.in-At.is _ c.walk.ensures.0, c.walk.ensures.1)

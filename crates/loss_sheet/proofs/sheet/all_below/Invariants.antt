@@ -1,0 +1,15 @@
+-- What is still to be tested from here decides, as long as every word passed is below the limit.
+use mathlib.Core.Path.{◌≡◌, refl, ◌∙◌}
+use Prim.Native.Nat.{◌-◌, ◌≤◌}
+use lib.ListN.{length, drop}
+use Rattle.loss_sheet.specs.Sheet.{all_below}
+use Rattle.loss_sheet.proofs.Ring.{below_bad, below_next, below_end}
+use borrow.Author.Rules.{rules}
+use native.Mathlib.Omega.{arith}
+use Rattle.loss_sheet.proofs.sheet.all_below.Given as goal
+
+abbrev pub invariant-loop-i : goal.invariant-loop-i
+invariant-loop-i l = (l.i ≤ length l.words) × (all_below l.limit (drop l.i l.words) ≡ all_below l.limit l.words)
+
+abbrev pub decreases-loop-i : goal.decreases-loop-i
+decreases-loop-i l = length l.words - l.i

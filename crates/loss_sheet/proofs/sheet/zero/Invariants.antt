@@ -1,0 +1,16 @@
+-- After k turns the first k words are 0 and the others are as they were.
+use mathlib.Core.Path.{◌≡◌, refl}
+use mathlib.Core.List.{◌++◌}
+use Prim.Native.Nat.{◌-◌, ◌≤◌}
+use native.Mathlib.Omega.{arith}
+use borrow.Author.Fill.{fill_more}
+use lib.ListN.{length, drop, replicate, length-set}
+use Rattle.loss_sheet.proofs.Ring.{filled}
+use borrow.Author.Rules.{rules}
+use Rattle.loss_sheet.proofs.sheet.zero.Given as goal
+
+abbrev pub invariant-loop-k : goal.invariant-loop-k
+invariant-loop-k l = (l.k ≤ length l.initial.ring) × (length l.ring ≡ length l.initial.ring) × (l.ring ≡ replicate l.k 0 ++ drop l.k l.initial.ring)
+
+abbrev pub decreases-loop-k : goal.decreases-loop-k
+decreases-loop-k l = length l.initial.ring - l.k

@@ -1,0 +1,19 @@
+-- The sender's write with its count raised by n; a write has at most 700 commands, so the sum fits.
+use native.Mathlib.Omega.{arith}
+use Rattle.stream.proofs.Counts.{written_most}
+use Rattle.stream.proofs.Writing.{sent_after_lem}
+use borrow.Author.Rules.{rules}
+use Rattle.stream.proofs.tested.write_after.Goals as goal
+
+pub overflow_add-result : goal.overflow_add-result
+overflow_add-result c =
+    let few = written_most _ _ _ _ _ _ c.requires.2 c.requires.3 _ _ _ c.write-wrote.ensures _ c.in-Written.is in
+    omega (arith, c.requires.0)
+
+pub returns-in-Refused : goal.returns-in-Refused
+returns-in-Refused c =
+    sent_after_lem c.args.s c.args.cfg c.args.time c.args.p _ _ _ c.write-wrote.result _ _ c.write-wrote.ensures _ c.in-Refused.is
+
+pub returns-in-Written : goal.returns-in-Written
+returns-in-Written c =
+    sent_after_lem c.args.s c.args.cfg c.args.time c.args.p _ _ _ c.write-wrote.result _ _ c.write-wrote.ensures _ c.in-Written.is

@@ -1,0 +1,14 @@
+-- One want a turn, as long as there is room.
+use Prim.Native.Nat.{◌-◌, ◌≤◌}
+use mathlib.Core.Path.{◌≡◌}
+use native.Mathlib.Omega.{arith}
+use lib.ListN.{length, length-set}
+use borrow.Author.Rules.{rules}
+use Rattle.io.proofs.Counting.{prefix_len_of_le}
+use Rattle.uplink_grants.proofs.line.wants.Given as goal
+
+abbrev pub invariant-loop-next : goal.invariant-loop-next
+invariant-loop-next l = (l.n ≤ length l.into) × (length l.into ≡ length l.initial.into)
+
+abbrev pub decreases-loop-next : goal.decreases-loop-next
+decreases-loop-next l = length l.into - l.n

@@ -1,0 +1,29 @@
+-- What serving the requests that are left gives, after the commands that were written, is what serving all gives. The sender differs in its ring only.
+use mathlib.Core.Path.{◌≡◌, refl, ap, ◌∙◌}
+use mathlib.Core.Bool.{true}
+use Prim.Native.Nat.{◌+◌, ◌*◌, ◌≤◌}
+use native.Mathlib.Omega.{arith}
+use lib.ListN.{length, get_or}
+use borrow.Author.Rules.{rules}
+use Rattle.command.specs.declared.retransmit.RetransmitRequest.{RetransmitRequest}
+use Rattle.packet.specs.Write.{valid_of as payload_valid, start_of}
+use Rattle.history.specs.Queue.{Fit, blank}
+use Rattle.history.specs.declared.queue.RetransmitQueue.{RetransmitQueue}
+use Rattle.rows.proofs.Filling.{start_most, out_valid, out_length, out_grows}
+use Rattle.sender.specs.Requests.{with_queue}
+use Rattle.writing.specs.Writing.{served_also, served_in, served_of}
+use Rattle.writing.proofs.Serving.{front_request, pop_made, popped_fit, served_start, served_few, served_popped, served_stays, served_end}
+use Rattle.sender.proofs.Validity.{valid_fit, valid_unsent, valid_few}
+use Rattle.writing.proofs.tested.serve.Given as goal
+
+abbrev pub invariant-loop-left : goal.invariant-loop-left
+invariant-loop-left l =
+    (l.left ≡ l.queue.len)
+    × Fit l.queue
+    × (payload_valid l.q (length l.buf) ≡ true)
+    × (length l.buf ≡ length l.initial.buf)
+    × (start_of l.initial.q + 4 * l.n ≤ start_of l.q)
+    × (served_also l.n (served_in l.left (with_queue l.s l.queue) l.ring l.q l.buf) ≡ served_of l.s l.ring l.initial.q l.initial.buf)
+
+abbrev pub decreases-loop-left : goal.decreases-loop-left
+decreases-loop-left l = l.left
