@@ -1,7 +1,6 @@
 -- The quotient is below the interval exactly when the product is past the last time.
 use native.Mathlib.Omega.{arith}
 use Rattle.idle.proofs.Steps.{grown_last, grown_fits, grown_product}
-use borrow.Author.Rules.{rules}
 use Rattle.idle.proofs.tested.grown.Goals as goal
 
 pub returns-then-times-interval : goal.returns-then-times-interval

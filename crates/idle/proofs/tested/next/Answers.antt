@@ -1,6 +1,5 @@
 -- The tests choose as the definition does.
 use Rattle.idle.proofs.Steps.{settings_growth, next_repeat, next_further, next_off}
-use borrow.Author.Rules.{rules}
 use Rattle.idle.proofs.tested.next.Goals as goal
 
 pub returns-then-step-repeats : goal.returns-then-step-repeats

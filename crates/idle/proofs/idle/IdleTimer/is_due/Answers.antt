@@ -2,7 +2,6 @@
 use mathlib.Core.Path.{sym, ap}
 use Rattle.idle.specs.Schedule.{is_due}
 use Rattle.idle.specs.declared.idle.IdleTimer.{IdleTimer}
-use borrow.Author.Rules.{rules}
 use Rattle.idle.proofs.idle.IdleTimer.is_due.Goals as goal
 
 pub returns-in-Waiting : goal.returns-in-Waiting

@@ -1,6 +1,5 @@
 -- The sum is the due time, and the step has T1's length.
 use Rattle.idle.proofs.Steps.{started}
-use borrow.Author.Rules.{rules}
 use Rattle.idle.proofs.idle.IdleTimer.start.Goals as goal
 
 pub returns : goal.returns

@@ -1,7 +1,6 @@
 -- By the two cases of the timer.
 use mathlib.Core.Path.{sym, ap}
 use Rattle.idle.specs.Schedule.{idle_ok}
-use borrow.Author.Rules.{rules}
 use Rattle.idle.proofs.idle.IdleTimer.state_ok.Goals as goal
 
 pub returns-in-Waiting : goal.returns-in-Waiting
