@@ -1,8 +1,7 @@
 -- The answers of `parsed_of`, each from the code and the first word.
-use mathlib.Core.Path.{◌≡◌, refl, sym, ap, ◌∙◌}
-use mathlib.Core.Bool.{true, false}
+use mathlib.Core.Path.{◌≡◌, ◌∙◌}
 use mathlib.Core.List.{List, [], ◌∷◌}
-use Prim.Native.Nat.{ℕ, ◌/◌, ◌≤◌}
+use Prim.Native.Nat.{ℕ, ◌/◌}
 use lib.ListN.{drop, drop_of_length-le}
 use lib.Seq.{drop-cons}
 use borrow.Author.Tests.{eq-eqb, ne_eqb}
@@ -13,7 +12,6 @@ use Rattle.packet.specs.declared.cursor.Header.{Header}
 use Rattle.packet.specs.declared.cursor.Lookup.TheVariants.{Word, Absent}
 use Rattle.packet.proofs.Reading.{word_found, word_missed}
 use Rattle.command.specs.Parse.{request_in, error_in, parsed_of}
-use Rattle.command.specs.declared.parse.Command.{Command}
 use Rattle.command.specs.declared.parse.Command.TheVariants.{UmpData, RetransmitRequest, RetransmitError, Raw, Refused}
 
 words_of_none : (b : List ℕ) → word_at b 0 ≡ Absent → words_of b ≡ []

@@ -1,31 +1,27 @@
 -- Reading gives back the commands of every list of write calls.
 use mathlib.Core.Path.{◌≡◌, refl, sym, ap, ◌∙◌}
-use mathlib.Core.Bool.{Bool, true, false, cond}
-use mathlib.Core.Logic.{◌⊎◌, inl, inr}
-use mathlib.Core.List.{List, [], ◌∷◌, ◌++◌}
-use Prim.Native.Nat.{ℕ, suc, ◌+◌, ◌*◌, ◌≤◌, ◌<◌, min}
+use mathlib.Core.Bool.{true}
+use mathlib.Core.Logic.{inl, inr}
+use mathlib.Core.List.{List, [], ◌∷◌}
+use Prim.Native.Nat.{ℕ, suc, ◌+◌}
 use native.Mathlib.Omega.{arith}
-use lib.Dec.{ltb, leb}
-use lib.ListN.{length, take, drop, length-append}
-use borrow.Author.Tests.{not-true, not-false}
-use Rattle.config.specs.Range.{outside, within}
-use Rattle.config.specs.declared.refusal.Refusal.{Refusal}
+use lib.Dec.{ltb}
+use lib.ListN.{length}
+use Rattle.config.specs.Range.{outside}
 use Rattle.config.specs.declared.refusal.Refusal.TheVariants.{InvalidState, InvalidUmpData, ReasonNotAllowed, InvalidValue}
-use Rattle.config.specs.inner.Tests.{split, tests, lifts, and_left, and_right}
-use Rattle.packet.specs.Layout.{Packet, packet, size_of, payload_of, Words32, Encodable, AllEncodable}
-use Rattle.packet.specs.Read.{Item, items_of, placed}
-use Rattle.packet.specs.Write.{opened_of, limit_of, valid_of, start_of, refused_of, done_of, placed_of, written_of, bytes_in, WriteEnds, refused, done}
+use Rattle.config.specs.inner.Tests.{split}
+use Rattle.packet.specs.Layout.{Packet, packet, size_of, payload_of, Words32, AllEncodable}
+use Rattle.packet.specs.Read.{items_of, placed}
+use Rattle.packet.specs.Write.{opened_of, valid_of, bytes_in, WriteEnds, refused, done}
 use Rattle.packet.specs.declared.writer.PayloadWriter.{PayloadWriter}
-use Rattle.packet.specs.declared.writer.Opened.{Opened}
 use Rattle.packet.specs.declared.writer.Opened.TheVariants.{Payload, Refused as OpenRefused}
-use Rattle.config.specs.declared.answer.Outcome.TheVariants.{Done, Refused}
 use Rattle.packet.specs.declared.writer.Wrote.{Wrote}
 use Rattle.packet.proofs.RoundTrip.{items_payload, all_encodable_append}
 use Rattle.packet.proofs.Written.{valid_empty}
 use Rattle.packet.proofs.Outcomes.{outcome, written_valid, written_length, written_after, written_before, written_grows, valid_length}
 use Rattle.command.specs.Messages.{whole_of}
 use Rattle.command.specs.Write.{data_packet, request_packet, error_packet, is_defined, error_written, data_written}
-use Rattle.command.specs.Calls.{Call, raw, ump_data, request, error, call_of, command_of, Typed, AllTyped, Run, accepts, run, RoundTrip, RoundTrips, Untouched}
+use Rattle.command.specs.Calls.{Call, raw, ump_data, request, error, call_of, command_of, Typed, AllTyped, accepts, run, RoundTrips, Untouched}
 use Rattle.command.specs.declared.retransmit.RetransmitError.{RetransmitError}
 
 -- ---- each call comes to a refusal or to its command written

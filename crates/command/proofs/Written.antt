@@ -1,6 +1,6 @@
 -- The answers of `error_written` and `data_written`, each from the tests that lead to it.
 use mathlib.Core.Path.{◌≡◌}
-use mathlib.Core.Bool.{true, false, not}
+use mathlib.Core.Bool.{true, false}
 use mathlib.Core.List.{List}
 use Prim.Native.Nat.{ℕ, ◌≤◌, ◌<◌}
 use lib.ListN.{length}

@@ -1,5 +1,5 @@
 -- Lists of write calls into one payload, and what reading it then finds.
-use Rattle.std.specs.Prelude.{◌≡◌, Bool, true, false, cond, List, [], ◌∷◌, ◌++◌, ℕ, ◌≤◌, ◌<◌, length, drop}
+use Rattle.std.specs.Prelude.{◌≡◌, List, [], ◌∷◌, ◌++◌, ℕ, ◌<◌, length, drop}
 use Rattle.packet.specs.Layout.{Packet, packet, Words32}
 use Rattle.packet.specs.Read.{items_of, placed}
 use Rattle.packet.specs.Write.{opened_of, written_of, bytes_in}

@@ -1,6 +1,5 @@
 -- 01, "From the packet up", 2: message lengths go by the top four bits of a message's first word; whole messages.
 use Rattle.std.specs.Prelude.{ℕ, zero, suc, ◌+◌, ◌/◌, ◌≡◌, Bool, true, false, cond, not, ◌||◌, List, [], ◌∷◌, ◌++◌, length, take, drop, leb, eqb}
-use Rattle.command.specs.declared.message.UmpMessages.{UmpMessages}
 use Rattle.command.specs.declared.message.MessageItem.{MessageItem}
 use Rattle.command.specs.declared.message.MessageItem.TheVariants.{Message, Truncated, End}
 

@@ -17,7 +17,6 @@ use Rattle.sheet_blocks.specs.Records.{all_records, is_block, rows}
 use Rattle.loss_sheet.specs.Sheet.{all_below, state_ok, fresh, start_of, taken_of, answer_of, arrivals, block_of, pushed_all, sheet_bytes, held}
 use Rattle.loss_sheet.specs.inner.Fits.{Good}
 use Rattle.loss_sheet.specs.declared.sheet.Sheet.{Sheet}
-use Rattle.loss_sheet.specs.declared.sheet.Answered.{Answered}
 
 -- ---- the state test
 

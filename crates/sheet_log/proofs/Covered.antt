@@ -10,7 +10,6 @@ use Rattle.config.specs.Range.{within}
 use Rattle.loss_sheet.specs.Sheet.{all_below, fresh, start_of, taken_of, answer_of, block_of}
 use Rattle.sheet_log.specs.Calls.{Call, all_bytes, after, started, file}
 use Rattle.loss_sheet.specs.declared.sheet.Sheet.{Sheet}
-use Rattle.loss_sheet.specs.declared.sheet.Answered.{Answered}
 use Rattle.sheet_log.proofs.Kept.{both}
 
 -- every n of the request

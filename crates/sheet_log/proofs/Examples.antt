@@ -10,7 +10,6 @@ use Rattle.sheet_blocks.specs.Columns.{every_of, by_column, columns_of}
 use Rattle.loss_sheet.specs.Figures.{classes, losses, figures, figure_bytes}
 use Rattle.loss_sheet.specs.Sheet.{last_of, sheet_bytes, fresh, all_below, state_ok, held, next_of, pushed, pushed_all, taken_of, answer_of, block_of}
 use Rattle.sheet_log.specs.Calls.{Call, after, started}
-use Rattle.loss_sheet.specs.declared.sheet.Sheet.{Sheet}
 
 records : List ℕ
 records =

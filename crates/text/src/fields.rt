@@ -8,7 +8,7 @@
 // there is none, or none of its kind, it answers FAILED, from which every reading fails; so a call's
 // fields are right when the last reading ends at the line's end.
 ghost use Rattle.std.specs.Prelude.{◌+◌, ◌≤◌, ◌<◌, min, max, length};
-ghost use Rattle.io.specs.Counts.{IsPrefixLen};
+ghost use Rattle.text.specs.Counts.{IsPrefixLen};
 
 pub const FAILED: usize = 0xFFFF_FFFF_FFFF_FFFF;
 

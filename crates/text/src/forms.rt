@@ -5,10 +5,11 @@
 //             hexadecimal digits), * (words up to the line's end) or . (whatever follows)
 //   answers   a text; # stands for the next figure, % for its last two hexadecimal digits, @ for all 16
 ghost use Rattle.std.specs.Prelude.{◌≤◌, ◌<◌, length};
-ghost use Rattle.io.specs.Counts.{IsPrefixLen};
+ghost use Rattle.text.specs.Counts.{IsPrefixLen};
 
 use super::fields::{Count, FAILED, Field};
 use super::{fields, out};
+use std::io;
 
 // The call of a line: its place in the table, the first being 1, or 0 for none; and how many words it has.
 #[derive(Clone, Copy)]
@@ -179,12 +180,12 @@ impl Answer {
 }
 
 // A letter of the text, or the figure that it stands for.
-fn letter(buf: &mut [u8], used: usize, letter: u8, n: u64) -> usize {
+fn letter(rt: &impl Print, buf: &mut [u8], used: usize, letter: u8, n: u64) -> io::Result<usize> {
     match letter {
-        b'#' => out::decimal(buf, used, n),
-        b'%' => out::hex(buf, used, n, out::BYTE),
-        b'@' => out::hex(buf, used, n, out::LONG),
-        _ => out::byte(buf, used, letter),
+        b'#' => out::decimal(rt, buf, used, n),
+        b'%' => out::hex(rt, buf, used, n, out::BYTE),
+        b'@' => out::hex(rt, buf, used, n, out::LONG),
+        _ => out::byte(rt, buf, used, letter),
     }
 }
 
@@ -205,16 +206,22 @@ fn place(table: &[u8], entry: usize) -> usize
 }
 
 // Prints an answer by a table of answers.
-pub fn say(buf: &mut [u8], used: usize, table: &[u8], said: Answer) -> usize {
+pub fn say(
+    rt: &impl Print,
+    buf: &mut [u8],
+    used: usize,
+    table: &[u8],
+    said: Answer,
+) -> io::Result<usize> {
     let mut o = used;
     let mut rest = said;
     let mut at = place(table, said.form);
     let end = fields::end(table, at, b'|');
     while at < end {
         let b = table[at];
-        o = letter(buf, o, b, rest.a);
+        o = letter(rt, buf, o, b, rest.a)?;
         rest = rest.after(b);
         at += 1;
     }
-    o
+    Ok(o)
 }

@@ -2,6 +2,7 @@
 //
 //   input blocks -> lines -> fields -> figures and words        figures and words -> out -> output block
 //
+//   blocks   reads blocks of input that have no lines
 //   lines    gathers the bytes of a line, and takes its end off
 //   fields   reads a line's fields: figures, bytes and words
 //   forms    reads a line by a table of calls, and prints a line of a table of answers
@@ -11,6 +12,7 @@
 // or the call 0. No public function asks anything of its caller.
 #![tactic(auto)]
 
+pub mod blocks;
 pub mod fields;
 pub mod forms;
 pub mod lines;

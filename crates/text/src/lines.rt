@@ -5,10 +5,12 @@
 //
 // The buffer has two bytes more than the longest line, so that a full one is a line too long even
 // where its last byte is a carriage return.
-ghost use Rattle.std.specs.Prelude.{◌-◌, ◌≤◌};
-ghost use Rattle.io.specs.Counts.{IsPrefixLen};
+ghost use Rattle.std.specs.Prelude.{◌-◌, ◌≤◌, IfOk};
+ghost use Rattle.text.specs.Counts.{IsPrefixLen};
 
 use super::{fields, out};
+use std::io;
+use std::io::Read;
 
 // The most bytes of a line.
 pub const LIMIT: usize = 4096;
@@ -96,23 +98,24 @@ fn bare(line: &[u8], used: usize) -> usize
 }
 
 // Reads what input there is, as much as there is room for; nothing at its end.
-fn fetch(input: &mut [u8]) -> usize
-    ensures { IsPrefixLen result input.new }
+fn fetch(rt: &impl io::Input, input: &mut [u8]) -> io::Result<usize>
+    ensures { IfOk result (λ n. IsPrefixLen n input.new) }
 {
-    let got = libc::read(0, input);
-    io::count(got, &input[..])
+    let mut reader = rt.reader();
+    reader.read(input)
 }
 
 // Gathers the next line. Where the block has no newline more, the output that waits is written and the
 // next block read. A proved loop has to end, and nothing says that the input does: it counts down from
 // a number that no run uses up.
 pub fn next(
+    rt: &(impl Print + io::Input),
     from: Input,
     waiting: usize,
     input: &mut [u8],
     line: &mut [u8],
     output: &[u8],
-) -> Input {
+) -> io::Result<Input> {
     let mut part = Part {
         used: 0,
         at: from.at,
@@ -124,27 +127,27 @@ pub fn next(
         let block = lent(&input[..], have);
         part = gather(line, part.used, &input[..block], part.at);
         if part.at < block {
-            return Input {
+            return Ok(Input {
                 at: part.at + 1,
                 have,
                 line: bare(&line[..], part.used),
                 more: true,
                 waits,
-            };
+            });
         }
-        out::flush(output, waits);
+        out::flush(rt, output, waits)?;
         waits = 0;
-        have = fetch(input);
+        have = fetch(rt, input)?;
         part.at = 0;
         turns = to_go(turns, 0 < have);
     }
-    Input {
+    Ok(Input {
         at: 0,
         have: 0,
         line: lent(&line[..], part.used),
         more: false,
         waits,
-    }
+    })
 }
 
 // The turns that are left after one; none where nothing more is to come.

@@ -5,7 +5,7 @@ use Prim.Native.Nat.{ℕ, zero, suc, ◌+◌, ◌-◌, ◌*◌, ◌≤◌, ◌<�
 use native.Mathlib.Nat.{mul_comm, div-mul-le_self}
 use native.Mathlib.Omega.{arith}
 use lib.ListN.{length, take, drop, get_or, replicate, length-append, length-take, length-drop, take-append-drop}
-use Rattle.uplink.specs.Grants.{sum, share_of, firsts, granted, left_of, round_from}
+use Rattle.uplink.specs.Grants.{sum, share_of, firsts, more, granted, left_of, round_from}
 
 -- ---- sums
 
@@ -59,7 +59,7 @@ module _ (share : ℕ) where
   pub length_granted : (left : ℕ) (ws : List ℕ) → length (granted share left ws) ≡ length ws
   unfolding granted
   length_granted left [] = refl
-  length_granted left (w ∷ ws) = ap suc (length_granted _ ws)
+  length_granted left (w ∷ ws) = ap suc (length_granted (left - more share left w) ws)
 
   -- the row takes all that it still wants, or all that is left
   one_more : (first d left F S G : ℕ) → G ≡ F + min (left - min d left) S → first + min d left + G ≡ first + F + min left (d + S)
@@ -68,7 +68,7 @@ module _ (share : ℕ) where
   pub sum_granted : (left : ℕ) (ws : List ℕ) → sum (granted share left ws) ≡ sum (firsts share ws) + min left (still share ws)
   unfolding sum firsts still granted
   sum_granted left [] = omega arith
-  sum_granted left (w ∷ ws) = one_more _ _ left _ _ _ (sum_granted _ ws)
+  sum_granted left (w ∷ ws) = one_more _ _ left _ _ _ (sum_granted (left - more share left w) ws)
 
   one_less : (d left S : ℕ) → left - min d left - S ≡ left - (d + S)
   one_less d left S = omega arith
@@ -76,7 +76,7 @@ module _ (share : ℕ) where
   pub left_is : (left : ℕ) (ws : List ℕ) → left_of share left ws ≡ left - still share ws
   unfolding still left_of
   left_is left [] = omega arith
-  left_is left (w ∷ ws) = left_is _ ws ∙ one_less _ left _
+  left_is left (w ∷ ws) = left_is (left - more share left w) ws ∙ one_less _ left _
 
   -- ---- each division of a row, and of two rows
 
@@ -87,14 +87,14 @@ module _ (share : ℕ) where
   unfolding granted
   granted_at left [] i h = absurd (let z : ⊥ = omega arith in z)
   granted_at left (w ∷ ws) zero h = (omega arith, omega arith)
-  granted_at left (w ∷ ws) (suc i) h = granted_at _ ws i (omega arith)
+  granted_at left (w ∷ ws) (suc i) h = granted_at (left - more share left w) ws i (omega arith)
 
   pub rows_at : (l m : ℕ) (us vs : List ℕ) (i : ℕ) → i < length (us ++ vs)
       → Between (get_or (granted share l us ++ granted share m vs) i 0) (get_or (us ++ vs) i 0)
   unfolding granted
   rows_at l m [] vs i h = granted_at m vs i h
   rows_at l m (u ∷ us) vs zero h = (omega arith, omega arith)
-  rows_at l m (u ∷ us) vs (suc i) h = rows_at _ m us vs i (omega arith)
+  rows_at l m (u ∷ us) vs (suc i) h = rows_at (l - more share l u) m us vs i (omega arith)
 
 -- ---- the round: two rows, the later before the earlier
 

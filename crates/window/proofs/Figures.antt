@@ -6,7 +6,6 @@ use lib.Count.{count_trailing_zeros}
 use Rattle.window.specs.Set.{val, set_of, top_in, top_of, bottom_of}
 use Rattle.window.specs.Window.{fresh, processed, is_processed, missing_of, span_of}
 use Rattle.window.specs.Marking.{in_range, hit_at, hits_of, mark_of}
-use Rattle.window.specs.declared.window.Marked.{Marked}
 use Rattle.window.specs.declared.window.ReceiveWindow.{ReceiveWindow}
 use Rattle.window.specs.declared.window.SeqRange.{SeqRange}
 use Rattle.window.specs.declared.window.Span.TheVariants.{Of}

@@ -2,7 +2,6 @@
 use mathlib.Core.Path.{refl, ap}
 use Rattle.command.specs.Messages.{item_words}
 use Rattle.command.proofs.Messages.{message_end, message_cut, message_whole}
-use borrow.Author.Rules.{rules}
 use Rattle.command.proofs.message.message_at.Goals as goal
 
 pub returns-then-words-at : goal.returns-then-words-at

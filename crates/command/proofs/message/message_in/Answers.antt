@@ -1,7 +1,6 @@
 -- Each item of the walk tells its words.
 use mathlib.Core.Path.{ap, sym, ◌∙◌}
 use Rattle.command.specs.Messages.{item_words}
-use borrow.Author.Rules.{rules}
 use Rattle.command.proofs.message.message_in.Goals as goal
 
 pub returns-in-Message : goal.returns-in-Message

@@ -1,6 +1,5 @@
 -- All words are words of whole messages where these are as many.
 use Rattle.command.specs.inner.Messages.{whole_all}
-use borrow.Author.Rules.{rules}
 use Rattle.command.proofs.message.whole_messages.Goals as goal
 
 pub returns : goal.returns

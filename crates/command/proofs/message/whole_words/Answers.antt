@@ -1,20 +1,21 @@
-use mathlib.Core.Path.{◌≡◌, sym, ◌∙◌}
-use mathlib.Core.Logic.{⊎_elim}
-use Prim.Native.Nat.{◌+◌, ◌-◌, ◌≤◌}
+use mathlib.Core.Path.{◌≡◌, ◌∙◌}
+use Prim.Native.Nat.{◌+◌, ◌≤◌}
 use native.Mathlib.Omega.{arith}
-use borrow.Author.Rules.{rules}
-use lib.ListN.{length, drop}
-use Rattle.command.specs.Messages.{message_at, item_words, whole_words}
+use lib.ListN.{length}
+use Rattle.command.specs.Messages.{message_at, item_words}
 use Rattle.command.specs.inner.Messages.{step_fits, whole_turn_lem, whole_stop, whole_end}
 use Rattle.command.proofs.message.whole_words.Goals as goal
-use Rattle.command.proofs.message.whole_words.Goals.{Joined-n-same}
+use Rattle.command.proofs.message.whole_words.Goals.{Joined-n-same, then-n-same+else-n-eq0, else-n-same}
+
+by_branch : (c : Joined-n-same) → c.if-n-same.same ≡ c.message_at-n.result
+by_branch c = elim c.if-n-same.branch [ then-n-same+else-n-eq0 w ↦ omega arith | else-n-same w ↦ omega arith ]
 
 -- `same` after the tests: the words of the message at hand, of which there is one
 read : (c : Joined-n-same) → c.if-n-same.same ≡ item_words (message_at c.args.words.now c.loop-at.at)
-read c = ⊎_elim (λ (f, g, e). e) (λ (f, e). e ∙ sym f.left) c.if-n-same.branch ∙ c.message_at-n.ensures
+read c = by_branch c ∙ c.message_at-n.ensures
 
 some : (c : Joined-n-same) → 1 ≤ c.if-n-same.same
-some c = ⊎_elim (λ w. omega arith) (λ w. omega arith) c.if-n-same.branch
+some c = elim c.if-n-same.branch [ then-n-same+else-n-eq0 w ↦ omega arith | else-n-same w ↦ omega arith ]
 
 fits : (c : Joined-n-same) → c.loop-at.at + c.if-n-same.same ≤ length c.args.words.now
 fits c = step_fits _ _ _ (read c) c.loop-at.invariant.0

@@ -1,12 +1,8 @@
 -- From every message on, the whole messages that are left have the words that are not counted yet. `same` is the length that was just read.
-use mathlib.Core.Path.{◌≡◌, sym, ◌∙◌}
-use mathlib.Core.Logic.{⊎_elim}
+use mathlib.Core.Path.{◌≡◌}
 use Prim.Native.Nat.{◌+◌, ◌-◌, ◌≤◌}
-use native.Mathlib.Omega.{arith}
-use borrow.Author.Rules.{rules}
 use lib.ListN.{length, drop}
-use Rattle.command.specs.Messages.{message_at, item_words, whole_words}
-use Rattle.command.specs.inner.Messages.{step_fits, whole_turn_lem, whole_stop, whole_end}
+use Rattle.command.specs.Messages.{whole_words}
 use Rattle.command.proofs.message.whole_words.Given as goal
 
 abbrev pub invariant-loop-at : goal.invariant-loop-at

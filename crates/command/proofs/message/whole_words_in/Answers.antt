@@ -1,11 +1,8 @@
-use mathlib.Core.Path.{◌≡◌}
-use Prim.Native.Nat.{◌+◌, ◌-◌, ◌≤◌}
+use Prim.Native.Nat.{◌+◌, ◌≤◌}
 use native.Mathlib.Omega.{arith}
-use borrow.Author.Rules.{rules}
-use lib.ListN.{length, drop}
+use lib.ListN.{length}
 use Rattle.packet.specs.Bytes.{words_of}
 use Rattle.packet.proofs.Reading.{length_words_of}
-use Rattle.command.specs.Messages.{whole_words}
 use Rattle.command.specs.inner.Messages.{step_fits, whole_turn_lem, whole_stop}
 use Rattle.command.proofs.message.whole_words_in.Goals as goal
 use Rattle.command.proofs.message.whole_words_in.Goals.{Else-n-eq0}

@@ -1,13 +1,9 @@
 -- From every message on, the whole messages that are left have the words that are not counted yet.
 use mathlib.Core.Path.{◌≡◌}
 use Prim.Native.Nat.{◌+◌, ◌-◌, ◌≤◌}
-use native.Mathlib.Omega.{arith}
-use borrow.Author.Rules.{rules}
 use lib.ListN.{length, drop}
 use Rattle.packet.specs.Bytes.{words_of}
-use Rattle.packet.proofs.Reading.{length_words_of}
 use Rattle.command.specs.Messages.{whole_words}
-use Rattle.command.specs.inner.Messages.{step_fits, whole_turn_lem, whole_stop}
 use Rattle.command.proofs.message.whole_words_in.Given as goal
 
 abbrev pub invariant-loop-at : goal.invariant-loop-at

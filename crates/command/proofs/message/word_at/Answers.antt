@@ -3,7 +3,6 @@ use mathlib.Core.Path.{sym, ◌∙◌}
 use lib.ListN.{get_or-eq_default}
 use Rattle.packet.specs.Bytes.{words_of}
 use Rattle.packet.proofs.Reading.{word_found, word_missed}
-use borrow.Author.Rules.{rules}
 use Rattle.command.proofs.message.word_at.Goals as goal
 
 pub returns-in-Word : goal.returns-in-Word

@@ -1,7 +1,6 @@
 -- The tests of the code choose as the definition does.
 use mathlib.Core.Path.{◌∙◌}
 use Rattle.command.proofs.Parsing.{parsed_data, parsed_request, parsed_error, parsed_raw}
-use borrow.Author.Rules.{rules}
 use Rattle.command.proofs.parse.parse.Goals as goal
 
 pub returns-then-code : goal.returns-then-code

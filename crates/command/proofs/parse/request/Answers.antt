@@ -1,12 +1,11 @@
 -- There is a first word, or there is none.
 use mathlib.Core.Path.{sym, ◌∙◌}
 use Rattle.command.proofs.Parsing.{request_absent, request_word}
-use borrow.Author.Rules.{rules}
 use Rattle.command.proofs.parse.request.Goals as goal
 
 pub returns-in-Absent : goal.returns-in-Absent
-returns-in-Absent c = request_absent _ _ (sym c.word.ensures ∙ c.in-Absent.is)
+returns-in-Absent c = request_absent c.args.header _ (sym c.word.ensures ∙ c.in-Absent.is)
 
 pub returns-in-Word : goal.returns-in-Word
 returns-in-Word c =
-    request_word _ _ _ _ (sym c.word.ensures ∙ c.in-Word.is) c.csd.ensures
+    request_word c.args.header _ _ _ (sym c.word.ensures ∙ c.in-Word.is) c.csd.ensures

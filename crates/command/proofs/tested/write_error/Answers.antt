@@ -1,7 +1,6 @@
 -- The test of the reason chooses as the definition does.
 use mathlib.Core.Path.{sym, ◌∙◌}
 use Rattle.command.proofs.Written.{error_undefined, error_defined}
-use borrow.Author.Rules.{rules}
 use Rattle.command.proofs.tested.write_error.Goals as goal
 
 pub returns-then-is_defined : goal.returns-then-is_defined

@@ -1,5 +1,5 @@
 -- The test is the definition's.
-use Rattle.std.proofs.Common.{◌∙◌, arith, rules}
+use Rattle.std.proofs.Common.{◌∙◌, arith}
 use Rattle.load.proofs.Maps.{odd_is, even_is}
 use Rattle.load.proofs.load.if_odd.Goals as goal
 

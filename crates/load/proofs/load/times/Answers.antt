@@ -1,5 +1,5 @@
 -- The product of two 32-bit numbers is a 64-bit number.
-use Rattle.std.proofs.Common.{arith, rules}
+use Rattle.std.proofs.Common.{arith}
 use Rattle.load.proofs.Maps.{product_lt}
 use Rattle.load.proofs.load.times.Goals as goal
 

@@ -1,6 +1,5 @@
 -- Field by field.
 use Rattle.loss_sheet.specs.Figures.{plus}
-use borrow.Author.Rules.{rules}
 use Rattle.loss_sheet.proofs.figures.add.Goals as goal
 
 pub returns : goal.returns

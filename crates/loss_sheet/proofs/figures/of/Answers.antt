@@ -1,9 +1,6 @@
-use mathlib.Core.Path.{◌≡◌, ◌∙◌}
-use Prim.Native.Nat.{◌≤◌}
-use lib.ListN.{length, drop, length-drop}
-use Rattle.loss_sheet.specs.Figures.{figures}
+use mathlib.Core.Path.{◌∙◌}
+use lib.ListN.{length-drop}
 use Rattle.loss_sheet.proofs.Counts.{few_of, figures_none, figures_all, figures_turn}
-use borrow.Author.Rules.{rules}
 use native.Mathlib.Omega.{arith}
 use Rattle.loss_sheet.proofs.figures.of.Goals as goal
 

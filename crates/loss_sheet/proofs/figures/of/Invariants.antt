@@ -1,11 +1,8 @@
 -- The figures of the words passed, from the end on.
-use mathlib.Core.Path.{◌≡◌, ◌∙◌}
+use mathlib.Core.Path.{◌≡◌}
 use Prim.Native.Nat.{◌≤◌}
-use lib.ListN.{length, drop, length-drop}
+use lib.ListN.{length, drop}
 use Rattle.loss_sheet.specs.Figures.{figures}
-use Rattle.loss_sheet.proofs.Counts.{few_of, figures_none, figures_all, figures_turn}
-use borrow.Author.Rules.{rules}
-use native.Mathlib.Omega.{arith}
 use Rattle.loss_sheet.proofs.figures.of.Given as goal
 
 abbrev pub invariant-loop-i : goal.invariant-loop-i

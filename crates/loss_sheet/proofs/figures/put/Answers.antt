@@ -1,6 +1,5 @@
 -- Four words one after the other are one run.
 use Rattle.loss_sheet.proofs.Counts.{four_words}
-use borrow.Author.Rules.{rules}
 use native.Mathlib.Omega.{arith}
 use Rattle.loss_sheet.proofs.figures.put.Goals as goal
 

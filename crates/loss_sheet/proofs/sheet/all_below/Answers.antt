@@ -1,9 +1,5 @@
-use mathlib.Core.Path.{◌≡◌, refl, ◌∙◌}
-use Prim.Native.Nat.{◌-◌, ◌≤◌}
-use lib.ListN.{length, drop}
-use Rattle.loss_sheet.specs.Sheet.{all_below}
+use mathlib.Core.Path.{refl, ◌∙◌}
 use Rattle.loss_sheet.proofs.Ring.{below_bad, below_next, below_end}
-use borrow.Author.Rules.{rules}
 use native.Mathlib.Omega.{arith}
 use Rattle.loss_sheet.proofs.sheet.all_below.Goals as goal
 

@@ -1,11 +1,8 @@
 -- What is still to be tested from here decides, as long as every word passed is below the limit.
-use mathlib.Core.Path.{◌≡◌, refl, ◌∙◌}
+use mathlib.Core.Path.{◌≡◌}
 use Prim.Native.Nat.{◌-◌, ◌≤◌}
 use lib.ListN.{length, drop}
 use Rattle.loss_sheet.specs.Sheet.{all_below}
-use Rattle.loss_sheet.proofs.Ring.{below_bad, below_next, below_end}
-use borrow.Author.Rules.{rules}
-use native.Mathlib.Omega.{arith}
 use Rattle.loss_sheet.proofs.sheet.all_below.Given as goal
 
 abbrev pub invariant-loop-i : goal.invariant-loop-i

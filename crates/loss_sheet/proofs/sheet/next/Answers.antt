@@ -1,6 +1,5 @@
 -- The place after, or the first.
 use Rattle.loss_sheet.proofs.Ring.{next_below, next_round}
-use borrow.Author.Rules.{rules}
 use native.Mathlib.Omega.{arith}
 use Rattle.loss_sheet.proofs.sheet.next.Goals as goal
 

@@ -2,7 +2,6 @@
 use Rattle.loss_sheet.proofs.Counts.{few_of, few_after, grow_figures, over_within, over_figures}
 use Rattle.loss_sheet.proofs.Ring.{push_grow, push_over}
 use lib.ListN.{length-take}
-use borrow.Author.Rules.{rules}
 use native.Mathlib.Omega.{arith}
 use Rattle.loss_sheet.proofs.sheet.push.Goals as goal
 

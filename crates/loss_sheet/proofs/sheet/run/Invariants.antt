@@ -1,15 +1,12 @@
 -- What is still to be done from here leaves what the whole leaves; the figures stay those of the words held.
-use mathlib.Core.Path.{◌≡◌, refl}
-use Prim.Native.Nat.{◌+◌, ◌*◌, ◌-◌}
-use lib.ListN.{length, take, length-take}
+use mathlib.Core.Path.{◌≡◌}
+use Prim.Native.Nat.{◌+◌, ◌*◌}
+use lib.ListN.{length, take}
 use Rattle.sheet_blocks.specs.Bytes.{spliced}
 use Rattle.sheet_blocks.specs.Records.{entries}
 use Rattle.loss_sheet.specs.Figures.{figures}
 use Rattle.loss_sheet.specs.Sheet.{pushed_all, held, sheet_bytes}
 use Rattle.loss_sheet.specs.inner.Fits.{Good}
-use Rattle.loss_sheet.proofs.Runs.{good_turn, n_turn, all_turn, out_turn, all_done, out_done}
-use borrow.Author.Rules.{rules}
-use native.Mathlib.Omega.{arith}
 use Rattle.loss_sheet.proofs.sheet.run.Given as goal
 
 abbrev pub invariant-loop-left : goal.invariant-loop-left

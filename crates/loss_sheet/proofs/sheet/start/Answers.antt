@@ -1,7 +1,6 @@
 -- Each test is one of the definition's, in its order.
 use mathlib.Core.Path.{sym, ◌∙◌}
 use Rattle.loss_sheet.proofs.States.{start_size, start_ring, started}
-use borrow.Author.Rules.{rules}
 use native.Mathlib.Omega.{arith}
 use Rattle.loss_sheet.proofs.sheet.start.Goals as goal
 

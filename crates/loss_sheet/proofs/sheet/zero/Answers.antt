@@ -1,11 +1,8 @@
-use mathlib.Core.Path.{◌≡◌, refl}
-use mathlib.Core.List.{◌++◌}
-use Prim.Native.Nat.{◌-◌, ◌≤◌}
+use mathlib.Core.Path.{refl}
 use native.Mathlib.Omega.{arith}
 use borrow.Author.Fill.{fill_more}
-use lib.ListN.{length, drop, replicate, length-set}
+use lib.ListN.{length-set}
 use Rattle.loss_sheet.proofs.Ring.{filled}
-use borrow.Author.Rules.{rules}
 use Rattle.loss_sheet.proofs.sheet.zero.Goals as goal
 
 pub loop-k-init : goal.loop-k-init

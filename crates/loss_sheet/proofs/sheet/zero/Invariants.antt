@@ -1,12 +1,8 @@
 -- After k turns the first k words are 0 and the others are as they were.
-use mathlib.Core.Path.{◌≡◌, refl}
+use mathlib.Core.Path.{◌≡◌}
 use mathlib.Core.List.{◌++◌}
 use Prim.Native.Nat.{◌-◌, ◌≤◌}
-use native.Mathlib.Omega.{arith}
-use borrow.Author.Fill.{fill_more}
-use lib.ListN.{length, drop, replicate, length-set}
-use Rattle.loss_sheet.proofs.Ring.{filled}
-use borrow.Author.Rules.{rules}
+use lib.ListN.{length, drop, replicate}
 use Rattle.loss_sheet.proofs.sheet.zero.Given as goal
 
 abbrev pub invariant-loop-k : goal.invariant-loop-k

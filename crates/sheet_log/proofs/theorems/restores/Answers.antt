@@ -1,6 +1,5 @@
 -- By the places of the bytes.
 use Rattle.sheet_log.proofs.Inverse.{stored_length, records_length, stored_restored, restored_stored}
-use borrow.Author.Rules.{rules}
 use Rattle.sheet_log.proofs.theorems.restores.Goals as goal
 
 pub returns : goal.returns

@@ -1,8 +1,5 @@
 -- The digits lie inside of the line, and the value stays at most `most`: a digit that would pass it ends the reading.
 use Prim.Native.Nat.{◌-◌, ◌≤◌}
-use native.Mathlib.Nat.{le-div_iff_mul-le}
-use native.Mathlib.Omega.{arith}
-use borrow.Author.Rules.{rules}
 use Rattle.text.proofs.fields.digits.Given as goal
 
 abbrev pub invariant-loop-i : goal.invariant-loop-i

@@ -1,6 +1,5 @@
 -- The place stays between the first byte and the line's end.
 use Prim.Native.Nat.{◌-◌, ◌≤◌, max}
-use borrow.Author.Rules.{rules}
 use lib.ListN.{length}
 use Rattle.text.proofs.fields.end.Given as goal
 

@@ -1,9 +1,7 @@
 -- A letter is read in each turn, and both rooms keep their lengths.
 use Prim.Native.Nat.{◌-◌, ◌≤◌}
-use borrow.Author.Rules.{rules}
-use lib.ListN.{length, length-set}
+use lib.ListN.{length}
 use mathlib.Core.Path.{◌≡◌}
-use native.Mathlib.Omega.{arith}
 use Rattle.text.proofs.forms.filled.Given as goal
 
 abbrev pub invariant-loop-at : goal.invariant-loop-at

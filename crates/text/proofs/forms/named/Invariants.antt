@@ -1,6 +1,5 @@
 -- The name lies inside of the table and of the line.
 use Prim.Native.Nat.{◌-◌, ◌≤◌}
-use borrow.Author.Rules.{rules}
 use Rattle.text.proofs.forms.named.Given as goal
 
 abbrev pub invariant-loop-i : goal.invariant-loop-i

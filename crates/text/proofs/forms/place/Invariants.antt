@@ -1,6 +1,5 @@
 -- Each entry begins further on.
 use Prim.Native.Nat.{◌-◌, ◌≤◌}
-use borrow.Author.Rules.{rules}
 use lib.ListN.{length}
 use Rattle.text.proofs.forms.place.Given as goal
 

@@ -1,6 +1,5 @@
 -- The bytes lie inside of the input, and the line buffer keeps its length.
 use Prim.Native.Nat.{◌-◌, ◌≤◌, max}
-use borrow.Author.Rules.{rules}
 use lib.ListN.{length}
 use mathlib.Core.Path.{◌≡◌}
 use Rattle.text.proofs.lines.gather.Given as goal

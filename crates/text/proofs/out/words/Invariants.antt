@@ -1,12 +1,11 @@
 -- The words are counted, and the buffer keeps its length.
 use Prim.Native.Nat.{◌-◌, ◌≤◌}
-use borrow.Author.Rules.{rules}
 use lib.ListN.{length}
 use mathlib.Core.Path.{◌≡◌}
 use Rattle.text.proofs.out.words.Given as goal
 
 abbrev pub invariant-loop-k : goal.invariant-loop-k
-invariant-loop-k l = (l.k ≤ l.n) × (length l.buf ≡ length l.initial.buf)
+invariant-loop-k g l = (l.k ≤ l.n) × (length l.buf ≡ length l.initial.buf)
 
 abbrev pub decreases-loop-k : goal.decreases-loop-k
-decreases-loop-k l = l.n - l.k
+decreases-loop-k g l = l.n - l.k

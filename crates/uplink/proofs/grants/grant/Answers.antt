@@ -2,7 +2,6 @@
 use mathlib.Core.Path.{refl, sym, ◌∙◌}
 use native.Mathlib.Omega.{arith}
 use lib.ListN.{length, length-take}
-use borrow.Author.Rules.{rules}
 use Rattle.uplink.proofs.Sums.{firsts_fit}
 use Rattle.uplink.proofs.Steps.{number_in, refused_number, refused_turn, step_granted, length_onward, grants_stored}
 use Rattle.uplink.proofs.grants.grant.Goals as goal

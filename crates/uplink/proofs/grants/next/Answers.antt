@@ -1,6 +1,5 @@
 -- Either way out is one of the definition's.
 use borrow.Author.Tests.{lt-ltb, le-ltb}
-use borrow.Author.Rules.{rules}
 use Rattle.uplink.specs.Grants.{next_of}
 use Rattle.uplink.proofs.grants.next.Goals as goal
 

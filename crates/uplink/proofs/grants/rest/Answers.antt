@@ -1,9 +1,5 @@
-use Prim.Native.Nat.{◌+◌, ◌-◌, ◌≤◌}
-use mathlib.Core.Path.{◌≡◌}
 use native.Mathlib.Omega.{arith}
-use lib.ListN.{length, drop}
 use borrow.Author.Rules.{rules}
-use Rattle.uplink.specs.Grants.{sum, firsts}
 use Rattle.uplink.proofs.Rows.{firsts_step, firsts_end}
 use Rattle.uplink.proofs.grants.rest.Goals as goal
 

@@ -1,11 +1,8 @@
 -- The loop's invariant: what is left is the result, and the first grants that are still to come.
 use Prim.Native.Nat.{◌+◌, ◌-◌, ◌≤◌}
 use mathlib.Core.Path.{◌≡◌}
-use native.Mathlib.Omega.{arith}
 use lib.ListN.{length, drop}
-use borrow.Author.Rules.{rules}
 use Rattle.uplink.specs.Grants.{sum, firsts}
-use Rattle.uplink.proofs.Rows.{firsts_step, firsts_end}
 use Rattle.uplink.proofs.grants.rest.Given as goal
 
 abbrev pub invariant-loop-i : goal.invariant-loop-i

@@ -1,10 +1,7 @@
-use Prim.Native.Nat.{◌+◌, ◌-◌, ◌≤◌}
+use Prim.Native.Nat.{◌+◌}
 use mathlib.Core.Path.{◌≡◌, refl, ◌∙◌}
 use native.Mathlib.Omega.{arith}
-use lib.ListN.{length, drop}
-use lib.Seq.{sets}
 use borrow.Author.Rules.{rules}
-use Rattle.uplink.specs.Grants.{granted, left_of}
 use Rattle.uplink.proofs.Rows.{granted_step, left_step, granted_end, left_end}
 use Rattle.uplink.proofs.grants.serve.Goals as goal
 

@@ -1,12 +1,9 @@
 -- The loop's invariant: what is still to do from here is the whole from the start.
 use Prim.Native.Nat.{◌+◌, ◌-◌, ◌≤◌}
-use mathlib.Core.Path.{◌≡◌, refl, ◌∙◌}
-use native.Mathlib.Omega.{arith}
+use mathlib.Core.Path.{◌≡◌}
 use lib.ListN.{length, drop}
 use lib.Seq.{sets}
-use borrow.Author.Rules.{rules}
 use Rattle.uplink.specs.Grants.{granted, left_of}
-use Rattle.uplink.proofs.Rows.{granted_step, left_step, granted_end, left_end}
 use Rattle.uplink.proofs.grants.serve.Given as goal
 
 abbrev pub invariant-loop-i : goal.invariant-loop-i

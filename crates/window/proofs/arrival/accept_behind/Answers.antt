@@ -5,7 +5,6 @@ use native.Mathlib.Omega.{arith}
 use Rattle.window.specs.Window.{processed}
 use Rattle.window.proofs.Positions.{unprocessed_in}
 use Rattle.window.proofs.Accepts.{behind_duplicate, behind_late}
-use borrow.Author.Rules.{rules}
 use Rattle.window.proofs.arrival.accept_behind.Goals as goal
 use Rattle.window.proofs.arrival.accept_behind.Goals.{Else-processed_at}
 

@@ -4,7 +4,6 @@ use native.Mathlib.Omega.{arith}
 use Rattle.window.specs.Arrival.{new_of}
 use Rattle.window.specs.declared.window.Arrival.{Arrival}
 use Rattle.window.proofs.Accepts.{new_distance, accept_new_is}
-use borrow.Author.Rules.{rules}
 use Rattle.window.proofs.arrival.class_ahead.Goals as goal
 
 pub overflow_sub-gap : goal.overflow_sub-gap

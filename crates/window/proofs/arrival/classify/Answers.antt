@@ -4,7 +4,6 @@ use native.Mathlib.Omega.{arith}
 use Rattle.window.specs.Arrival.{reach}
 use Rattle.config.specs.inner.Ranges.{within_range}
 use Rattle.window.proofs.Classes.{classify_new, classify_late, classify_duplicate}
-use borrow.Author.Rules.{rules}
 use Rattle.window.proofs.arrival.classify.Goals as goal
 
 pub overflow_sub-result : goal.overflow_sub-result

@@ -1,7 +1,6 @@
 -- The distance is tested first, and then what is missing.
 use mathlib.Core.Path.{◌∙◌}
 use Rattle.window.proofs.InOrder.{in_order_next, in_order_other}
-use borrow.Author.Rules.{rules}
 use Rattle.window.proofs.arrival.in_order.Goals as goal
 
 pub returns-then-distance-eq1 : goal.returns-then-distance-eq1

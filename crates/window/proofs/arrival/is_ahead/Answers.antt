@@ -2,7 +2,6 @@
 use mathlib.Core.Path.{ap, ◌∙◌}
 use Rattle.config.specs.Range.{within}
 use Rattle.window.specs.Arrival.{reach}
-use borrow.Author.Rules.{rules}
 use Rattle.window.proofs.arrival.is_ahead.Goals as goal
 
 pub returns : goal.returns

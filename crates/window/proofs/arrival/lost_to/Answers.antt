@@ -8,7 +8,6 @@ use Rattle.window.specs.declared.window.Arrival.{Arrival}
 use Rattle.window.proofs.Words.{val_is}
 use Rattle.window.proofs.Arrivals.{new_lost_is}
 use Rattle.window.proofs.Accepts.{new_distance, accept_new_is}
-use borrow.Author.Rules.{rules}
 use Rattle.window.proofs.arrival.lost_to.Goals as goal
 use Rattle.window.proofs.arrival.lost_to.Goals.{After-missing_set}
 

@@ -5,7 +5,6 @@ use lib.Bits.{bit_or}
 use Rattle.window.specs.Set.{max_window, val, set_of}
 use Rattle.window.proofs.Words.{val_is, push}
 use Rattle.window.proofs.Operations.{mod_times}
-use borrow.Author.Rules.{rules}
 use Rattle.window.proofs.arrival.moved.Goals as goal
 
 pub returns : goal.returns

@@ -4,7 +4,6 @@ use Rattle.window.specs.declared.window.Arrival.{Arrival}
 use Rattle.window.proofs.Moves.{moved_set_is}
 use Rattle.window.proofs.Arrivals.{new_window_is}
 use Rattle.window.proofs.Accepts.{new_distance, accept_new_is}
-use borrow.Author.Rules.{rules}
 use Rattle.window.proofs.arrival.moved_to.Goals as goal
 
 pub moved-up-requires : goal.moved-up-requires

@@ -1,10 +1,8 @@
 -- Up to a word the high word is empty and the low one counts; beyond it the high word alone does.
-use mathlib.Core.Path.{◌≡◌}
 use Prim.Native.Nat.{◌-◌, ◌%◌, ◌^◌, ◌<◌}
 use native.Mathlib.Omega.{arith}
 use Rattle.window.specs.Set.{val}
 use Rattle.window.proofs.Words.{below_not, below_low, below_high}
-use borrow.Author.Rules.{rules}
 use Rattle.window.proofs.set.below.Goals as goal
 use Rattle.window.proofs.set.below.Goals.{Start}
 

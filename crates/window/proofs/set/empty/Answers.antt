@@ -1,5 +1,5 @@
 -- A number is 0 where its words are.
-use Prim.Native.Nat.{◌-◌, ◌^◌}
+use Prim.Native.Nat.{◌^◌}
 use lib.Pow.{pow_pos}
 use Rattle.window.specs.Set.{val}
 use Rattle.window.proofs.Words.{empty_up, empty_not}

@@ -6,7 +6,6 @@ use lib.Bits.{bit_and}
 use Rattle.window.specs.Set.{max_window, val, set_of}
 use Rattle.window.proofs.Words.{val_is, words_lt}
 use Rattle.window.proofs.Operations.{from_is}
-use borrow.Author.Rules.{rules}
 use Rattle.window.proofs.set.from.Goals as goal
 use Rattle.window.proofs.set.from.Goals.{Start}
 

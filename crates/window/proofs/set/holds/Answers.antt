@@ -1,10 +1,9 @@
 -- Position k is digit k of the low word, or digit k - 64 of the high one.
 use mathlib.Core.Path.{sym}
-use Prim.Native.Nat.{◌-◌, ◌^◌, ◌<◌}
+use Prim.Native.Nat.{◌^◌, ◌<◌}
 use native.Mathlib.Omega.{arith}
 use Rattle.window.specs.Set.{val}
 use Rattle.window.proofs.Digits.{has_low, has_high}
-use borrow.Author.Rules.{rules}
 use Rattle.window.proofs.set.holds.Goals as goal
 use Rattle.window.proofs.set.holds.Goals.{Start}
 

@@ -3,7 +3,6 @@ use Prim.Native.Nat.{◌-◌, ◌%◌, ◌^◌, ◌<◌}
 use native.Mathlib.Omega.{arith}
 use Rattle.window.specs.Set.{val}
 use Rattle.window.proofs.Words.{all_low, all_not, all_high}
-use borrow.Author.Rules.{rules}
 use Rattle.window.proofs.set.is_lowest.Goals as goal
 use Rattle.window.proofs.set.is_lowest.Goals.{Start}
 

@@ -2,7 +2,6 @@
 use mathlib.Core.Path.{ap, sym, ◌∙◌}
 use Prim.Native.Nat.{ℕ, ◌-◌, ◌^◌}
 use Rattle.window.specs.Set.{set_of}
-use borrow.Author.Rules.{rules}
 use Rattle.window.proofs.set.low_ones.Goals as goal
 
 pub returns-then-n-eq0 : goal.returns-then-n-eq0

@@ -2,7 +2,6 @@
 use Prim.Native.Nat.{◌-◌, ◌%◌}
 use native.Mathlib.Omega.{arith}
 use Rattle.window.proofs.Words.{lowest_low, lowest_high}
-use borrow.Author.Rules.{rules}
 use Rattle.window.proofs.set.lowest.Goals as goal
 
 pub returns-then-n-le-WORD : goal.returns-then-n-le-WORD

@@ -6,7 +6,6 @@ use native.Mathlib.Omega.{arith}
 use Rattle.window.specs.Set.{max_window, val, set_of}
 use Rattle.window.proofs.Words.{of_words, words_lt}
 use Rattle.window.proofs.Operations.{shl_out}
-use borrow.Author.Rules.{rules}
 use Rattle.window.proofs.set.shifted.Goals as goal
 use Rattle.window.proofs.set.shifted.Goals.{Start}
 

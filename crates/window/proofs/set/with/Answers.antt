@@ -1,10 +1,8 @@
 -- Position k is digit k of the low word, or digit k - 64 of the high one.
-use mathlib.Core.Path.{◌≡◌}
-use Prim.Native.Nat.{◌+◌, ◌-◌, ◌^◌, ◌<◌}
+use Prim.Native.Nat.{◌-◌, ◌^◌, ◌<◌}
 use native.Mathlib.Omega.{arith}
 use Rattle.window.specs.Set.{val}
 use Rattle.window.proofs.Words.{with_low, with_high}
-use borrow.Author.Rules.{rules}
 use Rattle.window.proofs.set.with.Goals as goal
 use Rattle.window.proofs.set.with.Goals.{Start}
 

@@ -4,7 +4,6 @@ use native.Mathlib.Omega.{arith}
 use lib.Pow.{pow_pos}
 use Rattle.window.specs.Set.{val}
 use Rattle.window.proofs.Words.{of_words, up_words}
-use borrow.Author.Rules.{rules}
 use Rattle.window.proofs.set.word_up.Goals as goal
 use Rattle.window.proofs.set.word_up.Goals.{Start}
 

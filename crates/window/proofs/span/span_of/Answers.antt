@@ -7,7 +7,6 @@ use borrow.Author.Tests.{eqb-true}
 use Rattle.window.specs.Set.{val}
 use Rattle.window.proofs.Ends.{bottom_le_top}
 use Rattle.window.proofs.Spans.{span_none, span_some, pos_of_not_empty}
-use borrow.Author.Rules.{rules}
 use Rattle.window.proofs.span.span_of.Goals as goal
 use Rattle.window.proofs.span.span_of.Goals.{Else-empty}
 

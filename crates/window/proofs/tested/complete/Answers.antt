@@ -1,7 +1,6 @@
 -- Nothing is missing where every position of the window is set.
 use mathlib.Core.Path.{◌∙◌}
 use Rattle.window.proofs.Moves.{complete_is}
-use borrow.Author.Rules.{rules}
 use Rattle.window.proofs.tested.complete.Goals as goal
 
 pub is_lowest-requires : goal.is_lowest-requires

@@ -3,7 +3,6 @@ use mathlib.Core.Path.{sym, ◌∙◌}
 use Prim.Native.Nat.{◌^◌, ◌<◌}
 use native.Mathlib.Omega.{arith}
 use Rattle.window.proofs.Hits.{hit_yes, hit_out, hit_no}
-use borrow.Author.Rules.{rules}
 use Rattle.window.proofs.tested.hit.Goals as goal
 use Rattle.window.proofs.tested.hit.Goals.{Start}
 

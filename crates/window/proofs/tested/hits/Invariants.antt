@@ -1,12 +1,8 @@
 -- The loop has the hits below k.
-use mathlib.Core.Path.{◌≡◌, sym, ap, ◌∙◌, subst}
-use Prim.Native.Nat.{ℕ, ◌+◌, ◌-◌, ◌^◌, ◌≤◌, ◌<◌}
-use native.Mathlib.Omega.{arith}
-use borrow.Author.Rules.{rules}
+use mathlib.Core.Path.{◌≡◌}
+use Prim.Native.Nat.{◌-◌, ◌≤◌}
 use Rattle.window.specs.Set.{val, set_of}
-use Rattle.window.specs.Marking.{hit_at, hits_of}
-use Rattle.window.proofs.Words.{val_is}
-use Rattle.window.proofs.Hits.{hits_lt, hits_more}
+use Rattle.window.specs.Marking.{hits_of}
 use Rattle.window.proofs.tested.hits.Given as goal
 
 abbrev pub invariant-loop-k : goal.invariant-loop-k

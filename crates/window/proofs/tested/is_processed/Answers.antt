@@ -2,7 +2,6 @@
 use mathlib.Core.Path.{◌∙◌}
 use native.Mathlib.Omega.{arith}
 use Rattle.window.proofs.Classes.{known_far, known_in}
-use borrow.Author.Rules.{rules}
 use Rattle.window.proofs.tested.is_processed.Goals as goal
 
 pub returns-then-size-back : goal.returns-then-size-back

@@ -3,7 +3,6 @@ use mathlib.Core.Path.{sym, ◌∙◌}
 use Rattle.window.specs.Set.{max_window}
 use Rattle.config.specs.inner.Ranges.{outside_not, within_range}
 use Rattle.window.proofs.Validity.{valid_size, valid_bits}
-use borrow.Author.Rules.{rules}
 use Rattle.window.proofs.tested.is_valid.Goals as goal
 
 pub returns-then-outside : goal.returns-then-outside

@@ -1,5 +1,4 @@
 -- The fresh set, under the highest as it is.
-use borrow.Author.Rules.{rules}
 use Rattle.window.proofs.tested.mark_all.Goals as goal
 
 pub returns : goal.returns

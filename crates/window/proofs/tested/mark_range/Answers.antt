@@ -1,6 +1,5 @@
 -- The hits among the missing positions join the set, and their span is the answer.
 use Rattle.window.proofs.Hits.{mark_is}
-use borrow.Author.Rules.{rules}
 use Rattle.window.proofs.tested.mark_range.Goals as goal
 
 pub returns : goal.returns

@@ -2,7 +2,6 @@
 use mathlib.Core.Path.{ap, ◌∙◌}
 use Rattle.window.specs.Window.{span_of}
 use Rattle.window.proofs.Words.{val_is}
-use borrow.Author.Rules.{rules}
 use Rattle.window.proofs.tested.missing.Goals as goal
 
 pub returns : goal.returns

@@ -1,6 +1,5 @@
 -- The other positions, cut at the size.
 use Rattle.window.proofs.Moves.{missing_set_is}
-use borrow.Author.Rules.{rules}
 use Rattle.window.proofs.tested.missing_set.Goals as goal
 
 pub returns : goal.returns

@@ -2,7 +2,6 @@
 use mathlib.Core.Path.{sym, ◌∙◌}
 use native.Mathlib.Omega.{arith}
 use Rattle.window.proofs.Positions.{processed_zero, processed_beyond, processed_in}
-use borrow.Author.Rules.{rules}
 use Rattle.window.proofs.tested.processed_at.Goals as goal
 
 pub returns-then-back-eq0 : goal.returns-then-back-eq0

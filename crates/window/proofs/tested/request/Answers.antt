@@ -1,7 +1,6 @@
 -- The oldest missing position is the highest of the set.
 use mathlib.Core.Path.{sym, ◌∙◌}
 use Rattle.window.proofs.Spans.{pos_of_not_empty, request_none, request_some}
-use borrow.Author.Rules.{rules}
 use Rattle.window.proofs.tested.request.Goals as goal
 
 pub returns-then-empty : goal.returns-then-empty

@@ -3,7 +3,6 @@ use mathlib.Core.Path.{ap}
 use Prim.Native.Nat.{ℕ}
 use Rattle.window.specs.declared.set.Bits.{Bits}
 use Rattle.window.specs.declared.window.ReceiveWindow.{ReceiveWindow}
-use borrow.Author.Rules.{rules}
 use Rattle.window.proofs.tested.starting_at.Goals as goal
 
 abbrev made : ℕ → ℕ → Bits → ReceiveWindow

@@ -1,8 +1,6 @@
 -- The state test, the length, the messages, and then the write over a tested state.
 use mathlib.Core.Path.{sym, ◌∙◌}
-use native.Mathlib.Omega.{arith}
 use Rattle.command.proofs.Written.{data_invalid, data_long, data_cut, data_whole}
-use borrow.Author.Rules.{rules}
 use Rattle.command.proofs.data.UmpData.write.Goals as goal
 
 pub returns-then-words-gt-MAX_COMMAND_WORDS : goal.returns-then-words-gt-MAX_COMMAND_WORDS

@@ -3,7 +3,6 @@ use mathlib.Core.Path.{sym, ◌∙◌}
 use native.Mathlib.Omega.{arith}
 use Rattle.packet.proofs.Reading.{length_words_of, word_found, word_missed}
 use Rattle.command.proofs.Messages.{message_end, message_cut, message_whole}
-use borrow.Author.Rules.{rules}
 use Rattle.command.proofs.message.UmpMessages.next.Goals as goal
 
 pub overflow_sub-body : goal.overflow_sub-body

@@ -1,7 +1,6 @@
 -- The state test, and then the write over a tested state.
 use mathlib.Core.Path.{sym, ◌∙◌}
 use Rattle.command.proofs.Written.{error_invalid}
-use borrow.Author.Rules.{rules}
 use Rattle.command.proofs.retransmit.RetransmitError.write.Goals as goal
 
 pub write_error-requires : goal.write_error-requires

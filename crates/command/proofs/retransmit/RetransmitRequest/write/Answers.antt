@@ -1,7 +1,6 @@
 -- The state test, and then the write over a tested state.
 use mathlib.Core.Path.{sym, ◌∙◌}
 use Rattle.packet.proofs.Written.{written_invalid}
-use borrow.Author.Rules.{rules}
 use Rattle.command.proofs.retransmit.RetransmitRequest.write.Goals as goal
 
 pub write_request-requires : goal.write_request-requires

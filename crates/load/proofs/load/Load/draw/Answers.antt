@@ -1,5 +1,5 @@
 -- A draw is the generator's map, once.
-use Rattle.std.proofs.Common.{ℕ, ap, rules}
+use Rattle.std.proofs.Common.{ℕ, ap}
 use Rattle.load.specs.Load.{next}
 use Rattle.load.proofs.load.Load.draw.Goals as goal
 

@@ -1,5 +1,5 @@
-use Rattle.std.proofs.Common.{◌≡◌, ℕ, ◌+◌, ◌≤◌, refl, ◌∙◌, ap₂, arith, rules}
-use Rattle.load.specs.Load.{iterate, drawn, next, digits_of}
+use Rattle.std.proofs.Common.{◌≡◌, ℕ, refl, ◌∙◌, ap₂, arith}
+use Rattle.load.specs.Load.{next, digits_of}
 use Rattle.load.proofs.Maps.{mapped, round, ended}
 use Rattle.load.proofs.Digits.{digits_half, digits_none, few}
 use Rattle.load.proofs.load.Load.jump.Goals as goal

@@ -1,9 +1,8 @@
 -- What is left to draw, by the map of this round, leads where n draws from the seed lead; the rounds done and the digits of what is left
 -- are the digits of n.
-use Rattle.std.proofs.Common.{◌≡◌, ℕ, ◌+◌, ◌≤◌, refl, ◌∙◌, ap₂, arith, rules}
-use Rattle.load.specs.Load.{iterate, drawn, next, digits_of}
-use Rattle.load.proofs.Maps.{mapped, round, ended}
-use Rattle.load.proofs.Digits.{digits_half, digits_none, few}
+use Rattle.std.proofs.Common.{◌≡◌, ◌+◌, ◌≤◌}
+use Rattle.load.specs.Load.{iterate, drawn, digits_of}
+use Rattle.load.proofs.Maps.{mapped}
 use Rattle.load.proofs.load.Load.jump.Given as goal
 
 abbrev pub invariant-loop-left : goal.invariant-loop-left

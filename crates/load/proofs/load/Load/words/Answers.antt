@@ -1,5 +1,5 @@
 -- The upper four bits are 8 and more where the top one is 1.
-use Rattle.std.proofs.Common.{ℕ, replicate, ap, arith, rules}
+use Rattle.std.proofs.Common.{ℕ, replicate, ap, arith}
 use Rattle.load.specs.Load.{word}
 use Rattle.load.proofs.Words.{idle, sending}
 use Rattle.load.proofs.load.Load.words.Goals as goal

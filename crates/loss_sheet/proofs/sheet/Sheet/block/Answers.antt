@@ -1,7 +1,6 @@
 -- The tests, then the loop.
 use Rattle.sheet_blocks.proofs.Blocks.{run_fit}
 use Rattle.loss_sheet.proofs.States.{block_refused, block_done, done_good, done_block}
-use borrow.Author.Rules.{rules}
 use Rattle.loss_sheet.proofs.sheet.Sheet.block.Goals as goal
 
 pub returns-then-refusal-ne0 : goal.returns-then-refusal-ne0

@@ -2,7 +2,6 @@
 use mathlib.Core.Path.{sym, ◌∙◌}
 use lib.ListN.{length-take}
 use Rattle.loss_sheet.proofs.States.{state_ring, state_head, state_len, state_first, state_words, state_part, state_rest}
-use borrow.Author.Rules.{rules}
 use native.Mathlib.Omega.{arith}
 use Rattle.loss_sheet.proofs.sheet.Sheet.state_ok.Goals as goal
 

@@ -1,7 +1,6 @@
 -- Each test is one of the definition's, in its order.
 use mathlib.Core.Path.{sym, ◌∙◌}
 use Rattle.loss_sheet.proofs.States.{answer_12, answer_13, answer_16, answer_17, answer_0}
-use borrow.Author.Rules.{rules}
 use Rattle.loss_sheet.proofs.sheet.Sheet.test.Goals as goal
 
 pub returns-then-outside : goal.returns-then-outside

@@ -8,7 +8,6 @@ use Rattle.window.specs.Arrival.{reach}
 use Rattle.window.proofs.Validity.{valid_of_lem}
 use Rattle.window.proofs.Accepts.{taken_is}
 use Rattle.window.proofs.Answers.{accept_refused, accept_heard}
-use borrow.Author.Rules.{rules}
 use Rattle.window.proofs.window.ReceiveWindow.accept.Goals as goal
 use Rattle.window.proofs.window.ReceiveWindow.accept.Goals.{Then-is_ahead, Then-is_valid}
 
@@ -16,9 +15,8 @@ tested : (c : Then-is_valid) → valid_of c.args.self ≡ true
 tested c = sym c.is_valid.ensures ∙ c.if-is_valid.true
 
 -- what the steps of the way ahead require
-to : (c : Then-is_ahead) → Valid c.args.self × (within 1 reach (ahead c.args.self.highest c.args.seq) ≡ true)
-to c =
-    (valid_of_lem _ (tested c.Then-is_valid), sym c.is_ahead.ensures ∙ c.if-is_ahead.true)
+to : (c : Then-is_ahead) → valid_of c.args.self ≡ true → Valid c.args.self × (within 1 reach (ahead c.args.self.highest c.args.seq) ≡ true)
+to c t = (valid_of_lem _ t, sym c.is_ahead.ensures ∙ c.if-is_ahead.true)
 
 pub in_order-requires : goal.in_order-requires
 in_order-requires c = valid_of_lem _ (tested (goal.at.in_order-requires c).Then-is_valid)
@@ -31,13 +29,13 @@ pub returns-then-in_order : goal.returns-then-in_order
 returns-then-in_order c = c.heard.ensures ∙ accept_heard _ (tested (goal.at.returns-then-in_order c).Then-is_valid) _ c.accept_next.ensures
 
 pub lost_to-lost-requires : goal.lost_to-lost-requires
-lost_to-lost-requires c = to (goal.at.lost_to-lost-requires c).Then-is_ahead
+lost_to-lost-requires c = to (goal.at.lost_to-lost-requires c).Then-is_ahead (tested (goal.at.lost_to-lost-requires c).Then-is_valid)
 
 pub moved_to-requires : goal.moved_to-requires
-moved_to-requires c = to (goal.at.moved_to-requires c).Then-is_ahead
+moved_to-requires c = to (goal.at.moved_to-requires c).Then-is_ahead (tested (goal.at.moved_to-requires c).Then-is_valid)
 
 pub class_ahead-requires : goal.class_ahead-requires
-class_ahead-requires c = (to (goal.at.class_ahead-requires c).Then-is_ahead).1
+class_ahead-requires c = (to (goal.at.class_ahead-requires c).Then-is_ahead (tested (goal.at.class_ahead-requires c).Then-is_valid)).1
 
 pub returns-then-is_ahead : goal.returns-then-is_ahead
 returns-then-is_ahead c =

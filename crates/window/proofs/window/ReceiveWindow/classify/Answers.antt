@@ -2,7 +2,6 @@
 use mathlib.Core.Path.{sym, ◌∙◌}
 use Rattle.window.proofs.Validity.{valid_of_lem}
 use Rattle.window.proofs.Answers.{class_refused, class_found}
-use borrow.Author.Rules.{rules}
 use Rattle.window.proofs.window.ReceiveWindow.classify.Goals as goal
 
 pub classify-requires : goal.classify-requires

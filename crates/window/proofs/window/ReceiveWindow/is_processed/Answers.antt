@@ -2,7 +2,6 @@
 use mathlib.Core.Path.{sym, ◌∙◌}
 use Rattle.window.proofs.Validity.{valid_of_lem}
 use Rattle.window.proofs.Answers.{processed_refused, processed_known}
-use borrow.Author.Rules.{rules}
 use Rattle.window.proofs.window.ReceiveWindow.is_processed.Goals as goal
 
 pub is_processed-requires : goal.is_processed-requires

@@ -3,7 +3,6 @@ use mathlib.Core.Path.{ap, sym, ◌∙◌}
 use Rattle.window.specs.declared.window.Marked.{Marked}
 use Rattle.window.proofs.Validity.{valid_of_lem}
 use Rattle.window.proofs.Answers.{extended_refused, extended_numbers}
-use borrow.Author.Rules.{rules}
 use Rattle.window.proofs.window.ReceiveWindow.mark_range.Goals as goal
 
 pub mark_range-marked-requires : goal.mark_range-marked-requires

@@ -2,7 +2,6 @@
 use mathlib.Core.Path.{refl, sym, ◌∙◌}
 use Rattle.window.proofs.Validity.{valid_of_lem}
 use Rattle.window.proofs.Answers.{extended_refused, extended_numbers}
-use borrow.Author.Rules.{rules}
 use Rattle.window.proofs.window.ReceiveWindow.request.Goals as goal
 
 pub request-requires : goal.request-requires

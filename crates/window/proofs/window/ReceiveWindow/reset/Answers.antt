@@ -2,7 +2,6 @@
 use mathlib.Core.Path.{sym, ◌∙◌}
 use Rattle.window.proofs.Validity.{valid_of_lem}
 use Rattle.window.proofs.Answers.{changed_refused, changed_done}
-use borrow.Author.Rules.{rules}
 use Rattle.window.proofs.window.ReceiveWindow.reset.Goals as goal
 
 pub starting_at-fresh-requires : goal.starting_at-fresh-requires

@@ -3,7 +3,6 @@ use mathlib.Core.Path.{sym, ◌∙◌}
 use Rattle.window.specs.Set.{max_window}
 use Rattle.config.specs.inner.Ranges.{outside_not, within_range}
 use Rattle.window.proofs.Answers.{start_refused, start_window}
-use borrow.Author.Rules.{rules}
 use Rattle.window.proofs.window.ReceiveWindow.starting_at.Goals as goal
 
 pub returns-then-outside : goal.returns-then-outside

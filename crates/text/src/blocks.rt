@@ -1,0 +1,25 @@
+// Blocks of input without lines, each filled before it is used.
+ghost use Rattle.std.specs.Prelude.{IfOk};
+ghost use Rattle.text.specs.Counts.{IsPrefixLen};
+
+use std::io;
+use std::io::Read;
+
+// The bytes of a block of input or output.
+pub const SIZE: usize = 65536;
+
+// Reads until the block is full or the input ends, and answers how many bytes it has.
+pub fn full(rt: &impl io::Input, input: &mut [u8]) -> io::Result<usize>
+    ensures { IfOk result (λ n. IsPrefixLen n input.new) }
+{
+    let mut reader = rt.reader();
+    let mut done = 0;
+    while done < input.len() {
+        let n = reader.read(&mut input[done..])?;
+        if n == 0 {
+            return Ok(done);
+        }
+        done += n;
+    }
+    Ok(done)
+}
