@@ -1,6 +1,6 @@
 -- What the theorem is said of: every payload's bytes, signed or not, whole or cut, and every place in them.
 use mathlib.Core.Path.{◌≡◌}
-use mathlib.Core.List.{List, [], ◌∷◌}
+use mathlib.Core.List.{List, ◌∷◌}
 use Prim.Native.Nat.{ℕ, ◌≤◌}
 use lib.ListN.{length, drop}
 use Rattle.packet.specs.Layout.{Packet, packet, payload_of, Words32, AllEncodable}

@@ -7,7 +7,7 @@ use Prim.Native.Nat.{ℕ, ◌+◌, ◌-◌, ◌*◌, ◌≤◌, ◌<◌}
 use native.Mathlib.Omega.{arith}
 use borrow.Author.Tests.{eq-eqb, ne_eqb, lt-ltb, le-ltb}
 use lib.ListN.{length, take, drop, length-take}
-use lib.Dec.{eqb, ltb}
+use lib.Dec.{eqb}
 use Rattle.config.specs.Refusals.{number_of}
 use Rattle.config.specs.declared.refusal.Refusal.{Refusal}
 use Rattle.config.specs.declared.refusal.Refusal.TheVariants.{BadSignature, InvalidState}
@@ -16,9 +16,7 @@ use Rattle.packet.specs.Bytes.{words_of, spliced}
 use Rattle.packet.specs.Read.{csd_of, signed, open_of, next_of, body_of}
 use Rattle.packet.specs.declared.cursor.Cursor.{Cursor}
 use Rattle.packet.specs.declared.cursor.Header.{Header}
-use Rattle.packet.specs.declared.cursor.Packets.{Packets}
 use Rattle.packet.specs.declared.cursor.Packets.TheVariants.{At, Refused}
-use Rattle.packet.specs.declared.cursor.PacketItem.{PacketItem}
 use Rattle.packet.specs.declared.cursor.PacketItem.TheVariants.{Command, Truncated, End}
 use Rattle.packet.proofs.Reading.{open_signed, open_unsigned, next_found, body_part}
 use Rattle.packet.proofs.Splice.{take_spliced}

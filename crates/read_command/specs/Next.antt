@@ -1,5 +1,5 @@
 -- 01, "Numbers of each operation", Read, as numbers: what stands at a place of a payload, with the command's words and the lengths of its messages.
-use Rattle.std.specs.Prelude.{ℕ, ◌+◌, Bool, cond, not, ◌||◌, List, length, eqb, ltb}
+use Rattle.std.specs.Prelude.{ℕ, cond, not, ◌||◌, List, length, eqb, ltb}
 use Rattle.config.specs.Refusals.{number_of}
 use Rattle.config.specs.declared.refusal.Refusal.TheVariants.{BadSignature, InvalidState}
 use Rattle.packet.specs.Bytes.{words_of, spliced}

@@ -2,7 +2,6 @@
 -- command lies in the payload.
 use native.Mathlib.Omega.{arith}
 use Rattle.command_packets.proofs.Agree.{front_at, front_inside}
-use borrow.Author.Rules.{rules}
 use Rattle.command_packets.proofs.packets.next_at.Goals as goal
 
 pub overflow_add-result : goal.overflow_add-result

@@ -1,6 +1,5 @@
 -- A whole command tells the next place, and from the end on there is nothing.
 use Rattle.command_packets.proofs.Parts.{after_whole, after_cut}
-use borrow.Author.Rules.{rules}
 use Rattle.command_packets.proofs.unread.after.Goals as goal
 
 pub returns-in-Command : goal.returns-in-Command

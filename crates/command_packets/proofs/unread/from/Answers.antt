@@ -1,6 +1,5 @@
 -- Past the end `drop` leaves nothing.
 use Rattle.command_packets.proofs.Parts.{from_inside, from_past}
-use borrow.Author.Rules.{rules}
 use Rattle.command_packets.proofs.unread.from.Goals as goal
 
 pub returns-then-at-bytes : goal.returns-then-at-bytes

@@ -1,6 +1,5 @@
 -- The answer tells where the unread bytes begin; from the end on there are none.
 use Rattle.command_packets.proofs.Parts.{unread_at_lem, unread_refused}
-use borrow.Author.Rules.{rules}
 use Rattle.command_packets.proofs.unread.opened.Goals as goal
 
 pub returns-in-At : goal.returns-in-At

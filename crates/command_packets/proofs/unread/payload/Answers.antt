@@ -1,6 +1,5 @@
 -- A whole command's bytes are the cursor core's.
 use Rattle.command_packets.proofs.Parts.{payload_whole}
-use borrow.Author.Rules.{rules}
 use Rattle.command_packets.proofs.unread.payload.Goals as goal
 
 pub returns-in-Command : goal.returns-in-Command

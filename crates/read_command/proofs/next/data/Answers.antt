@@ -1,5 +1,4 @@
 -- The messages are divided, and their words counted.
-use borrow.Author.Rules.{rules}
 use Rattle.read_command.proofs.next.data.Goals as goal
 
 pub returns : goal.returns

@@ -1,8 +1,6 @@
 -- The tests in their order.
 use mathlib.Core.Path.{sym, ◌∙◌}
-use native.Mathlib.Omega.{arith}
 use Rattle.read_command.proofs.Found.{read_words, read_lens, read_item, read_unsigned}
-use borrow.Author.Rules.{rules}
 use Rattle.read_command.proofs.next.next.Goals as goal
 
 pub returns-then-words-lt-MOST : goal.returns-then-words-lt-MOST

@@ -2,7 +2,6 @@
 use mathlib.Core.Path.{sym, ◌∙◌}
 use borrow.Author.Tests.{eq-eqb, ne_eqb}
 use Rattle.read_command.proofs.Found.{opened_signed, refused_unsigned}
-use borrow.Author.Rules.{rules}
 use Rattle.read_command.proofs.next.opens.Goals as goal
 
 pub returns-in-At : goal.returns-in-At

@@ -2,7 +2,6 @@
 use mathlib.Core.Path.{sym, ap, ◌∙◌}
 use Rattle.read_command.specs.Next.{command_read}
 use Rattle.read_command.proofs.Found.{other_data}
-use borrow.Author.Rules.{rules}
 use Rattle.read_command.proofs.next.other.Goals as goal
 
 pub returns-in-UmpData : goal.returns-in-UmpData

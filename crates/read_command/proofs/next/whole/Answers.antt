@@ -8,7 +8,6 @@ use Rattle.packet.specs.Bytes.{words_of}
 use Rattle.packet.proofs.Reading.{length_words_of}
 use Rattle.packet.proofs.Splice.{length_spliced}
 use Rattle.read_command.proofs.Found.{whole_data, whole_other}
-use borrow.Author.Rules.{rules}
 use Rattle.read_command.proofs.next.whole.Goals as goal
 use Rattle.read_command.proofs.next.whole.Goals.{After-put-n}
 
@@ -20,7 +19,7 @@ words_stored :
     (c : After-put-n)
     → (c.put-n.result ≤ 255)
     × (length (words_of c.args.body.now) ≤ length c.args.words.now)
-    × (length c.put-n.new.1.0 ≡ length c.args.words.now)
+    × (length c.put-n.new.out ≡ length c.args.words.now)
 words_stored c =
     let n = length_words_of c.args.body.now in
     (omega arith, omega arith, ap length c.put-n.ensures.1 ∙ length_spliced c.args.words.now 0 _ (omega arith))
@@ -30,17 +29,17 @@ slice_bounds-data-end c = let w = words_stored (goal.at.slice_bounds-data-end c)
 
 pub slice_bounds-data-end-then-header-eq255 : goal.slice_bounds-data-end-then-header-eq255
 slice_bounds-data-end-then-header-eq255 c =
-    let w = words_stored (goal.at.slice_bounds-data-end-then-header-eq255 c).After-put-arg-1 in
+    let w = words_stored (goal.at.slice_bounds-data-end-then-header-eq255 c).After-put-n in
     sym (length-take-le _ _ (omega arith))
 
 pub data-requires : goal.data-requires
 data-requires c =
-    let w = words_stored (goal.at.data-requires c).After-put-arg-1 in
-    (omega (arith, length-take-le c.put-n.result c.put-n.new.1.0 (omega arith)), omega arith)
+    let w = words_stored (goal.at.data-requires c).After-put-n in
+    (omega (arith, length-take-le c.put-n.result c.put-n.new.out (omega arith)), omega arith)
 
 pub returns-then-header-eq255 : goal.returns-then-header-eq255
 returns-then-header-eq255 c =
-    whole_data _ _ _ _ _ _ c.put-n.ensures.1 c.if-header-eq255.true _ c.put-n.ensures.0 (words_stored (goal.at.returns-then-header-eq255 c).After-put-arg-1).1 _ _ (goal.at.returns-then-header-eq255 c).After-data.«data».ensures.0 (goal.at.returns-then-header-eq255 c).After-data.«data».ensures.1
+    whole_data _ _ _ _ _ _ c.put-n.ensures.1 c.if-header-eq255.true _ c.put-n.ensures.0 (words_stored (goal.at.returns-then-header-eq255 c).After-put-n).1 _ _ c.«data».ensures.0 c.«data».ensures.1
 
 pub returns : goal.returns
 returns c =

@@ -1,25 +1,24 @@
 use mathlib.Core.Path.{◌≡◌, refl, sym, ◌∙◌}
-use mathlib.Core.Logic.{⊎_elim}
-use Prim.Native.Nat.{◌+◌, ◌-◌, ◌≤◌}
+use Prim.Native.Nat.{◌+◌, ◌≤◌}
 use native.Mathlib.Omega.{arith}
-use borrow.Author.Rules.{rules}
 use lib.ListN.{length, drop, length-set, length-drop}
-use Rattle.packet.specs.Bytes.{spliced}
 use Rattle.packet.proofs.Splice.{spliced_nil}
-use Rattle.command.specs.Messages.{message_at, item_words, whole_words}
+use Rattle.command.specs.Messages.{message_at, item_words}
 use Rattle.command.specs.inner.Messages.{step_few, step_fits, whole_turn_lem, whole_stop, whole_end}
-use Rattle.read_command.specs.Words.{lengths_of}
 use Rattle.read_command.proofs.Stores.{store_first}
 use Rattle.read_command.proofs.Lengths.{lengths_few, lengths_turn, lengths_stop, lengths_end}
 use Rattle.read_command.proofs.words.lengths.Goals as goal
-use Rattle.read_command.proofs.words.lengths.Goals.{Joined-n-same}
+use Rattle.read_command.proofs.words.lengths.Goals.{Joined-n-same, then-n-same+else-n-eq0, else-n-same}
+
+by_branch : (c : Joined-n-same) → c.if-n-same.same ≡ c.message_at-n.result
+by_branch c = elim c.if-n-same.branch [ then-n-same+else-n-eq0 w ↦ omega arith | else-n-same w ↦ omega arith ]
 
 -- `same` after the tests: the words of the message at hand, of which there is one
 read : (c : Joined-n-same) → c.if-n-same.same ≡ item_words (message_at c.args.words.now c.loop-i.i)
-read c = ⊎_elim (λ (f, g, e). e) (λ (f, e). e ∙ sym f.left) c.if-n-same.branch ∙ c.message_at-n.ensures
+read c = by_branch c ∙ c.message_at-n.ensures
 
 some : (c : Joined-n-same) → 1 ≤ c.if-n-same.same
-some c = ⊎_elim (λ w. omega arith) (λ w. omega arith) c.if-n-same.branch
+some c = elim c.if-n-same.branch [ then-n-same+else-n-eq0 w ↦ omega arith | else-n-same w ↦ omega arith ]
 
 fits : (c : Joined-n-same) → c.loop-i.i + c.if-n-same.same ≤ length c.args.words.now
 fits c = step_fits _ _ _ (read c) c.loop-i.invariant.1

@@ -1,17 +1,10 @@
 -- What is still to be stored from here gives the whole from the start.
-use mathlib.Core.Path.{◌≡◌, refl, sym, ◌∙◌}
-use mathlib.Core.Logic.{⊎_elim}
+use mathlib.Core.Path.{◌≡◌}
 use Prim.Native.Nat.{◌+◌, ◌-◌, ◌≤◌}
-use native.Mathlib.Omega.{arith}
-use borrow.Author.Rules.{rules}
-use lib.ListN.{length, drop, length-set, length-drop}
+use lib.ListN.{length, drop}
 use Rattle.packet.specs.Bytes.{spliced}
-use Rattle.packet.proofs.Splice.{spliced_nil}
-use Rattle.command.specs.Messages.{message_at, item_words, whole_words}
-use Rattle.command.specs.inner.Messages.{step_few, step_fits, whole_turn_lem, whole_stop, whole_end}
+use Rattle.command.specs.Messages.{whole_words}
 use Rattle.read_command.specs.Words.{lengths_of}
-use Rattle.read_command.proofs.Stores.{store_first}
-use Rattle.read_command.proofs.Lengths.{lengths_few, lengths_turn, lengths_stop, lengths_end}
 use Rattle.read_command.proofs.words.lengths.Given as goal
 
 abbrev pub invariant-loop-i : goal.invariant-loop-i

@@ -1,7 +1,6 @@
 -- Each class tells.
 use mathlib.Core.Path.{ap, sym}
 use Rattle.receiver.specs.Messages.{hands_on}
-use borrow.Author.Rules.{rules}
 use Rattle.receiver.proofs.messages.delivers.Goals as goal
 
 pub returns-in-New : goal.returns-in-New

@@ -3,7 +3,6 @@ use mathlib.Core.Path.{sym, ◌∙◌}
 use native.Mathlib.Omega.{arith}
 use lib.Seq.{length-take-le}
 use Rattle.receiver.proofs.Handed.{whole_bytes, handed_part, handed_none}
-use borrow.Author.Rules.{rules}
 use Rattle.receiver.proofs.messages.handed_on.Goals as goal
 
 pub overflow_mul-end : goal.overflow_mul-end

@@ -1,7 +1,6 @@
 -- The bytes end inside a message where the whole messages are not all words.
 use mathlib.Core.Path.{sym, ◌∙◌}
 use Rattle.receiver.proofs.Handed.{cut_part, cut_none}
-use borrow.Author.Rules.{rules}
 use Rattle.receiver.proofs.messages.is_cut.Goals as goal
 
 pub returns-then-delivers : goal.returns-then-delivers

@@ -1,6 +1,5 @@
 -- Below 32 the shifted bit stays in its word.
 use Rattle.receiver.proofs.Times.{doubled_below, doubled_most}
-use borrow.Author.Rules.{rules}
 use Rattle.receiver.proofs.tested.doubled.Goals as goal
 
 pub returns-then-sent-lt32 : goal.returns-then-sent-lt32

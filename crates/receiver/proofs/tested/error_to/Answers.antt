@@ -1,7 +1,6 @@
 -- The window marks the request's range, and its span is what is reported.
 use Rattle.receiver.proofs.Validity.{valid_window, valid_marked}
 use Rattle.receiver.proofs.Losses.{error_nothing, error_range}
-use borrow.Author.Rules.{rules}
 use Rattle.receiver.proofs.tested.error_to.Goals as goal
 
 pub mark_range-marked-requires : goal.mark_range-marked-requires

@@ -1,6 +1,5 @@
 -- Only a New number with a count above 0 has skipped any.
 use Rattle.receiver.proofs.Settled.{gap_skipped}
-use borrow.Author.Rules.{rules}
 use Rattle.receiver.proofs.tested.gap.Goals as goal
 
 pub returns-else-count-eq0 : goal.returns-else-count-eq0

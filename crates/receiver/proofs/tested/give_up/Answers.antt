@@ -1,7 +1,6 @@
 -- What is reported is what was missing before all was marked.
 use mathlib.Core.Path.{sym, ◌∙◌}
 use Rattle.receiver.proofs.Polled.{gave_nothing, gave_range}
-use borrow.Author.Rules.{rules}
 use Rattle.receiver.proofs.tested.give_up.Goals as goal
 
 pub returns-in-Nothing : goal.returns-in-Nothing

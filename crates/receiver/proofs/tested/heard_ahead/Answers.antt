@@ -5,7 +5,6 @@ use Rattle.window.specs.declared.window.Arrival.{Arrival}
 use Rattle.window.proofs.Accepts.{taken_is}
 use Rattle.receiver.proofs.Validity.{valid_window, valid_taken}
 use Rattle.receiver.proofs.Settled.{heard_of_lem}
-use borrow.Author.Rules.{rules}
 use Rattle.receiver.proofs.tested.heard_ahead.Goals as goal
 use Rattle.receiver.proofs.tested.heard_ahead.Goals.{After-class_ahead-class}
 

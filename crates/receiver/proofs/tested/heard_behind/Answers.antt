@@ -1,7 +1,6 @@
 -- The window takes the number and stays valid; the rest follows from its class.
 use Rattle.receiver.proofs.Validity.{valid_window, valid_taken}
 use Rattle.receiver.proofs.Settled.{heard_of_lem}
-use borrow.Author.Rules.{rules}
 use Rattle.receiver.proofs.tested.heard_behind.Goals as goal
 
 pub accept_behind-taken-requires : goal.accept_behind-taken-requires

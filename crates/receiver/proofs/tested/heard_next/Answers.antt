@@ -5,7 +5,6 @@ use Rattle.window.proofs.InOrder.{in_order_complete}
 use Rattle.receiver.specs.Receiver.{nothing_missing}
 use Rattle.receiver.proofs.Validity.{valid_window}
 use Rattle.receiver.proofs.Settled.{settled_none, heard_of_lem}
-use borrow.Author.Rules.{rules}
 use Rattle.receiver.proofs.tested.heard_next.Goals as goal
 
 pub accept_next-taken-requires : goal.accept_next-taken-requires

@@ -1,7 +1,6 @@
 -- Only a New number with a count above 0 has skipped any.
 use mathlib.Core.Path.{ap, sym}
 use Rattle.receiver.specs.Receiver.{is_gap}
-use borrow.Author.Rules.{rules}
 use Rattle.receiver.proofs.tested.is_gap.Goals as goal
 
 pub returns-in-New : goal.returns-in-New

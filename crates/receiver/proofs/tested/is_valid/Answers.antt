@@ -1,6 +1,5 @@
 -- The test of the receiver is that of its window.
 use Rattle.receiver.specs.Receiver.{valid_of}
-use borrow.Author.Rules.{rules}
 use Rattle.receiver.proofs.tested.is_valid.Goals as goal
 
 pub returns : goal.returns

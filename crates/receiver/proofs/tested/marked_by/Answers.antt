@@ -1,7 +1,6 @@
 -- The test chooses as the definition does.
 use mathlib.Core.Path.{sym, ◌∙◌}
 use Rattle.receiver.proofs.Losses.{marked_none, marked_some}
-use borrow.Author.Rules.{rules}
 use Rattle.receiver.proofs.tested.marked_by.Goals as goal
 
 pub returns-then-complete : goal.returns-then-complete

@@ -1,6 +1,5 @@
 -- The timer tells the time.
 use Rattle.receiver.proofs.Taken.{deadline_timer}
-use borrow.Author.Rules.{rules}
 use Rattle.receiver.proofs.tested.next_deadline.Goals as goal
 
 pub returns-in-Stopped : goal.returns-in-Stopped

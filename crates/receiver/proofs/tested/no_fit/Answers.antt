@@ -1,5 +1,4 @@
 -- The length decides, as in the definition.
-use mathlib.Core.Path.{sym}
 use borrow.Author.Tests.{eq-eqb, ne_eqb}
 use Rattle.receiver.proofs.tested.no_fit.Goals as goal
 

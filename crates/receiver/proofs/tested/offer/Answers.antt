@@ -1,6 +1,5 @@
 -- The request was written, or it did not fit.
 use Rattle.receiver.proofs.Taken.{offered_done, offered_refused}
-use borrow.Author.Rules.{rules}
 use Rattle.receiver.proofs.tested.offer.Goals as goal
 
 pub returns-in-Done : goal.returns-in-Done

@@ -1,7 +1,6 @@
 -- No request is unanswered, or one is.
 use mathlib.Core.Path.{◌∙◌}
 use Rattle.receiver.proofs.Losses.{error_asked}
-use borrow.Author.Rules.{rules}
 use Rattle.receiver.proofs.tested.on_retransmit_error.Goals as goal
 
 pub returns-in-Nothing : goal.returns-in-Nothing

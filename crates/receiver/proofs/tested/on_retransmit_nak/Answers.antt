@@ -3,7 +3,6 @@ use mathlib.Core.Path.{ap, ◌∙◌}
 use Rattle.receiver.specs.Receiver.{quiet_of}
 use Rattle.receiver.proofs.Validity.{valid_window}
 use Rattle.receiver.proofs.Losses.{nak_asked}
-use borrow.Author.Rules.{rules}
 use Rattle.receiver.proofs.tested.on_retransmit_nak.Goals as goal
 
 pub give_up-requires : goal.give_up-requires

@@ -1,7 +1,6 @@
 -- No timer, or one that runs.
 use mathlib.Core.Path.{◌∙◌}
 use Rattle.receiver.proofs.Polled.{polled_timer}
-use borrow.Author.Rules.{rules}
 use Rattle.receiver.proofs.tested.poll.Goals as goal
 
 pub returns-in-Stopped : goal.returns-in-Stopped

@@ -1,11 +1,10 @@
 -- The tests choose as the definition does; it gives up where one of the last two fails.
 use mathlib.Core.Path.{ap, sym, ◌∙◌}
-use mathlib.Core.Logic.{⊎_elim}
 use Rattle.receiver.specs.Receiver.{quiet_of}
 use Rattle.receiver.proofs.Validity.{valid_window}
 use Rattle.receiver.proofs.Polled.{polled_early, polled_none, polled_asks, polled_spent, polled_disabled}
-use borrow.Author.Rules.{rules}
 use Rattle.receiver.proofs.tested.poll_running.Goals as goal
+use Rattle.receiver.proofs.tested.poll_running.Goals.{then-t-cfg+else-enabled, else-t-cfg}
 
 pub returns-then-time-t : goal.returns-then-time-t
 returns-then-time-t c =
@@ -31,7 +30,7 @@ pub returns : goal.returns
 returns c =
     let missing = sym c.complete.ensures ∙ c.if-complete.false in
     c.give_up.ensures
-    ∙ ⊎_elim
-    (λ w. polled_disabled c.args.r c.args.cfg c.args.time c.args.t c.if-time-t.false missing w.0.taken (sym w.1.ensures ∙ w.2.left))
-    (λ w. polled_spent c.args.r c.args.cfg c.args.time c.args.t c.if-time-t.false missing w.left)
-    c.if-t-cfg.branch
+    ∙ elim c.if-t-cfg.branch [
+      | then-t-cfg+else-enabled w ↦ polled_disabled c.args.r c.args.cfg c.args.time c.args.t c.if-time-t.false missing w.if-t-cfg.true (sym w.enabled.ensures ∙ w.if-enabled.false)
+      | else-t-cfg w ↦ polled_spent c.args.r c.args.cfg c.args.time c.args.t c.if-time-t.false missing w.if-t-cfg.false
+    ]

@@ -3,7 +3,6 @@ use mathlib.Core.Path.{ap, ◌∙◌}
 use mathlib.Core.Bool.{false}
 use Rattle.receiver.specs.Receiver.{rest_of}
 use Rattle.receiver.proofs.Validity.{valid_window}
-use borrow.Author.Rules.{rules}
 use Rattle.receiver.proofs.tested.reset.Goals as goal
 
 pub starting_at-requires : goal.starting_at-requires

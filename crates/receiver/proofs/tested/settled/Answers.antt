@@ -1,7 +1,6 @@
 -- The tests choose as the definition does.
 use mathlib.Core.Path.{sym, ◌∙◌}
 use Rattle.receiver.proofs.Settled.{settled_none, settled_starts, settled_no_gap, settled_disabled, settled_runs}
-use borrow.Author.Rules.{rules}
 use Rattle.receiver.proofs.tested.settled.Goals as goal
 
 pub returns-then-complete : goal.returns-then-complete

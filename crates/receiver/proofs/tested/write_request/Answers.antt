@@ -2,7 +2,6 @@
 use mathlib.Core.Path.{sym, ◌∙◌}
 use Rattle.receiver.proofs.Validity.{valid_window}
 use Rattle.receiver.proofs.Taken.{taken_not_due, taken_disabled, taken_nothing, taken_offered}
-use borrow.Author.Rules.{rules}
 use Rattle.receiver.proofs.tested.write_request.Goals as goal
 
 pub request-requires : goal.request-requires

@@ -1,7 +1,6 @@
 -- The window starts, or is refused.
 use mathlib.Core.Path.{sym, ◌∙◌}
 use Rattle.receiver.proofs.Answers.{new_window, new_refused}
-use borrow.Author.Rules.{rules}
 use Rattle.receiver.proofs.receiver.Receiver.new.Goals as goal
 
 pub returns-in-Window : goal.returns-in-Window

@@ -3,7 +3,6 @@ use mathlib.Core.Path.{sym, ◌∙◌}
 use Rattle.config.specs.inner.Entries.{state_refused, state_made}
 use Rattle.config.specs.declared.answer.Deadline.TheVariants.{Refused}
 use Rattle.receiver.specs.Answers.{deadline_answer}
-use borrow.Author.Rules.{rules}
 use Rattle.receiver.proofs.receiver.Receiver.next_deadline.Goals as goal
 
 pub returns-then-is_valid : goal.returns-then-is_valid

@@ -2,7 +2,6 @@
 use mathlib.Core.Path.{sym, ◌∙◌}
 use Rattle.config.specs.inner.Entries.{state_refused, state_made}
 use Rattle.receiver.specs.Answers.{nak_answer, event_refused}
-use borrow.Author.Rules.{rules}
 use Rattle.receiver.proofs.receiver.Receiver.on_retransmit_nak.Goals as goal
 
 pub on_retransmit_nak-requires : goal.on_retransmit_nak-requires

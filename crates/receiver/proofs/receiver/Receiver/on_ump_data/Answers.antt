@@ -3,7 +3,6 @@ use mathlib.Core.Path.{sym, ◌∙◌}
 use Rattle.config.specs.inner.Entries.{settings_refused, entry_refused, entry_made}
 use Rattle.receiver.specs.Receiver.{valid_of, heard_of}
 use Rattle.receiver.specs.Answers.{data_answer, hearing_refused}
-use borrow.Author.Rules.{rules}
 use Rattle.receiver.proofs.receiver.Receiver.on_ump_data.Goals as goal
 
 pub on_ump_data-requires : goal.on_ump_data-requires

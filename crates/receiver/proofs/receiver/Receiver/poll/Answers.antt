@@ -3,7 +3,6 @@ use mathlib.Core.Path.{sym, ◌∙◌}
 use Rattle.config.specs.inner.Entries.{settings_refused, entry_refused, entry_made}
 use Rattle.receiver.specs.Receiver.{valid_of, polled_of}
 use Rattle.receiver.specs.Answers.{poll_answer, event_refused}
-use borrow.Author.Rules.{rules}
 use Rattle.receiver.proofs.receiver.Receiver.poll.Goals as goal
 
 pub poll-requires : goal.poll-requires

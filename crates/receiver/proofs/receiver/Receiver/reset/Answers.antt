@@ -3,7 +3,6 @@ use mathlib.Core.Path.{sym, ◌∙◌}
 use Rattle.config.specs.inner.Entries.{state_refused}
 use Rattle.receiver.specs.Answers.{reset_answer, reset_refused}
 use Rattle.receiver.proofs.Answers.{reset_done}
-use borrow.Author.Rules.{rules}
 use Rattle.receiver.proofs.receiver.Receiver.reset.Goals as goal
 
 pub reset-requires : goal.reset-requires

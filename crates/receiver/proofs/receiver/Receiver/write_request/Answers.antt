@@ -1,6 +1,5 @@
 -- Settings, receiver and payload are tested, and the rest is `tested::write_request`.
 use mathlib.Core.Path.{sym, ◌∙◌}
-use borrow.Author.Rules.{rules}
 use Rattle.receiver.proofs.Answers.{take_settings, take_state, take_payload, take_made}
 use Rattle.receiver.proofs.receiver.Receiver.write_request.Goals as goal
 
