@@ -1,6 +1,6 @@
 -- What the theorems are said of: every start and every list of calls, with any arguments, and what the state of 32 words then is.
 use Prim.Native.Nat.{ℕ, ◌≤◌, ◌<◌}
-use mathlib.Core.Path.{◌≡◌, ap, refl, sym, ◌∙◌}
+use mathlib.Core.Path.{◌≡◌, refl}
 use mathlib.Core.Bool.{true}
 use mathlib.Core.Logic.{◌↔◌}
 use mathlib.Core.List.{List, [], ◌∷◌}
@@ -8,9 +8,8 @@ use Rattle.receiver.specs.declared.receiver.Hearing.{Hearing}
 use Rattle.receiver.specs.declared.receiver.StreamEvent.{StreamEvent}
 use Rattle.held_notes.specs.Calls.{Call, delivered, told, restarted, moments_in}
 use Rattle.held_notes.specs.State.{all_notes, has}
-use Rattle.held_notes.specs.Answers.{answer_of, none_held, start_of}
+use Rattle.held_notes.specs.Answers.{answer_of, none_held}
 use Rattle.held_notes.specs.Theorems.{HeldBy, left_by}
-use Rattle.held_notes.specs.declared.held.HeldNotes.{HeldNotes}
 use Rattle.held_notes.proofs.Calls.{start_state, held_kept}
 use Rattle.held_notes.proofs.Exactly.{held_exactly}
 

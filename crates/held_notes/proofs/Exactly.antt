@@ -1,15 +1,15 @@
 -- A note is held exactly when an on for it was handed on with a New command and nothing disturbed it since.
 use Prim.Native.Nat.{ℕ}
 use mathlib.Core.Path.{◌≡◌, refl, sym, ◌∙◌, ap}
-use mathlib.Core.Logic.{◌⊎◌, inl, inr, ◌↔◌}
+use mathlib.Core.Logic.{◌⊎◌, inl, inr}
 use mathlib.Core.Bool.{Bool, true, false, ◌&&◌}
-use mathlib.Core.List.{List, [], ◌∷◌, ◌++◌}
+use mathlib.Core.List.{List, [], ◌∷◌}
 use Rattle.config.specs.inner.Choices.{never}
 use Rattle.config.specs.inner.Tests.{split, and_left, and_right}
 use Rattle.notes.specs.Notes.{on_for, off_for}
 use Rattle.held_notes.specs.Calls.{Moment, silence, message, held_after, held_through, Call, moments_of, moments_in, held_in}
 use Rattle.held_notes.specs.Theorems.{Undisturbed, HeldBy, HeldExactly}
-use Rattle.held_notes.proofs.Moments.{on_not_off, after_silence, after_off, after_on, after_other, after_held, through_append}
+use Rattle.held_notes.proofs.Moments.{after_silence, after_off, after_on, after_other, after_held, through_append}
 
 module _ (g k : ℕ) where
   earlier : (n : Moment) (ms : List Moment) → HeldBy g k ms → HeldBy g k (n ∷ ms)

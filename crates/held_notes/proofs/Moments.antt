@@ -5,7 +5,7 @@ use mathlib.Core.Logic.{inl, inr}
 use mathlib.Core.Bool.{Bool, true, false, cond, ◌&&◌}
 use mathlib.Core.List.{List, [], ◌∷◌, ◌++◌}
 use Rattle.config.specs.inner.Choices.{never}
-use Rattle.config.specs.inner.Tests.{split, and_left, and_right}
+use Rattle.config.specs.inner.Tests.{split}
 use Rattle.notes.specs.Notes.{Effect, holds, releases, nothing, effect_of, holds_it, releases_it, on_for, off_for}
 use Rattle.held_notes.specs.Calls.{Moment, silence, message, messages, held_after, held_through}
 

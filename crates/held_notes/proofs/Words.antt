@@ -1,12 +1,12 @@
 -- Messages one after the other, and the words that they make, divided again.
 use Prim.Native.Nat.{ℕ, zero, suc, ◌/◌, ◌≤◌}
-use mathlib.Core.Path.{◌≡◌, refl, ap, sym, ◌∙◌}
+use mathlib.Core.Path.{◌≡◌, refl, ap, ◌∙◌}
 use mathlib.Core.Logic.{inl, inr}
 use mathlib.Core.Bool.{true}
 use mathlib.Core.List.{List, [], ◌∷◌, ◌++◌}
 use native.Mathlib.Omega.{arith}
 use lib.Dec.{leb}
-use lib.ListN.{length, take, drop, length-append, length-drop}
+use lib.ListN.{length, take, drop, length-append}
 use lib.Seq.{take_at, drop_at, length-take-le}
 use Rattle.config.specs.inner.Tests.{split, tests, lifts}
 use Rattle.command.specs.Messages.{message_words, divided, messages_of, words_in}

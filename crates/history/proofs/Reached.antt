@@ -6,7 +6,7 @@ use Rattle.config.specs.Sequence.{turn}
 use Rattle.history.specs.Headers.{length_at, entry_size, header_at}
 use Rattle.history.specs.State.{fresh, state_ok}
 use Rattle.history.specs.Push.{pushed, appended}
-use Rattle.history.specs.Entries.{flat, Short, size, contents, entries_of, Holds, Unwritten}
+use Rattle.history.specs.Entries.{flat, Short, size, contents, entries_of, Holds}
 use Rattle.history.specs.declared.history.SendHistory.{SendHistory}
 use Rattle.history.proofs.Flat.{unwritten_pushed, unwritten_appended, unwritten_written}
 use Rattle.history.proofs.Entries.{holds_length_at}

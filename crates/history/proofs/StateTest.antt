@@ -7,7 +7,7 @@ use Rattle.config.specs.Range.{within, outside}
 use Rattle.config.specs.inner.Tests.{split, tests}
 use Rattle.history.specs.Headers.{next_at, header_at, words_from, numbered}
 use Rattle.history.specs.inner.Walk.{newest_from, passes, Past, Walked}
-use Rattle.history.specs.State.{newest_at, unsent_take, walk_ok, state_ok, back_of, Marks, Answers}
+use Rattle.history.specs.State.{newest_at, unsent_take, walk_ok, state_ok, Marks, Answers}
 use Rattle.history.specs.declared.history.SendHistory.{SendHistory}
 use Rattle.history.specs.declared.history.Tested.{Tested}
 use Rattle.history.specs.declared.headers.Stop.{Stop}

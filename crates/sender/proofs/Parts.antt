@@ -1,9 +1,9 @@
 -- The commands that words divide into: they are short, and hold all the words in order.
 use mathlib.Core.Path.{◌≡◌, refl, ap, ◌∙◌}
 use mathlib.Core.List.{List, [], ◌∷◌, ◌++◌}
-use Prim.Native.Nat.{ℕ, zero, suc, ◌+◌, ◌-◌, ◌≤◌}
+use Prim.Native.Nat.{ℕ, zero, suc, ◌+◌, ◌≤◌}
 use native.Mathlib.Omega.{arith}
-use lib.ListN.{length, take, drop, length-drop, take-append-drop}
+use lib.ListN.{length, drop, length-drop, take-append-drop}
 use Rattle.history.specs.Entries.{size, Short}
 use Rattle.fronts.specs.Commands.{front, behind, commands_of}
 use Rattle.command.specs.Messages.{words_in}

@@ -1,11 +1,6 @@
 use Rattle.fronts.proofs.Fronts.{count_end, whole_at, front_at}
-use mathlib.Core.Path.{◌≡◌, refl}
-use Prim.Native.Nat.{◌+◌, ◌-◌, ◌≤◌}
 use native.Mathlib.Omega.{arith}
-use borrow.Author.Rules.{rules}
-use lib.ListN.{length, drop}
-use Rattle.fronts.specs.Commands.{commands_of}
-use Rattle.fronts.proofs.Fronts.{Divides, command_fits, command_rest, count_turn, commands_end}
+use Rattle.fronts.proofs.Fronts.{command_fits, command_rest, count_turn}
 use Rattle.fronts.proofs.tested.commands.Goals as goal
 
 pub loop-at-init : goal.loop-at-init

@@ -1,11 +1,6 @@
-use mathlib.Core.Path.{◌≡◌, refl}
-use mathlib.Core.Bool.{true}
-use Prim.Native.Nat.{◌+◌, ◌-◌, ◌≤◌}
+use mathlib.Core.Path.{refl}
 use native.Mathlib.Omega.{arith}
 use borrow.Author.Rules.{rules}
-use lib.ListN.{length, drop}
-use Rattle.command.specs.Messages.{whole_of}
-use Rattle.fronts.specs.Commands.{above}
 use Rattle.fronts.proofs.Fronts.{turn_fits, turn_whole, above_turn, above_found, above_none, four_enough}
 use Rattle.fronts.proofs.tested.fit.Goals as goal
 

@@ -1,6 +1,5 @@
 -- All words where they are so few, or the whole messages among the first n.
 use native.Mathlib.Omega.{arith}
-use borrow.Author.Rules.{rules}
 use lib.ListN.{length-take}
 use Rattle.fronts.proofs.Fronts.{front_taken, part_of}
 use Rattle.fronts.proofs.tested.front_words.Goals as goal

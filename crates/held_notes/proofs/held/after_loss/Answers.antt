@@ -1,6 +1,5 @@
 -- By the span.
 use Rattle.held_notes.proofs.Calls.{by_span}
-use borrow.Author.Rules.{rules}
 use Rattle.held_notes.proofs.held.after_loss.Goals as goal
 
 pub returns-in-Nothing : goal.returns-in-Nothing

@@ -1,6 +1,5 @@
 -- By the class.
 use Rattle.held_notes.proofs.Calls.{by_class, plays_none}
-use borrow.Author.Rules.{rules}
 use Rattle.held_notes.proofs.held.handed_on.Goals as goal
 
 pub returns-in-New : goal.returns-in-New

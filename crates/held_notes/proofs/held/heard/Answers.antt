@@ -1,6 +1,5 @@
 -- The loss first, then the messages.
 use Rattle.held_notes.proofs.Calls.{follows_plays}
-use borrow.Author.Rules.{rules}
 use Rattle.held_notes.proofs.held.heard.Goals as goal
 
 pub returns : goal.returns

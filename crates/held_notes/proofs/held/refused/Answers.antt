@@ -1,6 +1,5 @@
 -- The state, no notes, and 12.
 use Rattle.held_notes.specs.Answers.{refused_of}
-use borrow.Author.Rules.{rules}
 use Rattle.held_notes.proofs.held.refused.Goals as goal
 
 pub returns : goal.returns

@@ -2,7 +2,6 @@
 use mathlib.Core.Path.{refl}
 use Rattle.held_notes.specs.Answers.{given_by}
 use Rattle.held_notes.proofs.Calls.{none_held_lem}
-use borrow.Author.Rules.{rules}
 use Rattle.held_notes.proofs.held.silence_all.Goals as goal
 
 pub returns : goal.returns

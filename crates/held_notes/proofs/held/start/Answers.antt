@@ -1,7 +1,6 @@
 -- The group is tested first.
 use native.Mathlib.Omega.{arith}
 use Rattle.held_notes.proofs.Calls.{start_refused, start_done}
-use borrow.Author.Rules.{rules}
 use Rattle.held_notes.proofs.held.start.Goals as goal
 
 pub returns-then-group-gt15 : goal.returns-then-group-gt15

@@ -1,7 +1,6 @@
 -- Nothing happens.
 use mathlib.Core.Path.{refl}
 use Rattle.held_notes.specs.Answers.{given_by}
-use borrow.Author.Rules.{rules}
 use Rattle.held_notes.proofs.held.unchanged.Goals as goal
 
 pub returns : goal.returns

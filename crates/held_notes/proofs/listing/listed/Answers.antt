@@ -1,10 +1,9 @@
 use mathlib.Core.Path.{refl, sym, ◌∙◌}
-use mathlib.Core.Logic.{⊎_elim}
-use Prim.Native.Nat.{◌-◌}
 use native.Mathlib.Omega.{arith}
-use Rattle.held_notes.specs.State.{all_notes, notes_below}
-use Rattle.held_notes.proofs.Lists.{Listed, few, listed_held, listed_not, listed_all}
+use Rattle.held_notes.specs.State.{notes_below}
+use Rattle.held_notes.proofs.Lists.{few, listed_held, listed_not, listed_all}
 use Rattle.held_notes.proofs.listing.listed.Goals as goal
+use Rattle.held_notes.proofs.listing.listed.Goals.{then-holds, else-holds}
 
 pub loop-note-init : goal.loop-note-init
 unfolding notes_below
@@ -33,10 +32,10 @@ loop-note-smaller c = omega arith
 
 pub loop-note-preserved : goal.loop-note-preserved
 loop-note-preserved c =
-    ⊎_elim
-    (λ (f, m, n). listed_held c.args.held c.loop-note.note c.loop-note.items c.loop-note.count c.loop-note.invariant (omega arith) (sym c.holds.ensures ∙ f.taken) c.if-holds.items c.if-holds.count m n)
-    (λ (f, m, n). listed_not c.args.held c.loop-note.note c.loop-note.items c.loop-note.count c.loop-note.invariant (omega arith) (sym c.holds.ensures ∙ f.left) c.if-holds.items c.if-holds.count m n)
-    c.if-holds.branch
+    elim c.if-holds.branch [
+      | then-holds w ↦ listed_held c.args.held c.loop-note.note c.loop-note.items c.loop-note.count c.loop-note.invariant (omega arith) (sym c.holds.ensures ∙ w.if-holds.true) c.if-holds.items c.if-holds.count w.items-is w.count-is
+      | else-holds w ↦ listed_not c.args.held c.loop-note.note c.loop-note.items c.loop-note.count c.loop-note.invariant (omega arith) (sym c.holds.ensures ∙ w.if-holds.false) c.if-holds.items c.if-holds.count w.items-is w.count-is
+    ]
 
 pub returns : goal.returns
 returns c =

@@ -2,7 +2,6 @@
 use mathlib.Core.Path.{sym, ◌∙◌}
 use mathlib.Core.List.{[]}
 use native.Mathlib.Omega.{arith}
-use borrow.Author.Rules.{rules}
 use Rattle.held_notes.proofs.Notes.{note_range, played_on, played_late, played_off, played_other, played_not_ours}
 use Rattle.held_notes.proofs.note.play.Goals as goal
 

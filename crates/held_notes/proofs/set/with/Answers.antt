@@ -1,6 +1,5 @@
 -- One bit of one word is set.
 use native.Mathlib.Omega.{arith}
-use borrow.Author.Rules.{rules}
 use Rattle.held_notes.proofs.Bits.{has_with}
 use Rattle.held_notes.proofs.set.with.Goals as goal
 

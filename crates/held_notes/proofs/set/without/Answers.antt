@@ -1,6 +1,5 @@
 -- One bit of one word is cleared.
 use native.Mathlib.Omega.{arith}
-use borrow.Author.Rules.{rules}
 use Rattle.held_notes.proofs.Bits.{has_without}
 use Rattle.held_notes.proofs.set.without.Goals as goal
 

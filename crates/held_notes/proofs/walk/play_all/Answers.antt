@@ -1,11 +1,10 @@
 use mathlib.Core.Path.{refl}
-use Prim.Native.Nat.{◌+◌, ◌-◌, ◌≤◌}
+use Prim.Native.Nat.{◌+◌, ◌≤◌}
 use native.Mathlib.Omega.{arith}
-use borrow.Author.Rules.{rules}
 use lib.ListN.{length}
 use Rattle.packet.specs.Bytes.{words_of}
 use Rattle.command.specs.inner.Messages.{step_fits}
-use Rattle.held_notes.proofs.Walks.{ToPlay, words_fewer, some, all_played, one_played}
+use Rattle.held_notes.proofs.Walks.{words_fewer, some, all_played, one_played}
 use Rattle.held_notes.proofs.walk.play_all.Goals as goal
 use Rattle.held_notes.proofs.walk.play_all.Goals.{After-play-next}
 

@@ -1,12 +1,8 @@
 -- What is still to be played leads on to where all leads; each turn plays one message.
-use mathlib.Core.Path.{refl}
-use Prim.Native.Nat.{◌+◌, ◌-◌, ◌≤◌}
-use native.Mathlib.Omega.{arith}
-use borrow.Author.Rules.{rules}
+use Prim.Native.Nat.{◌-◌, ◌≤◌}
 use lib.ListN.{length}
 use Rattle.packet.specs.Bytes.{words_of}
-use Rattle.command.specs.inner.Messages.{step_fits}
-use Rattle.held_notes.proofs.Walks.{ToPlay, words_fewer, some, all_played, one_played}
+use Rattle.held_notes.proofs.Walks.{ToPlay}
 use Rattle.held_notes.proofs.walk.play_all.Given as goal
 
 abbrev pub invariant-loop-after : goal.invariant-loop-after

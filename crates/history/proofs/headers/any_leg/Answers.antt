@@ -1,4 +1,4 @@
-use Rattle.std.proofs.Common.{◌≡◌, ◌+◌, ◌-◌, ◌*◌, ◌/◌, ◌%◌, ◌<◌, ◌≤◌, length, get_or, refl, ◌∙◌, arith, rules}
+use Rattle.std.proofs.Common.{◌≡◌, ◌+◌, ◌-◌, ◌*◌, ◌/◌, ◌%◌, length, get_or, refl, ◌∙◌, arith}
 use Rattle.config.specs.Sequence.{turn}
 use Rattle.history.specs.Ring.{slot_of}
 use Rattle.history.specs.inner.Walk.{Past}
@@ -11,35 +11,32 @@ less :
     (c : After-wrapping_sub_usize)
     → (c.wrapping_sub_usize.result + c.loop-at.want / turn * turn) % 18446744073709551616 ≡ get_or c.args.ring.now c.loop-at.i 0
 less c =
-    let c.At-loop-at = c.At-loop-at in
-    less_number _ _ _ _ _ _ c.wrapping_sub_usize-base.ensures c.wrapping_add_usize-next.ensures c.wrapping_sub_usize.ensures
+    less_number _ _ _ _ _ _ c.wrapping_sub_usize-base.ensures.value c.wrapping_add_usize-next.ensures.value c.wrapping_sub_usize.ensures.value
     (omega (arith, c.type_inv.ring c.loop-at.i))
     c.loop-at.invariant.3
 
 -- the place after an entry that is passed
 behind : (c : Else-wrapping_sub_usize-gt-MAX_PL) → c.wrapping_add_usize-next.result ≡ c.loop-at.i + (1 + c.wrapping_sub_usize.result)
 behind c =
-    let e = place_after _ _ _ _ _ _ c.wrapping_sub_usize-base.ensures c.wrapping_add_usize-next.ensures c.wrapping_sub_usize.ensures (omega arith) (omega arith) in
+    let e = place_after _ _ _ _ _ _ c.wrapping_sub_usize-base.ensures.value c.wrapping_add_usize-next.ensures.value c.wrapping_sub_usize.ensures.value (omega arith) (omega arith) in
     omega arith
 
 over :
     (c : After-wrapping_add_u32-want)
+    → (c.wrapping_sub_usize.result + c.loop-at.want / turn * turn) % 18446744073709551616 ≡ get_or c.args.ring.now c.loop-at.i 0
+    → c.wrapping_add_usize-next.result ≡ c.loop-at.i + (1 + c.wrapping_sub_usize.result)
     → Past c.args.ring.now c.args.at c.args.seq c.args.at (c.loop-at.passed + 1) (slot_of (length c.args.ring.now) c.args.at (c.wrapping_add_usize-next.result - c.args.at)) (c.wrapping_add_u32-want.result / turn) c.loop-at.i (c.wrapping_add_usize-next.result - c.args.at)
-over c =
+over c lessened place =
     past_turn _ _ _ _ _ _ _ _ c.loop-at.invariant.5 _ _ _ _
-    (header_right _ _ _ (omega arith) (less c.After-wrapping_sub_usize) c.if-wrapping_sub_usize-gt-MAX_PL.false)
+    (header_right _ _ _ (omega arith) lessened c.if-wrapping_sub_usize-gt-MAX_PL.false)
     c.if-wrapping_sub_usize-gt-MAX_PL.false
-    (behind c.Else-wrapping_sub_usize-gt-MAX_PL)
-    (number_next _ _ c.loop-at.invariant.4 c.wrapping_add_u32-want.ensures).0
+    place
+    (number_next _ _ c.loop-at.invariant.4 c.wrapping_add_u32-want.ensures.value).0
     refl
     c.loop-at.invariant.1
 
 pub loop-at-init : goal.loop-at-init
 loop-at-init c = (omega arith, omega arith, omega arith, omega arith, omega arith, past_start _ _ _ _ _ (omega arith))
-
-shared_slice_read_wrapping_add_usize :
-    tie.Need-shared-slice-read-wrapping-add-usize invariant-loop decreases-loop
-shared_slice_read_wrapping_add_usize c = search rules
 
 pub overflow_cast-ring : goal.overflow_cast-ring
 overflow_cast-ring c = omega (arith, c.type_inv.ring c.loop-at.i)
@@ -54,17 +51,17 @@ loop-at-smaller c = fewer_left _ _ c.loop-at.invariant.0
 pub loop-at-preserved : goal.loop-at-preserved
 loop-at-preserved c =
     let l = further _ _ _ _ c.loop-at.invariant.1 (behind (goal.at.loop-at-preserved c).Else-wrapping_sub_usize-gt-MAX_PL) in
-    let n = number_next _ _ c.loop-at.invariant.4 c.wrapping_add_u32-want.ensures in (
+    let n = number_next _ _ c.loop-at.invariant.4 c.wrapping_add_u32-want.ensures.value in (
       one_more _ _ c.loop-at.invariant.0 c.if-passed-k.false,
       l,
       c.if-ring-i.false,
       n.1 ∙ c.loop-at.invariant.3,
       n.2,
-      past_to _ _ _ _ _ _ _ _ _ l c.if-ring-i.false (over (goal.at.loop-at-preserved c).After-wrapping_add_u32-want),
+      past_to _ _ _ _ _ _ _ _ _ l c.if-ring-i.false (over (goal.at.loop-at-preserved c).After-wrapping_add_u32-want (less (goal.at.loop-at-preserved c).After-wrapping_sub_usize) (behind (goal.at.loop-at-preserved c).Else-wrapping_sub_usize-gt-MAX_PL)),
     )
 
 pub overflow_sub-result : goal.overflow_sub-result
 overflow_sub-result c = let e = behind (goal.at.overflow_sub-result c).Else-wrapping_sub_usize-gt-MAX_PL in omega arith
 
 pub returns : goal.returns
-returns c = ran_on _ _ _ _ _ _ _ _ _ (omega arith) (omega arith) (over (goal.at.returns c).After-wrapping_add_u32-want)
+returns c = ran_on _ _ _ _ _ _ _ _ _ (omega arith) (omega arith) (over (goal.at.returns c).After-wrapping_add_u32-want (less (goal.at.returns c).After-wrapping_sub_usize) (behind (goal.at.returns c).Else-wrapping_sub_usize-gt-MAX_PL))

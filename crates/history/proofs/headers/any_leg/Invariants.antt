@@ -1,9 +1,7 @@
 -- Each turn passes one entry; a header that is not the wanted one less than 65 up fails whatever comes after it.
-use Rattle.std.proofs.Common.{◌≡◌, ◌+◌, ◌-◌, ◌*◌, ◌/◌, ◌%◌, ◌<◌, ◌≤◌, length, get_or, refl, ◌∙◌, arith, rules}
+use Rattle.std.proofs.Common.{◌≡◌, ◌-◌, ◌/◌, ◌%◌, ◌<◌, ◌≤◌, length}
 use Rattle.config.specs.Sequence.{turn}
-use Rattle.history.specs.Ring.{slot_of}
 use Rattle.history.specs.inner.Walk.{Past}
-use Rattle.history.proofs.Past.{past_start, past_to, one_more, further, fewer_left, less_number, place_after, number_next, header_right, past_wrong, past_turn, ran_lost, ran_on}
 use Rattle.history.proofs.headers.any_leg.Given as goal
 
 abbrev pub invariant-loop-at : goal.invariant-loop-at

@@ -1,63 +1,69 @@
-use Rattle.std.proofs.Common.{◌≡◌, ℕ, ◌+◌, ◌-◌, ◌/◌, ◌%◌, ◌<◌, ◌≤◌, length, get_or, refl, ◌∙◌, ⊎_elim, arith, rules}
+use Rattle.std.proofs.Common.{◌≡◌, ℕ, ◌+◌, ◌-◌, ◌/◌, ◌%◌, ◌<◌, ◌≤◌, List, length, get_or, refl, ◌∙◌, arith}
 use Rattle.config.specs.Sequence.{turn}
 use Rattle.history.specs.Ring.{slot_of}
 use Rattle.history.specs.inner.Walk.{Past}
 use Rattle.history.proofs.Slots.{slot_to}
 use Rattle.history.proofs.Past.{past_start, past_to, one_more, further, fewer_left, header_parts, gone_by_lem, number_next, header_right, past_wrong, past_turn, ran_lost, ran_on}
 use Rattle.history.proofs.headers.equal_leg.Goals as goal
-use Rattle.history.proofs.headers.equal_leg.Goals.{After-wrapping_add_u32-header, At-loop-i, Joined-ring-i, Then-ring-i}
+use Rattle.history.proofs.headers.equal_leg.Goals.{Joined-ring-i, then-ring-i, else-ring-i+then-passed-k, else-ring-i+else-passed-k+then-ring-i-2}
+
+-- what holds before each entry
+abbrev Here : (ring : List ℕ) (at seq k pl i passed header : ℕ) → Type 0
+Here ring at seq k pl i passed header =
+    let step = 1 + pl in
+    (passed < k)
+    × (at ≤ i)
+    × (i < length ring)
+    × (header % turn ≡ pl)
+    × (header < 4294967296)
+    × Past ring at seq (at - step) passed i (header / turn) (i - step) (i - at)
+    × ((get_or ring i 0 ≡ header → ⊥) → (0 < passed) × (at + step ≤ i))
 
 -- what holds behind the loop
-abbrev End : (c : At-loop-i) (i passed header : ℕ) → Type 0
-End c i passed header =
-    let step = 1 + c.wrapping_sub_usize-pl.result in
+abbrev End : (ring : List ℕ) (at seq k pl i passed header : ℕ) → Type 0
+End ring at seq k pl i passed header =
+    let step = 1 + pl in
     (0 < passed)
-    × (passed ≤ c.args.k)
+    × (passed ≤ k)
     × (header < 4294967296)
-    × (c.args.at + step ≤ i)
-    × Past c.args.ring.now c.args.at c.args.seq (c.args.at - step) passed (slot_of (length c.args.ring.now) c.args.at (i - c.args.at)) (header / turn) (i - step) (i - c.args.at)
+    × (at + step ≤ i)
+    × Past ring at seq (at - step) passed (slot_of (length ring) at (i - at)) (header / turn) (i - step) (i - at)
 
--- the next entry is passed
-goes :
-    (c : After-wrapping_add_u32-header)
-    → End c.At-loop-i (c.loop-i.i + (1 + c.wrapping_sub_usize-pl.result)) (c.loop-i.passed + 1) c.wrapping_add_u32-header.result
-goes c =
-    let c.At-loop-i = c.At-loop-i in
-    let n = number_next _ _ c.loop-i.invariant.4 c.wrapping_add_u32-header.ensures in
-    let t = gone_by_lem _ _ _ _ _ _ c.loop-i.invariant.0 c.loop-i.invariant.1 c.if-ring-i.false c.loop-i.invariant.3 in
-    (t.0, t.1, n.2, t.2, past_turn _ _ _ _ _ _ _ _ c.loop-i.invariant.5 _ _ _ _ t.3 c.if-pl-gt-MAX_PL.false refl n.0 t.4 c.loop-i.invariant.1)
+module _ (ring : List ℕ) (at seq k pl i passed header : ℕ) (h : Here ring at seq k pl i passed header) where
+  -- the next entry is passed
+  goes : (next : ℕ) → pl ≤ 64 → get_or ring i 0 ≡ header → next ≡ (header + turn) % 4294967296 → End ring at seq k pl (i + (1 + pl)) (passed + 1) next
+  goes next few same e =
+      let n = number_next _ _ h.4 e in
+      let t = gone_by_lem _ _ _ _ _ _ h.0 h.1 same h.3 in
+      (t.0, t.1, n.2, t.2, past_turn _ _ _ _ _ _ _ _ h.5 _ _ _ _ t.3 few refl n.0 t.4 h.1)
 
--- the next header is another one
-stays : (c : Then-ring-i) → End c.At-loop-i c.loop-i.i c.loop-i.passed c.loop-i.header
-stays c =
-    let c.loop-i = c.loop-i.invariant in
-    let m = c.loop-i.6 c.if-ring-i.true in
-    (m.0, omega arith, c.loop-i.4, m.1, rw (slot_to _ _ _ c.loop-i.1 c.loop-i.2) c.loop-i.5)
+  -- the next header is another one
+  stays : (get_or ring i 0 ≡ header → ⊥) → End ring at seq k pl i passed header
+  stays other =
+      let m = h.6 other in
+      (m.0, omega arith, h.4, m.1, rw (slot_to _ _ _ h.1 h.2) h.5)
 
-ended : (c : Joined-ring-i) → End c.At-loop-i c.if-ring-i.i c.if-ring-i.passed c.if-ring-i.header
+ended : (c : Joined-ring-i) → End c.args.ring.now c.args.at c.args.seq c.args.k c.wrapping_sub_usize-pl.result c.if-ring-i.i c.if-ring-i.passed c.if-ring-i.header
 ended c =
-    ⊎_elim
-    (λ w. rw (w.1, w.2, w.3) (stays (record { before = c.After-shared_slice_known-in-loop-i-1; if2 = w.0 })))
-    (λ u. ⊎_elim
-    (λ w. rw (w.3, w.4, w.5) (goes (record { before = record { before = c.After-shared_slice_known-in-loop-i-1; if2 = w.0 }; wrapping-add-u32 = w.1 })))
-    (λ w. rw (w.4, w.5, w.6) (goes (record { before = record { before = c.After-shared_slice_known-in-loop-i-1; if2 = w.0 }; wrapping-add-u32 = w.1 })))
-    u)
-    c.if-ring-i.branch
-
-shared_slice_read_wrapping_sub_usize :
-    tie.Need-shared-slice-read-wrapping-sub-usize invariant-loop decreases-loop
-shared_slice_read_wrapping_sub_usize c = search rules
+    let h : Here c.args.ring.now c.args.at c.args.seq c.args.k c.wrapping_sub_usize-pl.result c.loop-i.i c.loop-i.passed c.loop-i.header = c.loop-i.invariant in
+    elim c.if-ring-i.branch [
+      | then-ring-i w ↦ rw (w.i-is, w.passed-is, w.header-is) (stays _ _ _ _ _ _ _ _ h w.if-ring-i.true)
+      | else-ring-i+then-passed-k w ↦
+          rw (w.i-is, w.passed-is, w.header-is) (goes _ _ _ _ _ _ _ _ h _ c.if-pl-gt-MAX_PL.false w.if-ring-i.false w.wrapping_add_u32-header.ensures.value)
+      | else-ring-i+else-passed-k+then-ring-i-2 w ↦
+          rw (w.i-is, w.passed-is, w.header-is) (goes _ _ _ _ _ _ _ _ h _ c.if-pl-gt-MAX_PL.false w.if-ring-i.false w.wrapping_add_u32-header.ensures.value)
+    ]
 
 pub overflow_cast-ring : goal.overflow_cast-ring
 overflow_cast-ring c = omega (arith, c.type_inv.ring c.args.at)
 
 pub returns-then-pl-gt-MAX_PL : goal.returns-then-pl-gt-MAX_PL
 returns-then-pl-gt-MAX_PL c =
-    ran_lost _ _ _ _ _ c.wrong.ensures (past_wrong _ _ _ _ _ _ _ _ (past_start _ _ _ 0 _ refl) _ _ c.requires.2 (omega arith) c.wrapping_sub_usize-pl.ensures c.if-pl-gt-MAX_PL.true (omega arith))
+    ran_lost _ _ _ _ _ c.wrong.ensures (past_wrong _ _ _ _ _ _ _ _ (past_start _ _ _ 0 _ refl) _ _ c.requires.2 (omega arith) c.wrapping_sub_usize-pl.ensures.value c.if-pl-gt-MAX_PL.true (omega arith))
 
 pub loop-i-init : goal.loop-i-init
 loop-i-init c =
-    let h = header_right _ _ _ (omega arith) c.wrapping_sub_usize-pl.ensures c.if-pl-gt-MAX_PL.false in
+    let h = header_right _ _ _ (omega arith) c.wrapping_sub_usize-pl.ensures.value c.if-pl-gt-MAX_PL.false in
     let p = header_parts _ _ _ h c.if-pl-gt-MAX_PL.false in (
       c.requires.2,
       omega arith,
@@ -73,12 +79,12 @@ loop-i-smaller c = fewer_left _ _ c.loop-i.invariant.0
 
 pub loop-i-preserved : goal.loop-i-preserved
 loop-i-preserved c =
-    let g = goes (goal.at.loop-i-preserved c).After-wrapping_add_u32-header in
+    let g = goes _ _ _ _ _ _ _ _ c.loop-i.invariant _ c.if-pl-gt-MAX_PL.false c.if-ring-i.false c.wrapping_add_u32-header.ensures.value in
     let l = further _ _ _ _ c.loop-i.invariant.1 refl in (
       one_more _ _ c.loop-i.invariant.0 c.if-passed-k.false,
       l,
       c.if-ring-i-2.false,
-      (number_next _ _ c.loop-i.invariant.4 c.wrapping_add_u32-header.ensures).1 ∙ c.loop-i.invariant.3,
+      (number_next _ _ c.loop-i.invariant.4 c.wrapping_add_u32-header.ensures.value).1 ∙ c.loop-i.invariant.3,
       g.2,
       past_to _ _ _ _ _ _ _ _ _ l c.if-ring-i-2.false g.4,
       λ _. (g.0, g.3),

@@ -1,10 +1,7 @@
 -- An entry is passed if its header is the one before with the next number; the header before the place reached is then a step back.
-use Rattle.std.proofs.Common.{◌≡◌, ℕ, ◌+◌, ◌-◌, ◌/◌, ◌%◌, ◌<◌, ◌≤◌, length, get_or, refl, ◌∙◌, ⊎_elim, arith, rules}
+use Rattle.std.proofs.Common.{◌≡◌, ◌+◌, ◌-◌, ◌/◌, ◌%◌, ◌<◌, ◌≤◌, length, get_or}
 use Rattle.config.specs.Sequence.{turn}
-use Rattle.history.specs.Ring.{slot_of}
 use Rattle.history.specs.inner.Walk.{Past}
-use Rattle.history.proofs.Slots.{slot_to}
-use Rattle.history.proofs.Past.{past_start, past_to, one_more, further, fewer_left, header_parts, gone_by_lem, number_next, header_right, past_wrong, past_turn, ran_lost, ran_on}
 use Rattle.history.proofs.headers.equal_leg.Given as goal
 
 abbrev pub invariant-loop-i : goal.invariant-loop-i

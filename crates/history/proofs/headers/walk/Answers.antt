@@ -1,5 +1,4 @@
-use Rattle.std.proofs.Common.{◌-◌, ◌<◌, ◌≤◌, length, refl, arith, rules}
-use Rattle.history.specs.inner.Walk.{Past}
+use Rattle.std.proofs.Common.{refl, arith}
 use Rattle.history.proofs.Past.{past_here, walk_stops, walk_short, past_walk, walked_lost, walked_all}
 use Rattle.history.proofs.headers.walk.Goals as goal
 

@@ -1,7 +1,6 @@
 -- Each turn is a leg, and the place that it ends at is gone round to; the entries passed and those of the leg are passed together.
-use Rattle.std.proofs.Common.{◌-◌, ◌<◌, ◌≤◌, length, refl, arith, rules}
+use Rattle.std.proofs.Common.{◌-◌, ◌<◌, ◌≤◌, length}
 use Rattle.history.specs.inner.Walk.{Past}
-use Rattle.history.proofs.Past.{past_here, walk_stops, walk_short, past_walk, walked_lost, walked_all}
 use Rattle.history.proofs.headers.walk.Given as goal
 
 abbrev pub invariant-loop-left : goal.invariant-loop-left

@@ -1,5 +1,5 @@
 -- Three walks in a row: one that is lost, or whose words are not those asked for, fails the test; else the newest header decides.
-use Rattle.std.proofs.Common.{arith, rules}
+use Rattle.std.proofs.Common.{arith}
 use Rattle.history.proofs.StateTest.{first_lost, second_lost, unsent_off, last_lost, words_left, newest_told, back_place, answers_no}
 use Rattle.history.proofs.history.walks.Goals as goal
 

@@ -1,5 +1,5 @@
 -- One run up to the end of the ring or of the words, and one from the start of the ring for the rest.
-use Rattle.std.proofs.Common.{◌≡◌, ◌+◌, ◌-◌, length, arith, rules}
+use Rattle.std.proofs.Common.{◌≡◌, ◌+◌, ◌-◌, length, arith}
 use Rattle.history.proofs.Runs.{run_one, run_two}
 use Rattle.history.proofs.ring.put.Goals as goal
 

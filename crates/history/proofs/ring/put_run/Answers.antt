@@ -1,5 +1,4 @@
-use Rattle.std.proofs.Common.{◌≡◌, ◌+◌, ◌-◌, ◌≤◌, length, drop, refl, arith, length-set, rules}
-use Rattle.history.specs.Ring.{slot_of, ring_stored}
+use Rattle.std.proofs.Common.{◌≡◌, length, refl, arith, length-set}
 use Rattle.history.proofs.Runs.{run_start, run_turn}
 use Rattle.history.proofs.ring.put_run.Goals as goal
 

@@ -1,7 +1,6 @@
 -- Each turn stores the next word at the next place, so that storing what is left still gives the whole.
-use Rattle.std.proofs.Common.{◌≡◌, ◌+◌, ◌-◌, ◌≤◌, length, drop, refl, arith, length-set, rules}
+use Rattle.std.proofs.Common.{◌≡◌, ◌+◌, ◌-◌, ◌≤◌, length, drop}
 use Rattle.history.specs.Ring.{slot_of, ring_stored}
-use Rattle.history.proofs.Runs.{run_start, run_turn}
 use Rattle.history.proofs.ring.put_run.Given as goal
 
 abbrev pub invariant-loop-k : goal.invariant-loop-k

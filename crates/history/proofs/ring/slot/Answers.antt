@@ -1,5 +1,5 @@
 -- The sum is the place where it lies before the end, and once round less where it does not.
-use Rattle.std.proofs.Common.{arith, rules}
+use Rattle.std.proofs.Common.{arith}
 use Rattle.history.proofs.Slots.{slot_below, slot_round}
 use Rattle.history.proofs.ring.slot.Goals as goal
 

@@ -1,4 +1,4 @@
-use Rattle.std.proofs.Common.{◌≡◌, ◌-◌, ◌≤◌, ◌++◌, length, drop, replicate, refl, arith, length-set, rules}
+use Rattle.std.proofs.Common.{refl, arith, length-set}
 use borrow.Author.Fill.{fill_more}
 use Rattle.history.proofs.Runs.{filled}
 use Rattle.history.proofs.ring.zero.Goals as goal

@@ -1,7 +1,5 @@
 -- After k turns the first k words are 0 and the others are as they were.
-use Rattle.std.proofs.Common.{◌≡◌, ◌-◌, ◌≤◌, ◌++◌, length, drop, replicate, refl, arith, length-set, rules}
-use borrow.Author.Fill.{fill_more}
-use Rattle.history.proofs.Runs.{filled}
+use Rattle.std.proofs.Common.{◌≡◌, ◌-◌, ◌≤◌, ◌++◌, length, drop, replicate}
 use Rattle.history.proofs.ring.zero.Given as goal
 
 abbrev pub invariant-loop-k : goal.invariant-loop-k

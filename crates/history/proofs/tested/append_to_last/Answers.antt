@@ -1,5 +1,5 @@
 -- Room is made for the words, with the newest entry kept; they are stored behind it, and its header counts them.
-use Rattle.std.proofs.Common.{arith, rules}
+use Rattle.std.proofs.Common.{arith}
 use Rattle.history.proofs.Room.{join_fits, good_last}
 use Rattle.history.proofs.Pushes.{append_done}
 use Rattle.history.proofs.tested.append_to_last.Goals as goal
@@ -21,17 +21,13 @@ slot-end-requires c = omega arith
 pub put-requires : goal.put-requires
 put-requires c = omega arith
 
-pub overflow_add-ring : goal.overflow_add-ring
-overflow_add-ring c =
-    omega (arith, c.slice_known-2-1.given c.args.h.last, c.requires.2)
-
 pub offset_bounds-ring-last-2 : goal.offset_bounds-ring-last-2
 offset_bounds-ring-last-2 c =
     record { fits = omega (arith, good_last _ _ c.requires.0 c.requires.1, c.requires.0.ring, c.requires.0.most) }
 
 pub bounds-ring-last-2 : goal.bounds-ring-last-2
 bounds-ring-last-2 c =
-    omega (arith, good_last _ _ c.requires.0 c.requires.1, c.put.auto.0)
+    omega (arith, good_last _ _ c.requires.0 c.requires.1, c.put.auto.ring)
 
 pub overflow_add-result : goal.overflow_add-result
 overflow_add-result c = omega arith

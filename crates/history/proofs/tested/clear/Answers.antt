@@ -1,5 +1,4 @@
 -- The slice is zeroed and the state made anew.
-use Rattle.std.proofs.Common.{rules}
 use Rattle.history.proofs.tested.clear.Goals as goal
 
 pub returns : goal.returns

@@ -1,5 +1,5 @@
 -- The oldest request stands at the head.
-use Rattle.std.proofs.Common.{refl, rules}
+use Rattle.std.proofs.Common.{refl}
 use Rattle.history.proofs.Queues.{oldest_none, oldest_some}
 use Rattle.history.proofs.tested.front.Goals as goal
 

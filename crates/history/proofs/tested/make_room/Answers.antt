@@ -1,7 +1,5 @@
-use Rattle.std.proofs.Common.{◌≡◌, ◌+◌, ◌-◌, ◌≤◌, refl, arith, rules}
-use Rattle.history.specs.State.{Good}
-use Rattle.history.specs.Push.{popped}
-use Rattle.history.proofs.Room.{staying, pop_less, room_turn, room_made, room_all}
+use Rattle.std.proofs.Common.{refl, arith}
+use Rattle.history.proofs.Room.{pop_less, room_turn, room_made, room_all}
 use Rattle.history.proofs.tested.make_room.Goals as goal
 
 pub loop-g-init : goal.loop-g-init

@@ -1,8 +1,8 @@
 -- Each turn lets the oldest leave, as the definition does, and those that are to stay keep their words.
-use Rattle.std.proofs.Common.{◌≡◌, ◌+◌, ◌-◌, ◌≤◌, refl, arith, rules}
+use Rattle.std.proofs.Common.{◌≡◌, ◌+◌, ◌-◌, ◌≤◌}
 use Rattle.history.specs.State.{Good}
 use Rattle.history.specs.Push.{popped}
-use Rattle.history.proofs.Room.{staying, pop_less, room_turn, room_made, room_all}
+use Rattle.history.proofs.Room.{staying}
 use Rattle.history.proofs.tested.make_room.Given as goal
 
 abbrev pub invariant-loop-g : goal.invariant-loop-g

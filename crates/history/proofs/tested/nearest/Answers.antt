@@ -1,5 +1,5 @@
 -- The test is the definition's.
-use Rattle.std.proofs.Common.{rules, le-ltb, lt-ltb}
+use Rattle.std.proofs.Common.{le-ltb, lt-ltb}
 use Rattle.history.proofs.tested.nearest.Goals as goal
 
 pub returns-then-k-from : goal.returns-then-k-from

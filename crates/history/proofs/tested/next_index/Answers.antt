@@ -1,5 +1,4 @@
 -- The header and its words are passed, round the end.
-use Rattle.std.proofs.Common.{rules}
 use Rattle.history.proofs.tested.next_index.Goals as goal
 
 pub returns : goal.returns

@@ -1,6 +1,5 @@
-use Rattle.std.proofs.Common.{◌≡◌, ◌-◌, ◌≤◌, sym, refl, ◌∙◌, arith, rules}
+use Rattle.std.proofs.Common.{sym, refl, ◌∙◌, arith}
 use native.Mathlib.Nat.{sub-zero}
-use Rattle.history.specs.Queue.{requests, waiting, asks}
 use Rattle.history.proofs.Queues.{asks_found, asks_passed, asks_none}
 use Rattle.history.proofs.tested.pending.Goals as goal
 

@@ -1,8 +1,6 @@
 -- Whether one of those that are left has the number is whether one of all has it, as long as none has been found.
-use Rattle.std.proofs.Common.{◌≡◌, ◌-◌, ◌≤◌, sym, refl, ◌∙◌, arith, rules}
-use native.Mathlib.Nat.{sub-zero}
+use Rattle.std.proofs.Common.{◌≡◌, ◌-◌, ◌≤◌}
 use Rattle.history.specs.Queue.{requests, waiting, asks}
-use Rattle.history.proofs.Queues.{asks_found, asks_passed, asks_none}
 use Rattle.history.proofs.tested.pending.Given as goal
 
 abbrev pub invariant-loop-i : goal.invariant-loop-i

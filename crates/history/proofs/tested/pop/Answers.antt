@@ -1,5 +1,5 @@
 -- The head moves on by one where a request waits.
-use Rattle.std.proofs.Common.{arith, rules}
+use Rattle.std.proofs.Common.{arith}
 use Rattle.history.proofs.Queues.{pop_none, pop_some}
 use Rattle.history.proofs.tested.pop.Goals as goal
 

@@ -1,5 +1,5 @@
 -- The oldest entry's words are in use, so the head may move past them.
-use Rattle.std.proofs.Common.{arith, rules}
+use Rattle.std.proofs.Common.{arith}
 use Rattle.history.proofs.Room.{good_first, pop_done}
 use Rattle.history.proofs.tested.pop_oldest.Goals as goal
 

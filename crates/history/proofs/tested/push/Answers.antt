@@ -1,5 +1,5 @@
 -- Room is made for the header and the words; they are stored behind the newest, as `ring_stored` stores them.
-use Rattle.std.proofs.Common.{arith, length-set, rules}
+use Rattle.std.proofs.Common.{arith, length-set}
 use Rattle.history.proofs.Room.{push_fits}
 use Rattle.history.proofs.Pushes.{push_done}
 use Rattle.history.proofs.tested.push.Goals as goal
@@ -41,7 +41,7 @@ overflow_add-result-2 c =
     omega arith
 
 pub shape_of-ring : goal.shape_of-ring
-shape_of-ring c = simp length-set at c.put.auto.0
+shape_of-ring c = simp length-set at c.put.auto.ring
 
 pub returns : goal.returns
 returns c =

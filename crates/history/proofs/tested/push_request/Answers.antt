@@ -1,5 +1,5 @@
 -- Each answer of the definition is reached by the tests that the code has passed.
-use Rattle.std.proofs.Common.{sym, ◌∙◌, rules}
+use Rattle.std.proofs.Common.{sym, ◌∙◌}
 use Rattle.history.proofs.Queues.{push_pending, push_full, push_queued}
 use Rattle.history.proofs.tested.push_request.Goals as goal
 

@@ -1,5 +1,5 @@
 -- The upper half of a word of 32 bits.
-use Rattle.std.proofs.Common.{arith, rules}
+use Rattle.std.proofs.Common.{arith}
 use Rattle.history.proofs.tested.seq.Goals as goal
 
 pub overflow_cast-result : goal.overflow_cast-result

@@ -1,6 +1,5 @@
 -- The oldest request stands at the head.
 use Rattle.history.proofs.Queues.{set_none, set_some}
-use Rattle.std.proofs.Common.{rules}
 use Rattle.history.proofs.tested.set_front.Goals as goal
 
 pub returns-then-q-eq0 : goal.returns-then-q-eq0

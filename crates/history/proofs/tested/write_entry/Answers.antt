@@ -1,5 +1,5 @@
 -- The run up to the end and the run from the start are the entry's words, in order.
-use Rattle.std.proofs.Common.{arith, rules}
+use Rattle.std.proofs.Common.{arith}
 use Rattle.history.proofs.Written.{entry_written}
 use Rattle.history.proofs.tested.write_entry.Goals as goal
 

@@ -1,6 +1,5 @@
 -- The test chooses as the definition does.
 use Rattle.rows.proofs.Choice.{reach_all, reach_some}
-use borrow.Author.Rules.{rules}
 use Rattle.rows.proofs.rows.reach.Goals as goal
 
 pub returns-then-count-eq0 : goal.returns-then-count-eq0

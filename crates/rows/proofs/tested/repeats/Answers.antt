@@ -1,17 +1,7 @@
-use mathlib.Core.Path.{◌≡◌, refl, sym, ◌∙◌}
-use Prim.Native.Nat.{◌-◌, ◌≤◌, ◌<◌}
+use mathlib.Core.Path.{refl, sym, ◌∙◌}
 use native.Mathlib.Omega.{arith}
 use native.Mathlib.Nat.{sub_self}
-use lib.ListN.{length}
-use borrow.Author.Rules.{rules}
-use Rattle.packet.specs.Write.{free_of}
-use Rattle.packet.specs.declared.writer.PayloadWriter.{PayloadWriter}
-use Rattle.history.specs.Headers.{header_at, words_from, entries_from}
-use Rattle.history.specs.Entries.{Short}
-use Rattle.history.specs.Written.{entry_packet}
 use Rattle.history.proofs.Walk.{words_first, header_none}
-use Rattle.rows.specs.Rows.{packets_from}
-use Rattle.rows.specs.Choice.{repeats_of}
 use Rattle.rows.proofs.Packets.{short_first, header_next, words_some}
 use Rattle.rows.proofs.Choice.{repeats_drop, repeats_stay}
 use Rattle.rows.proofs.tested.repeats.Goals as goal

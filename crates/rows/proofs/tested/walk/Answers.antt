@@ -1,10 +1,5 @@
 use mathlib.Core.Path.{◌≡◌, refl, sym, ◌∙◌}
-use Prim.Native.Nat.{◌+◌, ◌<◌}
 use native.Mathlib.Omega.{arith}
-use lib.ListN.{length}
-use borrow.Author.Rules.{rules}
-use Rattle.history.specs.Headers.{header_at, words_from, entries_from}
-use Rattle.history.specs.Entries.{Short}
 use Rattle.history.proofs.Walk.{header_first, header_none, words_first, words_none}
 use Rattle.rows.proofs.Packets.{short_first}
 use Rattle.rows.proofs.tested.walk.Goals as goal

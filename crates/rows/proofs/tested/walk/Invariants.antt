@@ -1,13 +1,9 @@
 -- What is left of the way leads to the same place, and takes the words that are not counted yet.
-use mathlib.Core.Path.{◌≡◌, refl, sym, ◌∙◌}
+use mathlib.Core.Path.{◌≡◌}
 use Prim.Native.Nat.{◌+◌, ◌<◌}
-use native.Mathlib.Omega.{arith}
 use lib.ListN.{length}
-use borrow.Author.Rules.{rules}
 use Rattle.history.specs.Headers.{header_at, words_from, entries_from}
 use Rattle.history.specs.Entries.{Short}
-use Rattle.history.proofs.Walk.{header_first, header_none, words_first, words_none}
-use Rattle.rows.proofs.Packets.{short_first}
 use Rattle.rows.proofs.tested.walk.Given as goal
 
 abbrev pub invariant-loop-left : goal.invariant-loop-left

@@ -1,16 +1,8 @@
-use mathlib.Core.Path.{◌≡◌, refl, ◌∙◌}
-use mathlib.Core.Bool.{true}
-use Prim.Native.Nat.{◌-◌, ◌≤◌, ◌<◌}
+use mathlib.Core.Path.{refl, ◌∙◌}
 use native.Mathlib.Nat.{sub-zero}
 use native.Mathlib.Omega.{arith}
-use lib.ListN.{length}
-use borrow.Author.Rules.{rules}
-use Rattle.packet.specs.Write.{valid_of as payload_valid}
-use Rattle.history.specs.Headers.{entries_from}
-use Rattle.history.specs.Entries.{Short}
-use Rattle.rows.specs.Rows.{row_of, packets_from}
 use Rattle.rows.proofs.Packets.{short_first}
-use Rattle.rows.proofs.Filling.{also, also_none, one_valid, one_length, entries_done, entries_stop, entries_short, entries_end}
+use Rattle.rows.proofs.Filling.{also_none, one_valid, one_length, entries_done, entries_stop, entries_short, entries_end}
 use Rattle.rows.proofs.tested.write_entries.Goals as goal
 
 pub loop-n-init : goal.loop-n-init
@@ -20,18 +12,12 @@ pub write_entry-wrote-requires : goal.write_entry-wrote-requires
 write_entry-wrote-requires c =
     (c.loop-n.invariant.3, c.loop-n.invariant.1, c.requires.1.least, c.requires.1.most, (short_first _ _ _ (omega arith) c.loop-n.invariant.2).0)
 
-pub enum_told-1 : goal.enum_told-1
-enum_told-1 c = c.in-Refused.keys1
-
 pub shape_of-buf-in-Refused : goal.shape_of-buf-in-Refused
 shape_of-buf-in-Refused c = one_length _ _ _ _ _ c.write_entry-wrote.ensures ∙ c.loop-n.invariant.4
 
 pub returns-in-Refused : goal.returns-in-Refused
 returns-in-Refused c =
     entries_stop _ _ _ _ _ _ _ _ c.write_entry-wrote.ensures c.loop-n-test.true _ _ c.in-Refused.is c.loop-n.invariant.5
-
-pub enum_told-in-Done : goal.enum_told-in-Done
-enum_told-in-Done c = c.in-Done.keys2
 
 pub next_index-i-requires : goal.next_index-i-requires
 next_index-i-requires c =

@@ -1,17 +1,13 @@
 -- What is left of the row from here, after the commands that were written, is the whole row.
-use mathlib.Core.Path.{◌≡◌, refl, ◌∙◌}
+use mathlib.Core.Path.{◌≡◌}
 use mathlib.Core.Bool.{true}
 use Prim.Native.Nat.{◌-◌, ◌≤◌, ◌<◌}
-use native.Mathlib.Nat.{sub-zero}
-use native.Mathlib.Omega.{arith}
 use lib.ListN.{length}
-use borrow.Author.Rules.{rules}
 use Rattle.packet.specs.Write.{valid_of as payload_valid}
 use Rattle.history.specs.Headers.{entries_from}
 use Rattle.history.specs.Entries.{Short}
 use Rattle.rows.specs.Rows.{row_of, packets_from}
-use Rattle.rows.proofs.Packets.{short_first}
-use Rattle.rows.proofs.Filling.{also, also_none, one_valid, one_length, entries_done, entries_stop, entries_short, entries_end}
+use Rattle.rows.proofs.Filling.{also}
 use Rattle.rows.proofs.tested.write_entries.Given as goal
 
 abbrev pub invariant-loop-n : goal.invariant-loop-n

@@ -1,7 +1,6 @@
 -- The reason is a defined one, so the error is written as any command, and is a row of its own.
 use mathlib.Core.Path.{◌∙◌}
 use Rattle.rows.proofs.Filling.{row_one, row_none, error_written_lem}
-use borrow.Author.Rules.{rules}
 use Rattle.rows.proofs.tested.write_error.Goals as goal
 
 pub returns-in-Done : goal.returns-in-Done

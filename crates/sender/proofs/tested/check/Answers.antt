@@ -1,7 +1,6 @@
 -- Each test is one of the definition's, in its order.
 use mathlib.Core.Path.{sym, ◌∙◌}
 use Rattle.sender.proofs.Queued.{check_parts, check_long, check_passed}
-use borrow.Author.Rules.{rules}
 use Rattle.sender.proofs.tested.check.Goals as goal
 
 pub fit-requires : goal.fit-requires

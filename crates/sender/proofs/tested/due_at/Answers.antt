@@ -1,7 +1,6 @@
 -- By the two cases of the timer.
 use mathlib.Core.Path.{sym, ap}
 use Rattle.sender.specs.Requests.{due_at}
-use borrow.Author.Rules.{rules}
 use Rattle.sender.proofs.tested.due_at.Goals as goal
 
 pub returns-in-Waiting : goal.returns-in-Waiting

@@ -1,7 +1,6 @@
 -- Each test is one of the definition's, in its order.
 use mathlib.Core.Path.{sym, ◌∙◌}
 use Rattle.sender.proofs.Validity.{test_history, test_queue, test_idle}
-use borrow.Author.Rules.{rules}
 use Rattle.sender.proofs.tested.is_valid.Goals as goal
 
 pub returns-then-state_ok-2 : goal.returns-then-state_ok-2

@@ -4,7 +4,6 @@ use lib.ListN.{length}
 use mathlib.Core.Path.{◌∙◌}
 use native.Mathlib.Omega.{arith}
 use Rattle.sender.proofs.Queued.{joined_none, joined_some}
-use borrow.Author.Rules.{rules}
 use Rattle.sender.proofs.tested.join.Goals as goal
 
 pub returns-then-words-eq0 : goal.returns-then-words-eq0

@@ -1,6 +1,5 @@
 -- Each answer has its own test; what is queued goes by the queue's answer.
 use Rattle.sender.proofs.Questions.{request_off, request_error, request_queued}
-use borrow.Author.Rules.{rules}
 use Rattle.sender.proofs.tested.on_retransmit_request.Goals as goal
 
 pub returns-then-written-k : goal.returns-then-written-k

@@ -1,7 +1,6 @@
 -- Case by case.
 use mathlib.Core.Path.{sym, ap}
 use Rattle.sender.specs.Requests.{outcome_of}
-use borrow.Author.Rules.{rules}
 use Rattle.sender.proofs.tested.outcome.Goals as goal
 
 pub returns-in-Ignored : goal.returns-in-Ignored

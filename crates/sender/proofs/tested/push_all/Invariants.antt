@@ -1,17 +1,12 @@
 -- From every command on, pushing those that are left gives what pushing all gives.
-use Rattle.fronts.proofs.Fronts.{whole_at, front_at}
-use Rattle.sender.proofs.Queued.{short_part, push_good, push_turn, push_length, push_end}
-use mathlib.Core.Path.{◌∙◌}
-use mathlib.Core.Path.{◌≡◌, refl}
-use Prim.Native.Nat.{◌+◌, ◌-◌, ◌≤◌, ◌<◌}
-use native.Mathlib.Omega.{arith}
-use borrow.Author.Rules.{rules}
+use mathlib.Core.Path.{◌≡◌}
+use Prim.Native.Nat.{◌-◌, ◌≤◌, ◌<◌}
 use lib.ListN.{length, drop}
 use Rattle.config.specs.Sequence.{turn}
 use Rattle.history.specs.State.{Good}
 use Rattle.fronts.specs.Commands.{commands_of}
 use Rattle.sender.specs.Queueing.{pushed_all}
-use Rattle.fronts.proofs.Fronts.{Divides, command_fits, command_rest}
+use Rattle.fronts.proofs.Fronts.{Divides}
 use Rattle.sender.proofs.tested.push_all.Given as goal
 
 abbrev pub invariant-loop-at : goal.invariant-loop-at

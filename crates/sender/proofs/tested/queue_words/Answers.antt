@@ -1,11 +1,9 @@
 -- The words that join and the further commands are those of the definition, and they are queued when they fit.
-use mathlib.Core.Path.{sym, ◌∙◌}
 use native.Mathlib.Omega.{arith}
-use lib.ListN.{length, length-take}
+use lib.ListN.{length-take}
 use Rattle.fronts.proofs.Fronts.{divides_at}
 use Rattle.sender.proofs.Validity.{valid_good, valid_words, valid_small}
 use Rattle.sender.proofs.Queued.{check_divides, split_divides, join_ready, join_good, placed_full, placed_queued}
-use borrow.Author.Rules.{rules}
 use Rattle.sender.proofs.tested.queue_words.Goals as goal
 
 pub front_words-split-requires : goal.front_words-split-requires

@@ -1,6 +1,5 @@
 -- The sizes of a state that has passed the test are allowed.
 use Rattle.sender.proofs.Validity.{valid_good, valid_fit}
-use borrow.Author.Rules.{rules}
 use Rattle.sender.proofs.tested.reset.Goals as goal
 
 pub start-requires : goal.start-requires

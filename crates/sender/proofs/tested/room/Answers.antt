@@ -1,6 +1,5 @@
 -- Nothing is unwritten, or the newest command has its length and takes what is left of the size.
 use Rattle.sender.proofs.Validity.{valid_last}
-use borrow.Author.Rules.{rules}
 use Rattle.sender.proofs.Queued.{room_none, room_full, room_some}
 use Rattle.sender.proofs.tested.room.Goals as goal
 

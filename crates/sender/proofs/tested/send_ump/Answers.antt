@@ -1,7 +1,6 @@
 -- No words, words that fail a test, and words that are queued.
 use mathlib.Core.Path.{sym, ◌∙◌}
 use Rattle.sender.proofs.Queued.{settings_few, sent_none, sent_refused, sent_placed}
-use borrow.Author.Rules.{rules}
 use Rattle.sender.proofs.tested.send_ump.Goals as goal
 
 pub returns-then-words-eq0 : goal.returns-then-words-eq0

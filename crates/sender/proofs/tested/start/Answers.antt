@@ -1,6 +1,5 @@
 -- The history is emptied and its words are zeroed.
 use Rattle.sender.proofs.Questions.{start_made}
-use borrow.Author.Rules.{rules}
 use Rattle.sender.proofs.tested.start.Goals as goal
 
 pub returns : goal.returns

@@ -1,5 +1,4 @@
 -- The answer of the test without its place.
-use Rattle.std.proofs.Common.{rules}
 use Rattle.history.proofs.history.SendHistory.state_ok.Goals as goal
 
 pub returns : goal.returns

@@ -1,5 +1,5 @@
 -- Each test is one of the definition's, in its order; the walk is what is left.
-use Rattle.std.proofs.Common.{sym, ◌∙◌, arith, rules}
+use Rattle.std.proofs.Common.{sym, ◌∙◌, arith}
 use Rattle.history.proofs.StateTest.{test_size, test_length, test_head, test_used, test_unsent, test_walk, answers_no}
 use Rattle.config.specs.inner.Ranges.{not_outside}
 use Rattle.history.proofs.history.SendHistory.state_walk.Goals as goal

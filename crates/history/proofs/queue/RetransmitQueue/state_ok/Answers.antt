@@ -1,5 +1,5 @@
 -- Each test is one of the definition's, in its order.
-use Rattle.std.proofs.Common.{sym, ◌∙◌, rules}
+use Rattle.std.proofs.Common.{sym, ◌∙◌}
 use Rattle.history.proofs.Queues.{queue_size, queue_head, queue_len}
 use Rattle.history.proofs.queue.RetransmitQueue.state_ok.Goals as goal
 

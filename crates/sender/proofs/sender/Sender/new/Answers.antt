@@ -1,7 +1,6 @@
 -- Each test is one of the definition's; a start that passes them zeroes the lent history.
 use mathlib.Core.Path.{sym, ◌∙◌}
 use Rattle.sender.proofs.Answers.{new_words, new_length, new_places, sizes_fit, new_done}
-use borrow.Author.Rules.{rules}
 use Rattle.sender.proofs.sender.Sender.new.Goals as goal
 
 pub returns-then-outside : goal.returns-then-outside

@@ -3,7 +3,6 @@ use mathlib.Core.Path.{sym, ◌∙◌}
 use Rattle.config.specs.inner.Entries.{state_refused, state_made}
 use Rattle.config.specs.declared.answer.Deadline.TheVariants.{Refused}
 use Rattle.sender.specs.Answers.{deadline_answer}
-use borrow.Author.Rules.{rules}
 use Rattle.sender.proofs.sender.Sender.next_deadline.Goals as goal
 
 pub returns-then-is_valid : goal.returns-then-is_valid

@@ -4,7 +4,6 @@ use Rattle.config.specs.inner.Entries.{state_refused, state_made}
 use Rattle.sender.specs.Answers.{next_answer}
 use Rattle.sender.specs.declared.sender.Next.TheVariants.{Number, Refused}
 use Rattle.sender.proofs.Validity.{valid_unsent}
-use borrow.Author.Rules.{rules}
 use Rattle.sender.proofs.sender.Sender.next_seq.Goals as goal
 
 pub next_seq-requires : goal.next_seq-requires

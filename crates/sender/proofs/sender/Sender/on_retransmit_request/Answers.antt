@@ -5,7 +5,6 @@ use Rattle.sender.specs.Requests.{requested_of}
 use Rattle.sender.specs.State.{valid_of}
 use Rattle.sender.specs.Answers.{request_answer, request_refused}
 use Rattle.sender.proofs.Validity.{valid_unsent, valid_fit}
-use borrow.Author.Rules.{rules}
 use Rattle.sender.proofs.sender.Sender.on_retransmit_request.Goals as goal
 
 pub on_retransmit_request-requires : goal.on_retransmit_request-requires

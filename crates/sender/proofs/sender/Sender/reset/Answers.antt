@@ -1,7 +1,6 @@
 -- The state is tested, and the rest is `tested::reset`.
 use mathlib.Core.Path.{sym, ◌∙◌}
 use Rattle.sender.proofs.Answers.{reset_refused_lem, reset_done}
-use borrow.Author.Rules.{rules}
 use Rattle.sender.proofs.sender.Sender.reset.Goals as goal
 
 pub reset-requires : goal.reset-requires

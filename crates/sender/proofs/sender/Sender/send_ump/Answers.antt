@@ -4,7 +4,6 @@ use Rattle.config.specs.inner.Entries.{settings_refused, entry_refused, entry_ma
 use Rattle.sender.specs.State.{valid_of}
 use Rattle.sender.specs.Queueing.{unsent, sent_of}
 use Rattle.sender.specs.Answers.{send_answer}
-use borrow.Author.Rules.{rules}
 use Rattle.sender.proofs.sender.Sender.send_ump.Goals as goal
 
 pub send_ump-requires : goal.send_ump-requires

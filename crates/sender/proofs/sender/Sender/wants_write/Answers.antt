@@ -3,7 +3,6 @@ use mathlib.Core.Path.{sym, ap, ◌∙◌}
 use Rattle.config.specs.inner.Entries.{state_refused, state_made}
 use Rattle.config.specs.declared.answer.Answered.TheVariants.{Is, Refused}
 use Rattle.sender.specs.Answers.{wants_answer}
-use borrow.Author.Rules.{rules}
 use Rattle.sender.proofs.sender.Sender.wants_write.Goals as goal
 
 pub returns-then-is_valid : goal.returns-then-is_valid
