@@ -10,6 +10,8 @@ ghost use Rattle.std.specs.Prelude.{◌≡◌, ◌+◌, ◌*◌};
 mod out;
 
 use out::Out;
+use std::io;
+use text::blocks;
 use window::window::{Acceptance, Class, ReceiveWindow, SeqRange, Span, Started};
 
 // What is left after a block of input.
@@ -50,19 +52,26 @@ fn figure(to: Out, buf: &mut [u8], n: u16) -> Out {
 }
 
 // The loss, and the end of the line.
-fn loss(to: Out, buf: &mut [u8], lost: SeqRange) -> Out {
+fn loss(rt: &impl Print, to: Out, buf: &mut [u8], lost: SeqRange) -> io::Result<Out> {
     let counted = figure(to, buf, lost.count);
     let placed = counted.decimal(buf, lost.first);
     let ended = placed.byte(buf, b'\n');
-    ended.room(buf)
+    ended.room(rt, buf)
 }
 
-fn line(to: Out, buf: &mut [u8], seq: u16, class: Class, lost: Span) -> Out {
+fn line(
+    rt: &impl Print,
+    to: Out,
+    buf: &mut [u8],
+    seq: u16,
+    class: Class,
+    lost: Span,
+) -> io::Result<Out> {
     let numbered = figure(to, buf, seq);
     let named = numbered.byte(buf, letter(class));
     let spaced = named.byte(buf, b' ');
     let gapped = figure(spaced, buf, gap(class));
-    loss(gapped, buf, range(lost))
+    loss(rt, gapped, buf, range(lost))
 }
 
 #[derive(Clone, Copy)]
@@ -72,19 +81,25 @@ struct Step {
 }
 
 // One number arrives.
-fn arrive(window: ReceiveWindow, to: Out, buf: &mut [u8], seq: u16) -> Step {
+fn arrive(
+    rt: &impl Print,
+    window: ReceiveWindow,
+    to: Out,
+    buf: &mut [u8],
+    seq: u16,
+) -> io::Result<Step> {
     let accepted = window.accept(seq);
     let next = accepted.window;
     let answer = accepted.answer;
     match answer {
-        Acceptance::Heard { class, lost } => Step {
+        Acceptance::Heard { class, lost } => Ok(Step {
             window: next,
-            out: line(to, buf, seq, class, lost),
-        },
-        Acceptance::Refused(_) => Step {
+            out: line(rt, to, buf, seq, class, lost)?,
+        }),
+        Acceptance::Refused(_) => Ok(Step {
             window: next,
             out: to,
-        },
+        }),
     }
 }
 
@@ -96,59 +111,75 @@ fn number(high: u8, low: u8) -> u16
 }
 
 // The numbers of a block, each printed.
-fn block(first: ReceiveWindow, input: &[u8], buf: &mut [u8]) -> ReceiveWindow {
+fn block(
+    rt: &impl Print,
+    first: ReceiveWindow,
+    input: &[u8],
+    buf: &mut [u8],
+) -> io::Result<ReceiveWindow> {
     let mut window = first;
     let mut to = Out { used: 0 };
     let mut i = 0;
     while i < input.len() / 2 {
-        let step = arrive(window, to, buf, number(input[2 * i], input[2 * i + 1]));
+        let step = arrive(rt, window, to, buf, number(input[2 * i], input[2 * i + 1]))?;
         window = step.window;
         to = step.out;
         i += 1;
     }
-    to.flush(buf);
-    window
+    to.flush(rt, buf)?;
+    Ok(window)
 }
 
 // Reads a block of input, and prints its lines.
-fn turn(window: ReceiveWindow, input: &mut [u8], buf: &mut [u8]) -> Left {
-    let n = io::read_full(0, input);
+fn turn(
+    rt: &(impl Print + Input),
+    window: ReceiveWindow,
+    input: &mut [u8],
+    buf: &mut [u8],
+) -> io::Result<Left> {
+    let n = blocks::full(rt, input)?;
     let full = n == input.len();
-    let next = block(window, &input[..n], buf);
+    let next = block(rt, window, &input[..n], buf)?;
     if n % 2 == 1 {
-        io::write_all(1, b"cut\n");
-        return Left {
+        rt.write_all(b"cut\n")?;
+        return Ok(Left {
             window: next,
             more: false,
-        };
+        });
     }
-    Left {
+    Ok(Left {
         window: next,
         more: full,
-    }
+    })
 }
 
 // A proved loop has to end, and nothing says that the input does: it counts down from a number that
 // no run uses up.
-fn all(first: ReceiveWindow, input: &mut [u8], buf: &mut [u8]) {
+fn all(
+    rt: &(impl Print + Input),
+    first: ReceiveWindow,
+    input: &mut [u8],
+    buf: &mut [u8],
+) -> io::Result<()> {
     let mut window = first;
     let mut turns = u64::MAX;
     while 0 < turns {
-        let left = turn(window, input, buf);
+        let left = turn(rt, window, input, buf)?;
         window = left.window;
         turns -= 1;
         if !left.more {
-            return;
+            return Ok(());
         }
     }
+    Ok(())
 }
 
 // Reads all of standard input.
-pub fn run() {
-    let mut input = io::large_buffer();
-    let mut buf = io::large_buffer();
+pub fn run(rt: &(impl Print + Input)) -> io::Result<()> {
+    let mut input = [0u8; blocks::SIZE];
+    let mut buf = [0u8; blocks::SIZE];
     match ReceiveWindow::new(64) {
-        Started::Window(window) => all(window, &mut input, &mut buf),
-        Started::Refused(_) => {}
+        Started::Window(window) => all(rt, window, &mut input, &mut buf),
+        Started::Refused(_) => Ok(()),
     }
 }

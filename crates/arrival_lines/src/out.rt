@@ -2,6 +2,8 @@
 //
 //   0            used              buffer's end
 //   | lines ..    |  free           |
+use std::io;
+
 #[derive(Clone, Copy)]
 pub struct Out {
     // Bytes that wait to be written.
@@ -40,23 +42,23 @@ impl Out {
     }
 
     // Writes what waits where fewer than 64 bytes are free: a line has at most 26.
-    pub fn room(self, buf: &mut [u8]) -> Out {
+    pub fn room(self, rt: &impl Print, buf: &mut [u8]) -> io::Result<Out> {
         let at = self.used;
         if buf.len() < 64 {
-            return self;
+            return Ok(self);
         }
         if buf.len() - 64 < at {
-            return self.flush(buf);
+            return self.flush(rt, buf);
         }
-        self
+        Ok(self)
     }
 
-    pub fn flush(self, buf: &mut [u8]) -> Out {
+    pub fn flush(self, rt: &impl Print, buf: &mut [u8]) -> io::Result<Out> {
         let n = self.used;
         if n <= buf.len() {
-            io::write_all(1, &buf[..n]);
+            rt.write_all(&buf[..n])?;
         }
-        Out { used: 0 }
+        Ok(Out { used: 0 })
     }
 }
 

@@ -1,6 +1,8 @@
 // Prints what a receive window of 64 makes of the numbers on standard input (crate `arrival_lines`).
 #![tactic(auto)]
 
-fn main() {
-    arrival_lines::run();
+use std::io;
+
+fn main(rt: HostRuntime) -> io::Result<()> {
+    arrival_lines::run(&rt)
 }

@@ -2,6 +2,8 @@
 // tools/arrivals_model.py makes the input and the expected output.
 #![tactic(auto)]
 
-fn main() {
-    arrival_lines::run();
+use std::io;
+
+fn main(rt: HostRuntime) -> io::Result<()> {
+    arrival_lines::run(&rt)
 }

@@ -8,41 +8,42 @@
 #![tactic(auto)]
 
 use load::load::{Jump, Load};
+use std::io;
 use text::lines::Input;
-use text::{fields, lines, out};
+use text::{blocks, fields, lines, out};
 
 // A figure, and the byte after it.
-fn figure(to: &mut [u8], used: usize, n: u64, then: u8) -> usize {
-    let o = out::decimal(to, used, n);
-    out::byte(to, o, then)
+fn figure(rt: &impl Print, to: &mut [u8], used: usize, n: u64, then: u8) -> io::Result<usize> {
+    let o = out::decimal(rt, to, used, n)?;
+    out::byte(rt, to, o, then)
 }
 
-fn jumped(to: &mut [u8], used: usize, jump: Jump) -> usize {
+fn jumped(rt: &impl Print, to: &mut [u8], used: usize, jump: Jump) -> io::Result<usize> {
     let load = jump.load;
     let asked = load.words();
-    let o = out::hex(to, used, load.last as u64, out::WORD);
-    let o = out::byte(to, o, b' ');
-    let o = figure(to, o, asked.count as u64, b' ');
-    figure(to, o, jump.rounds as u64, b'\n')
+    let o = out::hex(rt, to, used, load.last as u64, out::WORD)?;
+    let o = out::byte(rt, to, o, b' ')?;
+    let o = figure(rt, to, o, asked.count as u64, b' ')?;
+    figure(rt, to, o, jump.rounds as u64, b'\n')
 }
 
-fn bad(to: &mut [u8], used: usize) -> usize {
-    let o = out::byte(to, used, b'b');
-    let o = out::byte(to, o, b'a');
-    let o = out::byte(to, o, b'd');
-    out::byte(to, o, b'\n')
+fn bad(rt: &impl Print, to: &mut [u8], used: usize) -> io::Result<usize> {
+    let o = out::byte(rt, to, used, b'b')?;
+    let o = out::byte(rt, to, o, b'a')?;
+    let o = out::byte(rt, to, o, b'd')?;
+    out::byte(rt, to, o, b'\n')
 }
 
 // The answer to a line. A blank stands before it, so that each of its fields follows one.
-fn answered(to: &mut [u8], used: usize, line: &[u8]) -> usize {
+fn answered(rt: &impl Print, to: &mut [u8], used: usize, line: &[u8]) -> io::Result<usize> {
     if line.len() == 0 {
-        return used;
+        return Ok(used);
     }
     if lines::skipped(&line[1..]) {
-        return used;
+        return Ok(used);
     }
     if lines::LIMIT < line.len() - 1 {
-        return bad(to, used);
+        return bad(rt, to, used);
     }
     let seed = fields::figure(line, 0, 0xFFFF_FFFF);
     let n = fields::figure(line, seed.next, 0xFFFF);
@@ -50,44 +51,55 @@ fn answered(to: &mut [u8], used: usize, line: &[u8]) -> usize {
         let load = Load {
             last: seed.n as u32,
         };
-        return jumped(to, used, load.jump(n.n as u16));
+        return jumped(rt, to, used, load.jump(n.n as u16));
     }
-    bad(to, used)
+    bad(rt, to, used)
 }
 
 // The answer to the line of `n` bytes behind the blank; none where fewer are there.
-fn whole(to: &mut [u8], used: usize, line: &[u8], n: usize) -> usize {
+fn whole(rt: &impl Print, to: &mut [u8], used: usize, line: &[u8], n: usize) -> io::Result<usize> {
     if line.len() <= n {
-        return used;
+        return Ok(used);
     }
     let m = lines::lent(line, n + 1);
-    answered(to, used, &line[..m])
+    answered(rt, to, used, &line[..m])
 }
 
 // Gathers the next line after the blank.
-fn next(from: Input, input: &mut [u8], line: &mut [u8], to: &[u8]) -> Input {
+fn next(
+    rt: &(impl Print + io::Input),
+    from: Input,
+    input: &mut [u8],
+    line: &mut [u8],
+    to: &[u8],
+) -> io::Result<Input> {
     if line.len() == 0 {
-        return from;
+        return Ok(from);
     }
-    lines::next(from, from.waits, input, &mut line[1..], to)
+    lines::next(rt, from, from.waits, input, &mut line[1..], to)
 }
 
 // Line after line. A proved loop has to end, and nothing says that the input does: it counts down from a
 // number that no run uses up.
-fn all(input: &mut [u8], line: &mut [u8], to: &mut [u8]) {
+fn all(
+    rt: &(impl Print + io::Input),
+    input: &mut [u8],
+    line: &mut [u8],
+    to: &mut [u8],
+) -> io::Result<()> {
     let mut from = Input::new();
     let mut turns = u64::MAX;
     while 0 < turns {
-        from = next(from, input, line, &to[..]);
-        from.waits = whole(to, from.waits, &line[..], from.line);
+        from = next(rt, from, input, line, &to[..])?;
+        from.waits = whole(rt, to, from.waits, &line[..], from.line)?;
         turns = lines::to_go(turns, from.more);
     }
-    out::flush(&to[..], from.waits);
+    out::flush(rt, &to[..], from.waits)
 }
 
-fn main() {
-    let mut input = io::large_buffer();
-    let mut to = io::large_buffer();
+fn main(rt: HostRuntime) -> io::Result<()> {
+    let mut input = [0u8; blocks::SIZE];
+    let mut to = [0u8; blocks::SIZE];
     let mut line = [b' '; 4099];
-    all(&mut input, &mut line, &mut to);
+    all(&rt, &mut input, &mut line, &mut to)
 }
