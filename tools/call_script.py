@@ -168,7 +168,7 @@ def report(name, number, line):
 def sources():
     """What the program rests on: the files and folders of its crates."""
     path = os.path.join(here, "crates.txt")
-    uses = dict(line.split(":") for line in open(path) if ":" in line and not line.startswith("#"))
+    uses = {line.split()[0].rstrip(":"): line.split(":")[1] for line in open(path) if ":" in line and not line.startswith("#")}
     yield path
     todo, seen = ["replay"], set()
     while todo:
@@ -190,9 +190,9 @@ def prove():
     """Proves and builds the program, and says each crate as it is proved."""
     if not shutil.which("rt"):
         raise Trouble("target/bin/replay has to be built, and rt, of the Rattle kit, is not on the PATH")
-    say("rt check replay: about eight minutes where nothing is proved yet")
+    say("tools/program replay: about eight minutes where nothing is proved yet")
     began, said = time.time(), []
-    with subprocess.Popen(["rt", "check", "replay"], cwd=here, stdout=subprocess.PIPE, stderr=subprocess.STDOUT, text=True) as check:
+    with subprocess.Popen(["tools/program", "replay"], cwd=here, stdout=subprocess.PIPE, stderr=subprocess.STDOUT, text=True) as check:
         for line in check.stdout:
             if line.startswith("rt:"):
                 print(line, end="", file=sys.stderr, flush=True)
@@ -200,7 +200,7 @@ def prove():
                 said.append(line)
     if check.returncode:
         print("".join(said[-20:]), end="", file=sys.stderr)
-        raise Trouble("rt check replay ended with status %d" % check.returncode)
+        raise Trouble("tools/program replay ended with status %d" % check.returncode)
     os.utime(program, (began, began))
 
 

@@ -2,7 +2,7 @@
 """Runs call lists (crates/script's front page) on `replay` and on the Rust, and compares every answer, and state and payload
 bytes after every call.
 
-    rt check replay && ZMIDI_NET_SOURCE=FOLDER tools/compare.py [--calls N] [--seed S] [--random] [--keep FOLDER]
+    tools/program replay && ZMIDI_NET_SOURCE=FOLDER tools/compare.py [--calls N] [--seed S] [--random] [--keep FOLDER]
 
 ZMIDI_NET_SOURCE has the Rust's packet.rs, command.rs and stream.rs. Needs python3, and what tools/oracle/build needs.
 

@@ -1,7 +1,7 @@
 #!/usr/bin/env python3
 """Compares `arrivals` with the Rust on random numbers near the highest, over many turns.
 
-    rt check arrivals && ZMIDI_NET_SOURCE=FOLDER tools/compare_arrivals.py [COUNT] [SEED]
+    tools/program arrivals && ZMIDI_NET_SOURCE=FOLDER tools/compare_arrivals.py [COUNT] [SEED]
 
 ZMIDI_NET_SOURCE has the Rust's packet.rs, command.rs and stream.rs.
 Prints how many numbers were compared, by class, or the first that differs."""

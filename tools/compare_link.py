@@ -2,7 +2,7 @@
 """Compares runs on the pretend link: program `link_trial`, the Rust's streams (tools/oracle, `link`) and a model that is
 independent of both (tools/link_model.py), on the same drawn settings.
 
-    rt check link_trial && ZMIDI_NET_SOURCE=FOLDER tools/compare_link.py [COUNT] [SEED]
+    tools/program link_trial && ZMIDI_NET_SOURCE=FOLDER tools/compare_link.py [COUNT] [SEED]
 
 COUNT runs (1,000) of up to 65,536 steps, a run for each of the sizes that the Rust is compiled with, refusals at every bound, and
 lines that are none. ZMIDI_NET_SOURCE has the Rust's packet.rs, command.rs and stream.rs. Prints what was compared

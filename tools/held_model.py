@@ -1,7 +1,7 @@
 #!/usr/bin/env python3
 """Compares program `held` with a model of 02's 4/14 that keeps the whole past and works each answer afresh.
 
-    rt check held && tools/held_model.py [COUNT] [SEED]
+    tools/program held && tools/held_model.py [COUNT] [SEED]
     tools/held_model.py answers < crates/held/stdin
 
 COUNT lines (20,000): lists of up to 200 drawn calls over some groups, and by turns performances, whose commands arrive late,

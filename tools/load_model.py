@@ -1,7 +1,7 @@
 #!/usr/bin/env python3
 """Compares program `draws` with a model of 02's 1/14: single draws, one after the other.
 
-    rt check draws && tools/load_model.py [COUNT] [SEED]
+    tools/program draws && tools/load_model.py [COUNT] [SEED]
 
 COUNT drawn pairs of a seed and a count (10,000), every pair of the ends of both ranges, and each of the first
 65,536 values of the seeds 0 and 1. Of these two seeds and of the first hundred drawn ones each value is drawn by

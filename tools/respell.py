@@ -26,6 +26,16 @@ STANDING = {
     "written_count": {"sender_log"},
     "top_in": {"window"},
 }
+# Fields of records and constructors that would meet a definition's name: a field may have it, a constructor gets another.
+CHOSEN = {
+    "in-turn": "in_turn",
+    "is-on": "is_on",
+    "nothing-missing": "nothing_missing",
+    "of-sender": "of_sender",
+    "unsent-words": "unsent_words",
+    "not-due": "none_due",
+    "put-into": "put_in",
+}
 LIBRARY = r"(?:Rattle\.std|Rattle\.core|lib|borrow|native|mathlib|Prim|denote|seplogic|types|prog|mir|contract|base|sound)\b"
 MADE = re.compile(r"(invariant|decreases)-|.*[-_]spec$")
 
@@ -98,6 +108,7 @@ def main():
         (old,) = olds
         if new in own and old not in defined:
             table[old] = new + "_lem"
+    table.update((old, new) for old, new in CHOSEN.items() if old in table)
     bad = []
     changed = {}
 

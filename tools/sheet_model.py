@@ -1,7 +1,7 @@
 #!/usr/bin/env python3
 """Compares programs `sheet` and `columns` with a model that works every figure afresh, over drawn files.
 
-    rt check sheet columns && tools/sheet_model.py [RECORDS] [SEED]
+    tools/program sheet columns && tools/sheet_model.py [RECORDS] [SEED]
 
 A file of RECORDS drawn records (10,000, at least 5,000) with n 1, 2, 3, 64, 1,000 and 4,096; files that are refused (a class above 2, a zero byte
 that is not zero, a cut record, an n that is none); columns of drawn files, and their inverse. Prints how many records were compared, or

@@ -1,7 +1,7 @@
 #!/usr/bin/env python3
 """Compares program `uplink_grants` with a model of 02's 11/14, written from the paper.
 
-    rt check uplink_grants && tools/uplink_model.py [COUNT] [SEED]
+    tools/program uplink_grants && tools/uplink_model.py [COUNT] [SEED]
 
 COUNT drawn steps (100,000): 1 to 8 divisions and every turn, A and wants of every size up to 65,535, steps that follow each
 other by the turn that was answered, and one in sixteen refused. Each answer is also held to what is promised of it. Prints

@@ -2,7 +2,7 @@
 """Holds what sirmjold.lua shows of a payload against what the library reads: `read` of the call script, over drawn payloads, whole,
 cut and damaged. The test's payloads come first.
 
-    rt check replay && tools/wireshark/compare.py [--payloads N] [--seed N]
+    tools/program replay && tools/wireshark/compare.py [--payloads N] [--seed N]
 
 The capture file is written here, frame by frame; `tools/wireshark/test` has frames that were sent. Each frame is put back into the text
 that `read` answers, from the fields and marks that tshark gives. Exits with 1 at the first difference."""
@@ -139,7 +139,7 @@ def main():
     parser.add_argument("--seed", type=int, default=1)
     a = parser.parse_args()
     if not os.path.exists(REPLAY):
-        sys.exit("no program: rt check replay makes it")
+        sys.exit("no program: tools/program replay makes it")
     rng = random.Random(a.seed)
     known = [b for _, b in p.ALL + p.ANSWERS if len(b) <= MOST_BYTES]
     all_payloads = known + [drawn(rng) for _ in range(a.payloads)]

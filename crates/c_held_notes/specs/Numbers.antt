@@ -1,5 +1,5 @@
 -- The stream's answers by the numbers that include/sirmjold.h has for them, and what is given as numbers.
-use Rattle.std.specs.Prelude.{ℕ, Bool, cond, ◌||◌, eqb}
+use Rattle.std.specs.Prelude.{ℕ, cond, ◌||◌, eqb}
 use Rattle.config.specs.Refusals.{outcome_number}
 use Rattle.config.specs.declared.refusal.Refusal.TheVariants.{InvalidState}
 use Rattle.window.specs.declared.window.Class.{Class}

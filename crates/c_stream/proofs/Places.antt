@@ -60,20 +60,20 @@ module _ (st : List ℕ) (wide : Wide st) where
 
   -- ---- the sender's calls
   module _ (s : Sender) (from : s ≡ sender_in st) where
-    of_sender_lem : (P : Sender → Type 0) → P (sender_in st) → P s
-    of_sender_lem P h = subst P (sym from) h
+    of_sender : (P : Sender → Type 0) → P (sender_in st) → P s
+    of_sender P h = subst P (sym from) h
 
     pub send_narrow : (cfg : StreamConfig) (ring ws : List ℕ) (e : Sent) (after : List ℕ) → (e, after) ≡ sender.send_answer s cfg ring ws → NarrowSender e.sender
     unfolding send_answer loaded
     send_narrow cfg ring ws e after q =
         subst (λ (x : Sent × List ℕ). NarrowSender x.0.sender) (sym q)
-        (of_sender_lem (λ (x : Sender). NarrowSender (sender.send_answer x cfg ring ws).0.sender) (stays.send cfg ring ws).1)
+        (of_sender (λ (x : Sender). NarrowSender (sender.send_answer x cfg ring ws).0.sender) (stays.send cfg ring ws).1)
 
     pub request_narrow : (cfg : StreamConfig) (ring : List ℕ) (a : RetransmitRequest) (e : RequestHeard) → e ≡ sender.request_answer s cfg ring a → NarrowSender e.sender
     unfolding request_answer loaded
     request_narrow cfg ring a e q =
         subst (λ (x : RequestHeard). NarrowSender x.sender) (sym q)
-        (of_sender_lem (λ (x : Sender). NarrowSender (sender.request_answer x cfg ring a).sender) (stays.request cfg ring a).1)
+        (of_sender (λ (x : Sender). NarrowSender (sender.request_answer x cfg ring a).sender) (stays.request cfg ring a).1)
 
   -- ---- calls of both ends
   module _ (d : DataStream) (from : d ≡ loaded st) where

@@ -1,6 +1,6 @@
 -- The written payload j holds the commands of the positions from j - R to j.
 use Prim.Native.Nat.{ℕ, zero, suc, ◌+◌, ◌-◌, ◌%◌, ◌≤◌, ◌<◌, min}
-use mathlib.Core.Path.{◌≡◌, refl, ap, sym, ◌∙◌}
+use mathlib.Core.Path.{◌≡◌, refl, ap, sym, subst, ◌∙◌}
 use mathlib.Core.Logic.{◌⊎◌, inl, inr}
 use mathlib.Core.Bool.{true, false, cond}
 use mathlib.Core.List.{List, [], ◌∷◌, ◌++◌}
@@ -100,16 +100,17 @@ module _ (R : ℕ) (few : R ≤ reach + 1) where
       let l = length-append names (k ∷ []) in
       record {
         count = rw after (omega (arith, h.count));
-        holds = λ j b. rw (after, on_tagged (get_or (names ++ (k ∷ [])) j 0) k i cs w) (elim (split (eqb j n)) [
-          | inl q ↦
-              let at_n : j ≡ n = omega (arith, tests) in
-              let name : get_or (names ++ (k ∷ [])) j 0 ≡ k = get_or_at names k [] 0 j (omega (arith, h.count)) in
-              rw (name, same_payload k, none, e, at_n) (sym (commands_one R C ws))
-          | inr q ↦
-              let m : j < length names = omega (arith, tests, h.count) in
-              let name : get_or (names ++ (k ∷ [])) j 0 ≡ get_or names j 0 = get_or-append names (k ∷ []) 0 j m in
-              rw (name, another names w k none h j m, commands_more C (ws ∷ []) (suc (min R j)) (j - R) (omega (arith, h.count))) (h.holds j m)
-        ]);
+        holds = λ j b. subst (λ (D : List (List ℕ)). on (get_or (names ++ (k ∷ [])) j 0) (tagged k i cs w) ≡ commands_from D (j - R) (suc (min R j))) (sym after)
+            (rw (on_tagged (get_or (names ++ (k ∷ [])) j 0) k i cs w) (elim (split (eqb j n)) [
+              | inl q ↦
+                  let at_n : j ≡ n = omega (arith, tests) in
+                  let name : get_or (names ++ (k ∷ [])) j 0 ≡ k = get_or_at names k [] 0 j (omega (arith, h.count)) in
+                  rw (name, same_payload k, none, e, at_n) (sym (commands_one R C ws))
+              | inr q ↦
+                  let m : j < length names = omega (arith, tests, h.count) in
+                  let name : get_or (names ++ (k ∷ [])) j 0 ≡ get_or names j 0 = get_or-append names (k ∷ []) 0 j m in
+                  rw (name, another names w k none h j m, commands_more C (ws ∷ []) (suc (min R j)) (j - R) (omega (arith, h.count))) (h.holds j m)
+            ]));
       }
 
   each : (t : List Entry) → Brings R t → Indexed (written t) → Each R (written_payloads t) (written t)

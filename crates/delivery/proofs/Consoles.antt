@@ -30,7 +30,7 @@ use Rattle.sender_log.specs.Calls.{TypedConfig}
 use Rattle.sender_log.proofs.Follows.{Follows, start_follows, send_follows, request_follows, write_follows}
 use Rattle.config.specs.inner.Choices.{by_cond, by_check}
 use Rattle.delivery.specs.Commands.{Command, data_in}
-use Rattle.delivery.specs.Console.{Lent, Call, open_payload, lend_again, queue_words, retransmit_request, write_into, put_into_lem, write_astray, Entry, queued, noted, Console, Step, noting, payload_at, open_step, lent_again, put_step, put_into, write_step, step_of, log_from, fresh_console, Allowed, AllAllowed, accepted, added, held, written, commands, Was, was}
+use Rattle.delivery.specs.Console.{Lent, Call, open_payload, lend_again, queue_words, retransmit_request, write_into, put_in, write_astray, Entry, queued, noted, Console, Step, noting, payload_at, open_step, lent_again, put_step, put_into, write_step, step_of, log_from, fresh_console, Allowed, AllAllowed, accepted, added, held, written, commands, Was, was}
 use Rattle.delivery.proofs.Payloads.{Holds}
 use Rattle.delivery.proofs.Books.{Agrees, nothing_agrees, sent_agrees, requested_agrees}
 use Rattle.delivery.proofs.Writing.{write_grown}
@@ -161,7 +161,7 @@ module _ (c q : ℕ) where
   step_good d t i (retransmit_request cfg r) a = request_good d t i cfg r
   step_good d t i (write_into k cfg time) a =
       by_cond (StepGood t) (ltb k (length d.payloads)) _ _ (λ e. write_good d t i k cfg time a (omega (arith, tests))) (λ e. noted_good d t i)
-  step_good d t i (put_into_lem k call) a = touch_good d t i k (put_into call) (λ v cs. reads_put call v cs a.0 a.1)
+  step_good d t i (put_in k call) a = touch_good d t i k (put_into call) (λ v cs. reads_put call v cs a.0 a.1)
   step_good d t i (write_astray p b cfg time) a =
       let e = astray_keeps d.sender cfg time p b d.ring a in rw (e.0, e.1) (noted_good d t i)
 

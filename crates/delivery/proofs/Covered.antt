@@ -29,7 +29,7 @@ use Rattle.receiver_log.specs.Calls as Chamber
 use Rattle.receiver_log.specs.Log.{origin, Missing}
 use Rattle.sender_log.proofs.Covered.{every_size}
 use Rattle.delivery.specs.Commands.{Command, is_data, data_of}
-use Rattle.delivery.specs.Console.{Lent, bytes, Call, open_payload, lend_again, queue_words, retransmit_request, write_into, put_into_lem, write_astray, Entry, Console, step_of, log_from, fresh_console, Allowed, AllAllowed, accepted, held, written, positions, position_of, Was}
+use Rattle.delivery.specs.Console.{Lent, bytes, Call, open_payload, lend_again, queue_words, retransmit_request, write_into, put_in, write_astray, Entry, Console, step_of, log_from, fresh_console, Allowed, AllAllowed, accepted, held, written, positions, position_of, Was}
 use Rattle.delivery.specs.Chamber.{handed_on, handed_by_position, AllHanded}
 use Rattle.delivery.specs.Performance.{SamePerformance}
 use Rattle.delivery.specs.Sentence.{Line, hear, pass, highest, NoLoss, Run, sent_log, heard_log, heard_in, Holds, Contract, HandedWords}
@@ -44,7 +44,7 @@ use Rattle.delivery.specs.Take.{TakenBy, Takes}
 abbrev Apart : Call → Type 0
 Apart (open_payload limit buffer) = Unit {0}
 Apart (lend_again k rest) = Unit {0}
-Apart (put_into_lem k call) = Unit {0}
+Apart (put_in k call) = Unit {0}
 Apart (write_astray p b cfg time) = Unit {0}
 Apart (queue_words cfg ws) = ⊥
 Apart (retransmit_request cfg r) = ⊥
@@ -53,7 +53,7 @@ Apart (write_into k cfg time) = ⊥
 -- of a console: R and K up to 255, a buffer lent again, a write refused for its payload's state
 pub every_call : (limit k : ℕ) (buffer ws : List ℕ) (cfg : StreamConfig) (r : RetransmitRequest) (time : ℕ) (call : Writes.Call) (p : PayloadWriter)
     → Words32 ws → cfg.fec_repeats < 256 → cfg.idle_further < 256 → Writes.Typed call → is_data (Writes.command_of call) ≡ false → payload_valid p (length buffer) ≡ false
-    → AllAllowed (open_payload limit buffer ∷ lend_again k buffer ∷ queue_words cfg ws ∷ retransmit_request cfg r ∷ write_into k cfg time ∷ put_into_lem k call ∷ write_astray p buffer cfg time ∷ [])
+    → AllAllowed (open_payload limit buffer ∷ lend_again k buffer ∷ queue_words cfg ws ∷ retransmit_request cfg r ∷ write_into k cfg time ∷ put_in k call ∷ write_astray p buffer cfg time ∷ [])
 every_call limit k buffer ws cfg r time call p w f g t d e = (tt, (tt, (w, (tt, ((f, g), ((t, d), (λ passed. e, tt)))))))
 
 -- or for its settings
@@ -117,7 +117,7 @@ pub every_holding : Contract → (u : Run) (ps : List ℕ) → Line (sent_log u)
     → NoLoss (heard_in u) → ((x : ℕ) → Missing u.window (heard_in u) x → ⊥)
     → handed_on (heard_in u) ≡ accepted (sent_log u)
 every_holding c u ps line all newest none nothing =
-    c.first.joined u (ps, record { line = line; all_written = all; newest_heard = newest; no_loss = none; nothing_missing_lem = nothing })
+    c.first.joined u (ps, record { line = line; all_written = all; newest_heard = newest; no_loss = none; nothing_missing = nothing })
 
 -- performances are compared between any two such runs, whatever their windows, histories and settings
 pub every_pair : Contract → (u v : Run) → Holds u → Holds v → SamePerformance (sent_log u) (sent_log v) ↔ (handed_by_position (heard_in u) ≡ handed_by_position (heard_in v))
@@ -157,7 +157,7 @@ every_between q cfg time seq ws why e told asked denied p r b d a = refl
 pub every_pace : (R s n : ℕ) (d : Console) (calls : List Call) (call : Call) → Apart call → Paced R s (step_of d call).console n calls → Paced R s d n (call ∷ calls)
 every_pace R s n d calls (open_payload limit buffer) x h = h
 every_pace R s n d calls (lend_again k rest) x h = h
-every_pace R s n d calls (put_into_lem k call) x h = h
+every_pace R s n d calls (put_in k call) x h = h
 every_pace R s n d calls (write_astray p b cfg time) x h = h
 every_pace R s n d calls (queue_words cfg ws) x h = absurd x
 every_pace R s n d calls (retransmit_request cfg r) x h = absurd x

@@ -236,7 +236,7 @@ by_position u h =
     let n : ℕ = length (positions (sent_log u)) in
     let top : high (heard_in u) ≡ origin - 1 + n = r.top ∙ highest_reached n h.0 h.1.newest_heard r.below in
     let each : (p : ℕ) → p < n → times (heard_in u) (origin + p) ≡ 1 =
-    λ p l. once_each u.window (heard_in u) (promise u) (no_loss_lost (heard_in u) h.1.no_loss) h.1.nothing_missing_lem (origin + p) (omega arith) (omega arith) in
+    λ p l. once_each u.window (heard_in u) (promise u) (no_loss_lost (heard_in u) h.1.no_loss) h.1.nothing_missing (origin + p) (omega arith) (omega arith) in
     record {
       top = top;
       once = each;

@@ -65,7 +65,7 @@ use Rattle.receiver_log.specs.Promise.{log_of}
 use Rattle.receiver_log.proofs.Runs.{run_said}
 use Rattle.delivery.specs.Commands.{Command, data_in, wholes_in, data_of}
 use Rattle.delivery.specs.Positions.{opens, position, newest_with}
-use Rattle.delivery.specs.Console.{Lent, bytes, Call, open_payload, lend_again, queue_words, retransmit_request, write_into, put_into_lem, write_astray, Entry, queued, wrote, stood, noted, step_of, log_from, fresh_console, AllAllowed, accepted, written, positions, position_of, Was, was_wrote, was}
+use Rattle.delivery.specs.Console.{Lent, bytes, Call, open_payload, lend_again, queue_words, retransmit_request, write_into, put_in, write_astray, Entry, queued, wrote, stood, noted, step_of, log_from, fresh_console, AllAllowed, accepted, written, positions, position_of, Was, was_wrote, was}
 use Rattle.delivery.specs.Sentence.{Line, fresh, hear, pass, Premises, Run, heard_in, Holds}
 use Rattle.delivery.specs.Chamber.{handed_on}
 use Rattle.delivery.proofs.Delivery.{sentence}
@@ -121,7 +121,7 @@ early =
 
 -- payload 3, as it is sent first
 abbrev fourth : List Call
-fourth = open_payload 1400 (zeros 40) ∷ put_into_lem 3 (Writes.request asks5) ∷ queue_words (settings 2) D ∷ write_into 3 (settings 2) 30 ∷ []
+fourth = open_payload 1400 (zeros 40) ∷ put_in 3 (Writes.request asks5) ∷ queue_words (settings 2) D ∷ write_into 3 (settings 2) 30 ∷ []
 
 abbrev turned_away : List Call
 turned_away = queue_words (settings 0) half_message ∷ write_into 3 bad_settings 31 ∷ write_astray bad_payload (zeros 12) (settings 0) 32 ∷ []
@@ -316,7 +316,7 @@ premises = record {
   all_written = rw positions_are;
   newest_heard = rw positions_are (λ some. Memᴰ.tail (Memᴰ.head refl));
   no_loss = (refl, (refl, (refl, (refl, (refl, (refl, (refl, (refl, (refl, (refl, tt))))))))));
-  nothing_missing_lem = none_missing_lem;
+  nothing_missing = none_missing_lem;
 }
 
 -- ---- arguments

@@ -21,7 +21,7 @@ use Rattle.sender_log.specs.Calls.{TypedConfig}
 use Rattle.sender_log.proofs.Follows.{start_follows, write_follows}
 use Rattle.config.specs.inner.Choices.{by_cond}
 use Rattle.delivery.specs.Commands.{Command}
-use Rattle.delivery.specs.Console.{Lent, no_payload, Call, open_payload, lend_again, queue_words, retransmit_request, write_into, put_into_lem, write_astray, Entry, Console, Step, noting, payload_at, open_step, lent_again, put_step, put_into, write_step, step_of, log_from, fresh_console, AllAllowed, accepted, written, commands}
+use Rattle.delivery.specs.Console.{Lent, no_payload, Call, open_payload, lend_again, queue_words, retransmit_request, write_into, put_in, write_astray, Entry, Console, Step, noting, payload_at, open_step, lent_again, put_step, put_into, write_step, step_of, log_from, fresh_console, AllAllowed, accepted, written, commands}
 use Rattle.delivery.specs.Repeats.{Brings}
 use Rattle.delivery.specs.Paced.{Ready, Paced, Round, rounds_from, AllFit, Keeps, PacedSender}
 use Rattle.delivery.specs.Sentence.{Run, sent_log}
@@ -108,7 +108,7 @@ module _ (R s c q : ℕ) (history : (R + 1) * (1 + s) ≤ c) where
   log_pace (write_into k cfg time ∷ calls) n d t i a h =
       let o = ready_open d k cfg h.0 in
       rw o (log_pace calls 0 _ _ (write_pace n d t i k cfg time a.0 h.0 (omega (arith, tests))) a.1 (rw o at h.1))
-  log_pace (put_into_lem k call ∷ calls) n d t i a h = log_pace calls n _ _ (put_pace n d t i k (put_into call) (λ v cs. reads_put call v cs a.0.0 a.0.1)) a.1 h
+  log_pace (put_in k call ∷ calls) n d t i a h = log_pace calls n _ _ (put_pace n d t i k (put_into call) (λ v cs. reads_put call v cs a.0.0 a.0.1)) a.1 h
   log_pace (write_astray p b cfg time ∷ calls) n d t i a h =
       let e = astray_keeps d.sender cfg time p b d.ring a.0 in
       rw (e.0, e.1) (log_pace calls n _ _ (noted_pace n d t i) a.1 (rw (e.0, e.1) at h))

@@ -1,5 +1,5 @@
 -- What our sender does where a history or a payload has too little room for R + 1 commands: repeats have left, or are dropped, and the payload holds fewer.
-use Prim.Native.Nat.{ℕ, ◌+◌, ◌*◌}
+use Prim.Native.Nat.{ℕ, ◌*◌}
 use mathlib.Core.Path.{◌≡◌, refl}
 use mathlib.Core.List.{List, [], ◌∷◌}
 use lib.ListN.{replicate}

@@ -37,7 +37,7 @@ highest_stays = refl
 pub record Unreached (t : List Report) : Type 0 where
   pub out_of_reach : highest [] + reach + 1 ≡ origin + 0x7FFF
   pub no_loss : NoLoss t
-  pub nothing_missing_lem : (x : ℕ) → Missing 64 t x → ⊥
+  pub nothing_missing : (x : ℕ) → Missing 64 t x → ⊥
   pub nothing_handed_on : handed_on t ≡ []
 
 pub unreached : Unreached (reports (log_of 64 arrival))
@@ -45,6 +45,6 @@ unfolding handed_on
 unreached = rw arrived_is record {
   out_of_reach = refl;
   no_loss = (refl, tt);
-  nothing_missing_lem = λ x m. omega (arith, highest_stays, m.from_0, m.below);
+  nothing_missing = λ x m. omega (arith, highest_stays, m.from_0, m.below);
   nothing_handed_on = joined_none (delivered arrived) (suc (high arrived)) 0 (λ y l. refl);
 }

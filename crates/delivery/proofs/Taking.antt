@@ -26,7 +26,7 @@ use Rattle.receiver.specs.declared.receiver.Request.TheVariants.{Written}
 use Rattle.config.specs.inner.Choices.{by_cond}
 use Rattle.config.specs.inner.Entries.{entry_any}
 use Rattle.delivery.specs.Console.{Lent}
-use Rattle.delivery.specs.Take.{Taken, written, not_due_lem, more, refused, TakenBy, Takes}
+use Rattle.delivery.specs.Take.{Taken, written, none_due, more, refused, TakenBy, Takes}
 
 module _ (r : Receiver) (cfg : StreamConfig) (v : Lent) where
   abbrev asking : RetransmitRequest → Wrote × List ℕ
@@ -43,14 +43,14 @@ module _ (r : Receiver) (cfg : StreamConfig) (v : Lent) where
       go w e (cut why) = elim (split (eqb v.payload.len 0)) [ inl z ↦ rw z (refused r.asked TooLarge) | inr z ↦ rw z (more r.asked) ]
 
   span_taken : (s : Span) → TakenBy v (taken_span r v.payload v.buffer s)
-  span_taken NoSpan = not_due_lem r.asked
+  span_taken NoSpan = none_due r.asked
   span_taken (Of range) = offered_taken record { seq = range.first; count = range.count }
 
   due_taken_lem : TakenBy v (taken_of r cfg v.payload v.buffer)
   unfolding taken_of
   due_taken_lem =
-      by_cond (TakenBy v) (not r.request_due) _ _ (λ none. not_due_lem r.asked) (λ due.
-      by_cond (TakenBy v) (not (enabled_of r cfg)) _ _ (λ off. not_due_lem r.asked) (λ on.
+      by_cond (TakenBy v) (not r.request_due) _ _ (λ none. none_due r.asked) (λ due.
+      by_cond (TakenBy v) (not (enabled_of r cfg)) _ _ (λ off. none_due r.asked) (λ on.
       span_taken (request_of r.window)))
 
 pub takes : Takes

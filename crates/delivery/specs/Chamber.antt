@@ -1,5 +1,5 @@
 -- 01, "The runs of demand 3": what a chamber's receiver heard and handed on, over its log alone (crate receiver_log). A place is a position plus 65,536.
-use Rattle.std.specs.Prelude.{ℕ, zero, suc, ◌+◌, ◌-◌, ◌*◌, ◌≡◌, Bool, true, false, cond, List, [], ◌∷◌, ◌++◌, length}
+use Rattle.std.specs.Prelude.{ℕ, zero, suc, ◌-◌, ◌*◌, ◌≡◌, Bool, true, false, cond, List, [], ◌∷◌, ◌++◌, length}
 use Rattle.packet.specs.Bytes.{words_of}
 use Rattle.window.specs.declared.window.Class.{Class}
 use Rattle.receiver.specs.Messages.{handed_words, handed_bytes, handed_cut}

@@ -50,7 +50,7 @@ pub data Call : Type 0 where
   -- payload, settings, time
   write_into : ℕ → StreamConfig → ℕ → Call
   -- payload, and a call that writes one command into it: a request, an error, a raw command
-  put_into_lem : ℕ → Writes.Call → Call
+  put_in : ℕ → Writes.Call → Call
   -- payload, buffer, settings, time: a write into whatever payload, refused for its settings or for the payload's state
   write_astray : PayloadWriter → List ℕ → StreamConfig → ℕ → Call
 
@@ -117,7 +117,7 @@ step_of c (queue_words cfg ws) =
 step_of c (retransmit_request cfg r) =
     noting record { sender = (request_answer c.sender cfg c.ring r).sender; ring = c.ring; payloads = c.payloads }
 step_of c (write_into k cfg time) = cond (ltb k (length c.payloads)) (write_step c k cfg time) (noting c)
-step_of c (put_into_lem k call) = cond (ltb k (length c.payloads)) (put_step c k (put_into call (payload_at c k))) (noting c)
+step_of c (put_in k call) = cond (ltb k (length c.payloads)) (put_step c k (put_into call (payload_at c k))) (noting c)
 step_of c (write_astray p b cfg time) =
     let w = write_answer c.sender cfg time p b c.ring in
     noting record { sender = w.0.sender; ring = w.2; payloads = c.payloads }
@@ -138,7 +138,7 @@ Allowed (lend_again k rest) = Unit {0}
 Allowed (queue_words cfg ws) = Words32 ws
 Allowed (retransmit_request cfg r) = Unit {0}
 Allowed (write_into k cfg time) = TypedConfig cfg
-Allowed (put_into_lem k call) = WriteTyped call × (is_data (command_of call) ≡ false)
+Allowed (put_in k call) = WriteTyped call × (is_data (command_of call) ≡ false)
 Allowed (write_astray p b cfg time) = check_of cfg ≡ Done → payload_valid p (length b) ≡ false
 
 abbrev pub AllAllowed : List Call → Type 0

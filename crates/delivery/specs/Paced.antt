@@ -4,7 +4,7 @@ use Rattle.std.specs.Prelude.{ℕ, suc, ◌+◌, ◌*◌, ◌≤◌, ◌≡◌, 
 use Rattle.config.specs.Settings.{check_of}
 use Rattle.config.specs.declared.answer.Outcome.TheVariants.{Done}
 use Rattle.config.specs.declared.settings.StreamConfig.{StreamConfig}
-use Rattle.delivery.specs.Console.{Lent, Call, open_payload, lend_again, queue_words, retransmit_request, write_into, put_into_lem, write_astray, Console, payload_at, step_of, fresh_console, positions}
+use Rattle.delivery.specs.Console.{Lent, Call, open_payload, lend_again, queue_words, retransmit_request, write_into, put_in, write_astray, Console, payload_at, step_of, fresh_console, positions}
 use Rattle.delivery.specs.Repeats.{Brings, Arrives, heard_commands, written_payloads, AllHandedOn}
 use Rattle.delivery.specs.Sentence.{Run, sent_log, heard_log, heard_in}
 
@@ -34,7 +34,7 @@ Paced R s d n (write_into k cfg time ∷ calls) = Ready R s cfg (payload_at d k)
 Paced R s d n (retransmit_request cfg r ∷ calls) = ⊥
 Paced R s d n (open_payload limit buffer ∷ calls) = Paced R s (step_of d (open_payload limit buffer)).console n calls
 Paced R s d n (lend_again k rest ∷ calls) = Paced R s (step_of d (lend_again k rest)).console n calls
-Paced R s d n (put_into_lem k call ∷ calls) = Paced R s (step_of d (put_into_lem k call)).console n calls
+Paced R s d n (put_in k call ∷ calls) = Paced R s (step_of d (put_in k call)).console n calls
 Paced R s d n (write_astray p b cfg time ∷ calls) = Paced R s (step_of d (write_astray p b cfg time)).console n calls
 
 -- ---- the plainest such calls, round by round: open a payload, queue words, perhaps none, and write

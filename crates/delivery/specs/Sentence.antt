@@ -58,7 +58,7 @@ pub record Premises (W : ℕ) (t : List Entry) (q : List Heard) (ps : List ℕ) 
   -- the sender's newest position, if any, is heard
   pub newest_heard : 0 < length (positions t) → Memᴰ (length (positions t) - 1) ps
   pub no_loss : NoLoss (reports q)
-  pub nothing_missing_lem : (x : ℕ) → Missing W (reports q) x → ⊥
+  pub nothing_missing : (x : ℕ) → Missing W (reports q) x → ⊥
 
 -- ---- conclusions
 

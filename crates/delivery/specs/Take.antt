@@ -19,7 +19,7 @@ pub data Taken (v : Lent) : Request → Lent → Asked → Type 0 where
   -- exactly one Retransmit Request more, and that one is unanswered
   written : (q : RetransmitRequest) → (call_of (request q) v.payload v.buffer).0.answer ≡ Done → Taken v Written (put_into (request q) v) (AskedFor q)
   -- payload and bytes as they were
-  not_due_lem : (a : Asked) → Taken v NotDue v a
+  none_due : (a : Asked) → Taken v NotDue v a
   more : (a : Asked) → Taken v More v a
   refused : (a : Asked) (why : Refusal) → Taken v (Refused why) v a
 

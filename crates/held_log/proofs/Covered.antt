@@ -3,7 +3,7 @@
 use Prim.Native.Nat.{ℕ, ◌≤◌}
 use mathlib.Core.Path.{◌≡◌, refl}
 use mathlib.Core.Bool.{true}
-use mathlib.Core.List.{List, [], ◌∷◌, ◌++◌}
+use mathlib.Core.List.{List, ◌∷◌, ◌++◌}
 use Rattle.config.specs.declared.settings.StreamConfig.{StreamConfig}
 use Rattle.command.specs.declared.retransmit.RetransmitError.{RetransmitError}
 use Rattle.receiver.specs.declared.receiver.Hearing.{Hearing}
@@ -13,7 +13,7 @@ use Rattle.receiver_log.specs.Calls as Chamber
 use Rattle.receiver_log.specs.Log.{reports}
 use Rattle.receiver_log.specs.Promise.{log_of}
 use Rattle.held_notes.specs.Calls.{Call, delivered, told, restarted, held_in}
-use Rattle.held_log.specs.Log.{calls_of, since}
+use Rattle.held_log.specs.Log.{calls_of}
 use Rattle.held_log.specs.Theorems.{Unreleased, HeldUnreleased}
 
 -- each answer is given as it is

@@ -8,7 +8,7 @@ use mathlib.Core.Path.{◌≡◌, refl, sym, ◌∙◌}
 use mathlib.Core.Logic.{inl, inr}
 use mathlib.Core.Bool.{true, false}
 use mathlib.Core.List.Memᴰ
-use mathlib.Core.List.{List, [], ◌∷◌, ◌++◌}
+use mathlib.Core.List.{List, [], ◌∷◌}
 use native.Mathlib.Omega.{arith}
 use lib.Dec.{eqb}
 use lib.ListN.{drop}
@@ -187,7 +187,7 @@ premises = record {
   all_written = rw positions_are;
   newest_heard = rw positions_are (λ some. Memᴰ.head refl);
   no_loss = (refl, (refl, (refl, tt)));
-  nothing_missing_lem = none_missing_lem;
+  nothing_missing = none_missing_lem;
 }
 
 -- ---- the run

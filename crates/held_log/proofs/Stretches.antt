@@ -11,7 +11,7 @@ use Rattle.config.specs.inner.Tests.{split, tests}
 use Rattle.window.specs.Set.{max_window}
 use Rattle.receiver_log.specs.Calls.{Entry, Typed, AllTyped}
 use Rattle.receiver_log.specs.Calls as Chamber
-use Rattle.receiver_log.specs.Log.{Report, reports, origin, high, times, lost, Missing}
+use Rattle.receiver_log.specs.Log.{Report, reports, origin, times, lost, Missing}
 use Rattle.receiver_log.specs.Answers.{answer_of, said_of}
 use Rattle.receiver_log.specs.Promise.{Promise, log_of, ReceiverPromise, Answered}
 use Rattle.delivery.specs.Sentence.{heard_log, heard_in, Contract, HandedWords}

@@ -1,5 +1,5 @@
 -- 02, 4/14: what holds of the held notes by the receiver's promise, whatever arrives, and by the contract sentence.
-use Rattle.std.specs.Prelude.{ℕ, zero, suc, ◌≤◌, ◌<◌, ◌≡◌, ◌⊎◌, Bool, true, false, List, [], ◌∷◌, ◌++◌}
+use Rattle.std.specs.Prelude.{ℕ, zero, suc, ◌≤◌, ◌<◌, ◌≡◌, ◌⊎◌, Bool, true, false, List, [], ◌++◌}
 use Rattle.command.specs.Messages.{messages_of}
 use Rattle.window.specs.Set.{max_window}
 use Rattle.receiver_log.specs.Calls.{AllTyped}

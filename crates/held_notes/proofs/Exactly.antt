@@ -18,7 +18,7 @@ module _ (g k : ℕ) where
     on = h.on;
     since = h.since;
     moments = ap (λ (l : List Moment). n ∷ l) h.moments;
-    is_on_lem = h.is_on_lem;
+    is_on = h.is_on;
     undisturbed = h.undisturbed;
   }
 
@@ -37,7 +37,7 @@ module _ (g k : ℕ) where
         on = m;
         since = ms;
         moments = ap (λ (y : Bool). message y m ∷ ms) (and_left new (on_for g k m) e);
-        is_on_lem = and_right new (on_for g k m) e;
+        is_on = and_right new (on_for g k m) e;
         undisturbed = w.1;
       }
   from_on new b m ms e (inr h) = inr (earlier (message new m) ms h)
@@ -67,7 +67,7 @@ module _ (g k : ℕ) where
 
   by_on : (ms : List Moment) (b : Bool) → HeldBy g k ms → held_through g k b ms ≡ true
   by_on ms b h =
-      rw (h.moments, through_append g k h.before (message true h.on ∷ h.since) b, after_on g k (held_through g k b h.before) h.on h.is_on_lem)
+      rw (h.moments, through_append g k h.before (message true h.on ∷ h.since) b, after_on g k (held_through g k b h.before) h.on h.is_on)
       (undisturbed_held h.since h.undisturbed)
 
   -- one call after the other, or all their moments at once

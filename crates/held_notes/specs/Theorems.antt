@@ -21,7 +21,7 @@ pub record HeldBy (g k : ℕ) (ms : List Moment) : Type 0 where
   pub on : List ℕ
   pub since : List Moment
   pub moments : ms ≡ before ++ (message true on ∷ since)
-  pub is_on_lem : on_for g k on ≡ true
+  pub is_on : on_for g k on ≡ true
   pub undisturbed : Undisturbed g k since
 
 abbrev pub HeldExactly : Type 0

@@ -57,9 +57,9 @@ module _ (b : List ℕ) (last unsent words k i n u : ℕ) where
     all_words : words_from k b i ≡ u - w + words_from unsent b at
     all_words = let e : k - unsent + unsent ≡ k = omega arith in rw e at (x.taken unsent)
 
-    unsent_words_lem : unsent_take unsent words b k i ≡ eqb (words_from unsent b at) words
+    unsent_words : unsent_take unsent words b k i ≡ eqb (words_from unsent b at) words
     unfolding header_at
-    unsent_words_lem =
+    unsent_words =
         let e : k - unsent + 0 ≡ k - unsent = omega arith in
         let f : header_at (k - unsent) b i ≡ at = rw e at (x.place 0) in
         rw (le-ltb k unsent few, f)
@@ -68,7 +68,7 @@ module _ (b : List ℕ) (last unsent words k i n u : ℕ) where
     unfolding walk_ok
     walk_unsent h =
         rw
-        (unsent_words_lem, and_under (words_from k b i) u (newest_at last b k i) (eqb (words_from unsent b at) words) false (λ e. ne_eqb (words_from unsent b at) words (λ f. h (omega (arith, all_words)))), and-false, and-false, and-false)
+        (unsent_words, and_under (words_from k b i) u (newest_at last b k i) (eqb (words_from unsent b at) words) false (λ e. ne_eqb (words_from unsent b at) words (λ f. h (omega (arith, all_words)))), and-false, and-false, and-false)
 
     module _ (at' seq' prev' w' : ℕ) (y : Past b i n last k at' seq' prev' (u - w')) (l' : w' ≤ u) where
       none_left : words_from k b i ≡ u - w'
@@ -87,7 +87,7 @@ module _ (b : List ℕ) (last unsent words k i n u : ℕ) where
           let g : newest_from k b i last ≡ prev' = rw e at (y.newest 0) in
           let q : words_from k b i ≡ u = omega (arith, none_left) in
           let t : words_from unsent b at ≡ words = omega (arith, all_words) in
-          rw (unsent_words_lem, eq-eqb (words_from unsent b at) words t, f, eq-eqb (words_from k b i) u q, and-true, ← newest_at_lem last k b i, g)
+          rw (unsent_words, eq-eqb (words_from unsent b at) words t, f, eq-eqb (words_from k b i) u q, and-true, ← newest_at_lem last k b i, g)
 
 -- ---- the state
 

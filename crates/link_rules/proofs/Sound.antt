@@ -345,7 +345,7 @@ module _ (cfg : StreamConfig) (ok : check_of cfg ≡ Done) (typed : TypedConfig 
       let t = write_taken cfg ok time c i.book small p b m in
       let d = write_calm c cfg ok time i.book small i.follows.least held few p b m low in
       subst (λ (w : SenderWrote × List ℕ × List ℕ). WriteSound (record { stream = with_sender (with_receiver s r) w.0.sender; payload = w.0.payload; answer = counted_also n w.0.answer }, w.1, w.2)) e
-      (record { stream = record { book = _; follows = k.0; window = v }; answer = counted n (writing.write_answer s.sender cfg time p b ring).0.answer (ap write_refuses k.1 ∙ t); calm = omega (arith, k.0.unsent_words_lem, d) })
+      (record { stream = record { book = _; follows = k.0; window = v }; answer = counted n (writing.write_answer s.sender cfg time p b ring).0.answer (ap write_refuses k.1 ∙ t); calm = omega (arith, k.0.unsent_words, d) })
 
   pub written_sound : (p : PayloadWriter) (b : List ℕ) → Room p b → p.len ≤ 12 → WriteSound (write_answer s cfg time p b ring)
   unfolding write_answer data_written

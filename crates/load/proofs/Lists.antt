@@ -3,10 +3,10 @@ use Rattle.std.proofs.Common.{◌≡◌, ℕ, zero, suc, ◌+◌, ◌*◌, ◌^�
 use Rattle.load.specs.Load.{next, iterate, drawn, values_of}
 use Rattle.load.specs.Theorems.{Call, draw, jump, after, draws, run, total}
 
-pub in_turn_lem : (n m x : ℕ) → drawn m (drawn n x) ≡ drawn (n + m) x
+pub in_turn : (n m x : ℕ) → drawn m (drawn n x) ≡ drawn (n + m) x
 unfolding iterate
-in_turn_lem zero m x = ap (λ (k : ℕ). drawn k x) (let e : m ≡ 0 + m = omega arith in e)
-in_turn_lem (suc n) m x = in_turn_lem n m (next x) ∙ ap (λ (k : ℕ). drawn k x) (let e : suc (n + m) ≡ suc n + m = omega arith in e)
+in_turn zero m x = ap (λ (k : ℕ). drawn k x) (let e : m ≡ 0 + m = omega arith in e)
+in_turn (suc n) m x = in_turn n m (next x) ∙ ap (λ (k : ℕ). drawn k x) (let e : suc (n + m) ≡ suc n + m = omega arith in e)
 
 after_is : (c : Call) (x : ℕ) → after c record { last = x } ≡ record { last = drawn (draws c) x }
 unfolding iterate
@@ -17,7 +17,7 @@ pub calls : (cs : List Call) (x : ℕ) → run cs record { last = x } ≡ record
 unfolding run total iterate
 calls [] x = refl
 calls (c ∷ cs) x =
-    ap (run cs) (after_is c x) ∙ calls cs (drawn (draws c) x) ∙ ap (λ (z : ℕ). record { last = z }) (in_turn_lem (draws c) (total cs) x)
+    ap (run cs) (after_is c x) ∙ calls cs (drawn (draws c) x) ∙ ap (λ (z : ℕ). record { last = z }) (in_turn (draws c) (total cs) x)
 
 pub value : (n k x : ℕ) → k < n → get_or (values_of n x) k 0 ≡ drawn (k + 1) x
 unfolding values_of iterate

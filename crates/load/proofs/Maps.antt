@@ -23,8 +23,8 @@ cut_right k y m = ap (λ (z : ℕ). z % m) (mul_comm k (y % m)) ∙ cut y k m �
 cut_sum : (p q b m : ℕ) → p % m ≡ q % m → (p + b) % m ≡ (q + b) % m
 cut_sum p q b m e = sym (mod-add-mod p m b) ∙ ap (λ (z : ℕ). (z + b) % m) e ∙ mod-add-mod q m b
 
-in_turn_lem : (a b x m : ℕ) → ((x * a + b) % m * a + b) % m ≡ (x * ((a * a) % m) + (b * a + b) % m) % m
-in_turn_lem a b x m =
+in_turn : (a b x m : ℕ) → ((x * a + b) % m * a + b) % m ≡ (x * ((a * a) % m) + (b * a + b) % m) % m
+in_turn a b x m =
     cut_sum ((x * a + b) % m * a) ((x * a + b) * a) b m (cut (x * a + b) a m)
     ∙ ap (λ (z : ℕ). z % m) (ap (λ (z : ℕ). z + b) (add-mul (x * a) b a ∙ ap (λ (z : ℕ). z + b * a) (mul_assoc x a a)) ∙ add_assoc (x * (a * a)) (b * a) b)
     ∙ cut_sum (x * (a * a)) (x * ((a * a) % m)) (b * a + b) m (sym (cut_right x (a * a) m))
@@ -32,7 +32,7 @@ in_turn_lem a b x m =
 
 twice : (a b x : ℕ) → mapped a b (mapped a b x) ≡ mapped ((a * a) % 2 ^ 32) (mapped a b b) x
 unfolding mapped
-twice a b x = in_turn_lem a b x (2 ^ 32)
+twice a b x = in_turn a b x (2 ^ 32)
 
 -- ---- rounds
 

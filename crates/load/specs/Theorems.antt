@@ -32,7 +32,7 @@ pub record MadeAgain : Type 0 where
   -- whatever the calls, the load is where as many single draws lead
   pub calls : (cs : List Call) (seed : ℕ) → run cs record { last = seed } ≡ record { last = drawn (total cs) seed }
   -- n draws and then m are n + m
-  pub in_turn_lem : (n m seed : ℕ) → drawn m (drawn n seed) ≡ drawn (n + m) seed
+  pub in_turn : (n m seed : ℕ) → drawn m (drawn n seed) ≡ drawn (n + m) seed
   -- the values of a seed, in order: the one at place k comes with draw k + 1
   pub value : (n k seed : ℕ) → k < n → slice_index (values_of n seed) k ≡ drawn (k + 1) seed
   -- after n draws come the values that follow the seed's first n

@@ -53,7 +53,7 @@ module _ (c q : ℕ) (s : Sender) (ring : List ℕ) (b : Book) (f : Follows c q 
         holds = a.holds;
         oldest = a.oldest;
         unsent = omega (arith, f.unsent, length-append b.unwritten ([] ∷ []));
-        unsent_words_lem = omega (arith, f.unsent_words_lem, size_append b.unwritten ([] ∷ []), size_one []);
+        unsent_words = omega (arith, f.unsent_words, size_append b.unwritten ([] ∷ []), size_one []);
         fit = f.fit;
         items = f.items;
         requests = f.requests;

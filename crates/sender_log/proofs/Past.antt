@@ -437,7 +437,7 @@ held_all c q s ring b x k i =
       oldest = k.oldest ∙ ap (λ (n : ℕ). n % turn) (sym (oldest_is c b x i));
       all_unwritten = omega (arith, ap length e, length-append b.written b.unwritten, ap length u);
       unsent = k.unsent ∙ ap length u;
-      unsent_words_lem = k.unsent_words_lem ∙ ap size u;
+      unsent_words = k.unsent_words ∙ ap size u;
       requests = k.requests ∙ i.waiting;
       idle = k.idle ∙ i.idle;
     }

@@ -98,7 +98,7 @@ module _ (c q : ℕ) (s : Sender) (ring : List ℕ) (b : Book) (f : Follows c q 
 
     after_joining : Held c (joined_to s.history ring joins).0 (joined_to s.history ring joins).1 joined_book
     unfolding joined_book
-    after_joining = joined_held c s.history ring b (follows_held c q s ring b f) joins taken (omega (arith, parts, f.words, f.unsent_words_lem, valid_words s ring valid))
+    after_joining = joined_held c s.history ring b (follows_held c q s ring b f) joins taken (omega (arith, parts, f.words, f.unsent_words, valid_words s ring valid))
 
     joined_words : size joined_book.unwritten ≡ size b.unwritten + length joins
     unfolding joined_book joined_in
@@ -108,7 +108,7 @@ module _ (c q : ℕ) (s : Sender) (ring : List ℕ) (b : Book) (f : Follows c q 
     unfolding queued_of queued_to joined_book joined_in freed
     queued_follows =
         let g = commands_parts max (rest (room_of s ring max) ws) (divides_behind max (room_of s ring max) ws d) few in
-        let a = pushed_all_held opens c (joined_to s.history ring joins).0 (joined_to s.history ring joins).1 joined_book after_joining g.1 (omega (arith, joined_words, parts, f.words, f.unsent_words_lem, valid_words s ring valid)) in
+        let a = pushed_all_held opens c (joined_to s.history ring joins).0 (joined_to s.history ring joins).1 joined_book after_joining g.1 (omega (arith, joined_words, parts, f.words, f.unsent_words, valid_words s ring valid)) in
         let u = pushed_all_unwritten opens c joined_book in
         record {
           least = f.least;
@@ -120,7 +120,7 @@ module _ (c q : ℕ) (s : Sender) (ring : List ℕ) (b : Book) (f : Follows c q 
           holds = a.holds;
           oldest = a.oldest;
           unsent = omega (arith, f.unsent, ap length u, length-append joined_book.unwritten opens, length_joined b.unwritten joins);
-          unsent_words_lem = omega (arith, f.unsent_words_lem, ap size u, size_append joined_book.unwritten opens, joined_words, parts);
+          unsent_words = omega (arith, f.unsent_words, ap size u, size_append joined_book.unwritten opens, joined_words, parts);
           fit = f.fit;
           items = f.items;
           requests = f.requests ∙ sym (pushed_all_waiting opens c joined_book);
@@ -142,7 +142,7 @@ module _ (c q : ℕ) (s : Sender) (ring : List ℕ) (b : Book) (f : Follows c q 
         → Sends (placed_of s ring max ws) (cond (ltb (c - size b.unwritten) (need_in max ws b)) (record { book = b; answer = Refused Full }) (record { book = queued_in c max ws b; answer = Done }))
     unfolding placed_of queued_of queued_in joined_book
     placed_follows d =
-        let n : ltb (c - size b.unwritten) (need_in max ws b) ≡ ltb (s.history.size - s.unsent_words) (need_of s ring max ws) = cc (f.words, f.unsent_words_lem, need_same) in
+        let n : ltb (c - size b.unwritten) (need_in max ws b) ≡ ltb (s.history.size - s.unsent_words) (need_of s ring max ws) = cc (f.words, f.unsent_words, need_same) in
         rw (n, ← room_same max) (by (ltb (s.history.size - s.unsent_words) (need_of s ring max ws)) refl)
       where
         by : (t : Bool) → ltb (s.history.size - s.unsent_words) (need_of s ring max ws) ≡ t

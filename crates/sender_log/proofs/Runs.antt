@@ -77,7 +77,7 @@ kept c q s ring b f = record {
   oldest = f.oldest;
   entries = holds_entries s.history ring _ f.holds;
   unsent = f.unsent;
-  unsent_words_lem = f.unsent_words_lem;
+  unsent_words = f.unsent_words;
   requests = f.requests;
   idle = f.idle;
 }

@@ -41,7 +41,7 @@ pub record Follows (c q : ℕ) (s : Sender) (ring : List ℕ) (b : Book) : Type 
   pub holds : Holds s.history ring (b.written ++ b.unwritten)
   pub oldest : s.history.oldest ≡ oldest_in b
   pub unsent : s.unsent ≡ length b.unwritten
-  pub unsent_words_lem : s.unsent_words ≡ size b.unwritten
+  pub unsent_words : s.unsent_words ≡ size b.unwritten
   pub fit : Fit s.queue
   pub items : length s.queue.items ≡ 16
   pub requests : waiting s.queue ≡ b.waiting
@@ -61,7 +61,7 @@ module _ (c q : ℕ) (s : Sender) (ring : List ℕ) (b : Book) (f : Follows c q 
   follows_valid =
       let u = unwritten_newest b.written b.unwritten in
       passes s ring
-      (holds_state s.history ring s.unsent s.unsent_words (b.written ++ b.unwritten) f.holds (rw (f.unsent, f.unsent_words_lem) u))
+      (holds_state s.history ring s.unsent s.unsent_words (b.written ++ b.unwritten) f.holds (rw (f.unsent, f.unsent_words) u))
       (fit_queue s.queue f.fit)
       f.step
 
@@ -92,7 +92,7 @@ module _ (c q : ℕ) (s : Sender) (ring : List ℕ) (b : Book) (f : Follows c q 
     holds = f.holds;
     oldest = f.oldest;
     unsent = f.unsent;
-    unsent_words_lem = f.unsent_words_lem;
+    unsent_words = f.unsent_words;
     fit = a;
     items = n;
     requests = w;
@@ -121,7 +121,7 @@ fresh_follows c q l m o p = record {
   holds = fresh_holds c l m;
   oldest = refl;
   unsent = refl;
-  unsent_words_lem = refl;
+  unsent_words = refl;
   fit = record { least = o; most = p; inside = omega arith; held = omega arith };
   items = length-replicate 16 blank;
   requests = waiting_none q;

@@ -101,7 +101,7 @@ module _ (c q : ℕ) (s : Sender) (ring : List ℕ) (b : Book) (f : Follows c q 
         holds = subst (Holds s.history ring) e f.holds;
         oldest = f.oldest;
         unsent = omega (arith, f.unsent, length-drop n u);
-        unsent_words_lem = omega (arith, f.unsent_words_lem, p.1, size_append (take n u) (drop n u), ap size t);
+        unsent_words = omega (arith, f.unsent_words, p.1, size_append (take n u) (drop n u), ap size t);
         fit = f.fit;
         items = f.items;
         requests = f.requests;

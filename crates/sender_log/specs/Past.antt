@@ -109,7 +109,7 @@ pub record HeldIn (c : ℕ) (s : Sender) (ring : List ℕ) (x : Past) : Type 0 w
   pub oldest : s.history.oldest ≡ oldest_at c x % turn
   pub all_unwritten : length x.unwritten ≤ length (held c x)
   pub unsent : s.unsent ≡ length x.unwritten
-  pub unsent_words_lem : s.unsent_words ≡ size x.unwritten
+  pub unsent_words : s.unsent_words ≡ size x.unwritten
   pub requests : waiting s.queue ≡ x.waiting
   pub idle : s.idle ≡ timer_of x.schedule
 

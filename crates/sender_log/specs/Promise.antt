@@ -38,7 +38,7 @@ pub record Kept (c q : ℕ) (s : Sender) (ring : List ℕ) (b : Book) : Type 0 w
   pub oldest : s.history.oldest ≡ oldest_in b
   pub entries : entries_of s.history ring ≡ b.written ++ b.unwritten
   pub unsent : s.unsent ≡ length b.unwritten
-  pub unsent_words_lem : s.unsent_words ≡ size b.unwritten
+  pub unsent_words : s.unsent_words ≡ size b.unwritten
   pub requests : waiting s.queue ≡ b.waiting
   pub idle : s.idle ≡ b.idle
 

@@ -23,7 +23,7 @@ use Rattle.receiver.specs.declared.receiver.Receiver.{Receiver}
 use Rattle.receiver.specs.declared.receiver.Start.TheVariants.{Receiver as ReceiverStarted, Refused as ReceiverRefused}
 use Rattle.sender.specs.State.{reset_of}
 use Rattle.sender.specs.Requests as sender
-use Rattle.sender.specs.Answers.{new_answer as new_sender_lem, not_started as sender_not_started}
+use Rattle.sender.specs.Answers.{new_answer as new_sender, not_started as sender_not_started}
 use Rattle.sender.specs.declared.sender.Sender.{Sender}
 use Rattle.sender.specs.declared.sender.Started.{Started as SenderStarted}
 use Rattle.stream.specs.State.{valid_of}
@@ -79,18 +79,18 @@ module _ (cfg : StreamConfig) (window words places : ℕ) (ring : List ℕ) wher
     new_window e q = let w = window_refused (outside 1 max_window window) why _ q in rw (e, w.0, m, w.1)
 
     pub new_sender_lem : check_of cfg ≡ Done → (x : Receiver) → new_receiver window ≡ ReceiverStarted x
-        → (after : List ℕ) (t : SenderStarted) → (t, after) ≡ new_sender_lem words places ring → t.answer ≡ Refused why
+        → (after : List ℕ) (t : SenderStarted) → (t, after) ≡ new_sender words places ring → t.answer ≡ Refused why
         → (n, after) ≡ new_answer cfg window words places ring
-    unfolding new_answer new_receiver new_sender_lem
+    unfolding new_answer new_receiver new_sender
     new_sender_lem e x q after t f a =
         let w = window_taken (outside 1 max_window window) _ x q in
         let v = sender_refused _ ring _ after t words_out why f a in
         rw (e, w.0, v.0, m, v.1, v.2)
 
   pub new_done : check_of cfg ≡ Done → (x : Receiver) → new_receiver window ≡ ReceiverStarted x
-      → (after : List ℕ) (t : SenderStarted) → (t, after) ≡ new_sender_lem words places ring → t.answer ≡ Done
+      → (after : List ℕ) (t : SenderStarted) → (t, after) ≡ new_sender words places ring → t.answer ≡ Done
       → ◌≡◌ {A = Started × List ℕ} (record { stream = record { sender = t.sender; receiver = x }; answer = Done }, after) (new_answer cfg window words places ring)
-  unfolding new_answer new_receiver new_sender_lem
+  unfolding new_answer new_receiver new_sender
   new_done e x q after t f a =
       let w = window_taken (outside 1 max_window window) _ x q in
       let v = sender_taken _ ring _ after t words_out f a in

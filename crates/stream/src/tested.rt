@@ -7,7 +7,7 @@ ghost use Rattle.history.specs.State.{Marks, Answers};
 ghost use Rattle.sender.specs.State.{valid_of as sender_valid};
 ghost use Rattle.writing.specs.Placing.{begins_of};
 ghost use Rattle.stream.specs.State.{valid_of};
-ghost use Rattle.stream.specs.Answers.{earlier as earlier_of_lem};
+ghost use Rattle.stream.specs.Answers.{earlier as earlier_of};
 ghost use Rattle.stream.specs.Writing.{sent_after, data_written};
 
 use super::stream::{DataStream, Wrote};
@@ -48,7 +48,7 @@ pub fn test(s: DataStream, ring: &[u32], back: usize) -> Tested
 
 // The earlier of the two ends' due times.
 pub fn earlier(a: Deadline, b: Deadline) -> Deadline
-    ensures { result ≡ earlier_of_lem a b }
+    ensures { result ≡ earlier_of a b }
 {
     match a {
         Deadline::Refused(why) => Deadline::Refused(why),

@@ -44,7 +44,7 @@ use Rattle.stream_log.specs.Ends.{Ends, uncalled, ends_after, ends_of}
 use Rattle.stream_log.specs.Answers.{Out, refused_out, request_first, write_out, deadline_in, wants_in, answer_of, said_from}
 use Rattle.stream_log.specs.Promise.{Answered}
 use Rattle.stream_log.proofs.Writing.{behind_take, write_joined}
-use Rattle.stream_log.proofs.Taking.{wanted_by, wanted_is, Took, settings, invalid, too_large, no_space, not_due_lem, taken, take_took}
+use Rattle.stream_log.proofs.Taking.{wanted_by, wanted_is, Took, settings, invalid, too_large, no_space, none_due, taken, take_took}
 use Rattle.stream_log.proofs.Runs.{start_is, Tied, moved, receiver_keeps, sender_keeps, both_valid, reset_is, deadline_tested, wants_tested, step_on, again, start_tied, run_tied}
 
 none_is : {A : Type 0} (xs : List A) → eqb (length xs) 0 ≡ is_empty xs
@@ -88,7 +88,7 @@ module _ (W c q : ℕ) (ring₀ : List ℕ) (least : 1 ≤ W) (most : W ≤ max_
     behind_says p b a r p₁ b₁ (invalid k v) = rw (k, v)
     behind_says p b a r p₁ b₁ (too_large g x w l z) = rw (g.check, g.valid, w, l, z)
     behind_says p b a r p₁ b₁ (no_space g x w l z) = rw (g.check, g.valid, w, l, z)
-    behind_says p b a r p₁ b₁ (not_due_lem g _ w d) = let k = sender_wrote p b in rw (g.check, g.valid, w) (cc (k.0, k.1, k.2))
+    behind_says p b a r p₁ b₁ (none_due g _ w d) = let k = sender_wrote p b in rw (g.check, g.valid, w) (cc (k.0, k.1, k.2))
     behind_says p b a r p₁ b₁ (taken g x _ w d k l) = let k = sender_wrote p₁ b₁ in rw (g.check, g.valid, w, l) (cc (k.0, k.1, k.2))
 
     write_says : (p : PayloadWriter) (b : List ℕ) → out_of (write_answer s cfg time p b ring) ≡ write_out W c (log_of W e.received) (book_of c q e.sent) cfg time p b

@@ -44,16 +44,16 @@ use Rattle.stream.specs.declared.stream.Wrote.{Wrote}
 use Rattle.stream_log.specs.Calls.{send_ump, on_retransmit_request, on_ump_data, on_retransmit_error, on_retransmit_nak, poll, write_request, write_data, next_deadline, wants_write, reset, Typed, AllTyped}
 use Rattle.stream_log.specs.Calls as Stream
 use Rattle.stream_log.specs.Ends.{Ends, uncalled, receiving, ends_from}
-use Rattle.stream_log.specs.Console.{Call, open_payload, lend_again, put_into_lem, request_into, write_into, on_stream, Console, is_open, payload_at, sending_end, taken_into, step_of, of_stream, put_by, of_sender, of_console, Aside, Run, run_from, Allowed, EachAllowed, run_of, end_from, LineEnds}
+use Rattle.stream_log.specs.Console.{Call, open_payload, lend_again, put_in, request_into, write_into, on_stream, Console, is_open, payload_at, sending_end, taken_into, step_of, of_stream, put_by, of_sender, of_console, Aside, Run, run_from, Allowed, EachAllowed, run_of, end_from, LineEnds}
 use Rattle.stream_log.specs.Console as Console
 use Rattle.stream_log.proofs.Writing.{behind_take, Joined, write_joined}
-use Rattle.stream_log.proofs.Taking.{Took, settings, invalid, too_large, no_space, not_due_lem, taken, take_took}
+use Rattle.stream_log.proofs.Taking.{Took, settings, invalid, too_large, no_space, none_due, taken, take_took}
 use Rattle.stream_log.proofs.Runs.{start_is, Tied, receiving_on, receiver_keeps, both_valid, from_on, again, start_tied}
 
 -- ---- crate delivery's calls
 
 module _ (d : Delivery.Console) (k : ℕ) (there : ltb k (length d.payloads) ≡ true) where
-  put_done : (call : Writes.Call) → (Delivery.step_of d (Delivery.put_into_lem k call)).console ≡ Delivery.with_payload d k (Delivery.put_into call (Delivery.payload_at d k))
+  put_done : (call : Writes.Call) → (Delivery.step_of d (Delivery.put_in k call)).console ≡ Delivery.with_payload d k (Delivery.put_into call (Delivery.payload_at d k))
   unfolding Delivery.step_of
   put_done call = rw there
 
@@ -104,7 +104,7 @@ module _ (c : Console) (k : ℕ) (cfg : StreamConfig) (there : is_open c k ≡ t
   put_is a r p b (invalid e f) = same_payload
   put_is a r p b (too_large g x w l z) = same_payload
   put_is a r p b (no_space g x w l z) = same_payload
-  put_is a r p b (not_due_lem g _ w d) = same_payload
+  put_is a r p b (none_due g _ w d) = same_payload
   put_is a r p b (taken g q _ w d e l) = sym (ap (λ (y : Asked). end_from (sending_end c) (put_by k Taken y)) e ∙ put_done (sending_end c) k there (request q))
 
   write_is : (time : ℕ) (a : Request) (r : Receiver) (p : PayloadWriter) (b : List ℕ) → Took c.stream.receiver cfg v.payload v.buffer a r p b
@@ -115,7 +115,7 @@ module _ (c : Console) (k : ℕ) (cfg : StreamConfig) (there : is_open c k ≡ t
   write_is time a r p b (invalid e f) = same_payload
   write_is time a r p b (too_large g x w l z) = same_payload
   write_is time a r p b (no_space g x w l z) = same_payload
-  write_is time a r p b (not_due_lem g _ w d) = sym (write_done (sending_end c) k there cfg time)
+  write_is time a r p b (none_due g _ w d) = sym (write_done (sending_end c) k there cfg time)
   write_is time a r p b (taken g q _ w d e l) =
       let x : Lent = Delivery.put_into (request q) v in
       let d₁ : Delivery.Console = Delivery.with_payload (sending_end c) k x in
@@ -205,7 +205,7 @@ module _ (W n q : ℕ) (ring₀ : List ℕ) (least : 1 ≤ W) (most : W ≤ max_
   unfolding step_of end_from Delivery.step_of
   sending_step (open_payload limit buffer) a = open_rest (sending_end c) buffer (opened_of limit)
   sending_step (lend_again k rest) a = put_rest (sending_end c) k _ (is_open c k)
-  sending_step (put_into_lem k call) a = put_rest (sending_end c) k _ (is_open c k)
+  sending_step (put_in k call) a = put_rest (sending_end c) k _ (is_open c k)
   sending_step (request_into k cfg) a = request_step k cfg
   sending_step (write_into k cfg time) a = write_step k cfg time
   sending_step (on_stream call) a = stream_step call a.1
@@ -243,7 +243,7 @@ module _ (W n q : ℕ) (ring₀ : List ℕ) (least : 1 ≤ W) (most : W ≤ max_
   console_allowed : (call : Call) → Allowed call → AllAllowed (of_console c call)
   console_allowed (open_payload limit buffer) a = (tt, tt)
   console_allowed (lend_again k rest) a = (tt, tt)
-  console_allowed (put_into_lem k call) a = (a, tt)
+  console_allowed (put_in k call) a = (a, tt)
   console_allowed (request_into k cfg) a =
       by_cond AllAllowed (is_open c k) _ _ (λ o. put_allowed k (taken_into c k cfg).0.answer (taken_into c k cfg).0.receiver.asked (asked_ok k cfg)) (λ o. tt)
   console_allowed (write_into k cfg time) a =
@@ -255,7 +255,7 @@ module _ (W n q : ℕ) (ring₀ : List ℕ) (least : 1 ≤ W) (most : W ≤ max_
   stream_typed : (call : Call) → Allowed call → AllTyped (of_stream c call)
   stream_typed (open_payload limit buffer) a = tt
   stream_typed (lend_again k rest) a = tt
-  stream_typed (put_into_lem k call) a = tt
+  stream_typed (put_in k call) a = tt
   stream_typed (request_into k cfg) a = by_cond AllTyped (is_open c k) _ _ (λ o. (tt, tt)) (λ o. tt)
   stream_typed (write_into k cfg time) a = by_cond AllTyped (is_open c k) _ _ (λ o. (a, tt)) (λ o. tt)
   stream_typed (on_stream call) a = (a.0, tt)
@@ -274,7 +274,7 @@ stream_is : (c : Console) (call : Call) (t : List Stream.Entry) → StreamIs c t
 unfolding step_of Stream.run_from Stream.step_of
 stream_is c (open_payload limit buffer) t = (refl, refl)
 stream_is c (lend_again k rest) t = (refl, refl)
-stream_is c (put_into_lem k call) t = (refl, refl)
+stream_is c (put_in k call) t = (refl, refl)
 stream_is c (request_into k cfg) t = into_is c _ t (write_request cfg (payload_at c k).payload (payload_at c k).buffer) (refl, refl) (is_open c k)
 stream_is c (write_into k cfg time) t = into_is c _ t (write_data cfg time (payload_at c k).payload (payload_at c k).buffer) (refl, refl) (is_open c k)
 stream_is c (on_stream call) t = (refl, refl)

@@ -60,7 +60,7 @@ use Rattle.stream_log.specs.Ends.{ends_of}
 use Rattle.stream_log.specs.Answers.{request_wanted}
 use Rattle.stream_log.specs.Count.{wanted_of, StreamCounted}
 use Rattle.stream_log.proofs.Writing.{behind_take, Joined, write_joined}
-use Rattle.stream_log.proofs.Taking.{wanted_by, wanted_is, Took, settings, invalid, too_large, no_space, not_due_lem, taken, take_took, one_written, one_valid}
+use Rattle.stream_log.proofs.Taking.{wanted_by, wanted_is, Took, settings, invalid, too_large, no_space, none_due, taken, take_took, one_written, one_valid}
 use Rattle.stream_log.proofs.Runs.{start_is, moved, reached}
 
 -- ---- what the sender's write adds behind it
@@ -122,7 +122,7 @@ module _ (W c q : ℕ) (most : W ≤ max_window) (s : DataStream) (ring : List �
         λ n y o. let k = same_amount 0 n true y o in rw (← k.0) tt,
         wrote 0 true p b (valid_length p (length b) g.valid) none (omega arith) (λ y. none-fits) (λ y. absurd (let o : ◌≡◌ {A = ℕ} 0 1 = cc in omega arith)),
       )
-  behind_out a r p₁ b₁ (not_due_lem g _ e d) ok = rw e (
+  behind_out a r p₁ b₁ (none_due g _ e d) ok = rw e (
     λ n x y. encodable_take n (wanted_in c cfg time x' p b) (sender_encodable p b),
     out_behind p p _ b b _ [] (wanted_in c cfg time x' p b) 0 _ refl (valid_length p (length b) g.valid) none (sender_out p b) (λ z. (refl, refl)) (λ z. absurd (let y : ⊥ = omega arith in y)),
   )

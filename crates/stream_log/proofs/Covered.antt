@@ -21,7 +21,7 @@ use Rattle.delivery.specs.Commands.{is_data}
 use Rattle.stream.specs.Answers.{new_answer}
 use Rattle.stream_log.specs.Calls.{send_ump, on_retransmit_request, on_ump_data, on_retransmit_error, on_retransmit_nak, poll, write_request, write_data, next_deadline, wants_write, reset, AllTyped}
 use Rattle.stream_log.specs.Promise.{Started}
-use Rattle.stream_log.specs.Console.{Call, open_payload, lend_again, put_into_lem, request_into, write_into, on_stream, EachAllowed, End}
+use Rattle.stream_log.specs.Console.{Call, open_payload, lend_again, put_in, request_into, write_into, on_stream, EachAllowed, End}
 
 -- ---- calls
 
@@ -41,7 +41,7 @@ pub every_console_call : (limit k : ℕ) (buffer : List ℕ) (call : Writes.Call
     → Writes.Typed call → is_data (Writes.command_of call) ≡ false
     → cfg.fec_repeats ≤ 255 → cfg.idle_further ≤ 255 → Words32 ws → seq < 65536 → r.seq < 65536 → r.count < 65536 → payload_valid p (length buffer) ≡ false
     → EachAllowed
-    (open_payload limit buffer ∷ lend_again k buffer ∷ put_into_lem k call ∷ request_into k cfg ∷ write_into k cfg time
+    (open_payload limit buffer ∷ lend_again k buffer ∷ put_in k call ∷ request_into k cfg ∷ write_into k cfg time
     ∷ on_stream (send_ump cfg ws) ∷ on_stream (on_retransmit_request cfg r) ∷ on_stream (on_ump_data cfg time seq ws) ∷ on_stream (on_retransmit_error err) ∷ on_stream on_retransmit_nak
     ∷ on_stream (poll cfg time) ∷ on_stream (write_request cfg p buffer) ∷ on_stream (write_data cfg time p buffer) ∷ on_stream next_deadline ∷ on_stream (wants_write time) ∷ [])
 every_console_call limit k buffer call cfg time seq ws r err p t d f g w s n c v =

@@ -259,7 +259,7 @@ premises = record {
   all_written = rw positions_are;
   newest_heard = rw positions_are (λ some. Memᴰ.tail (Memᴰ.head refl));
   no_loss = (refl, (refl, (refl, (refl, tt))));
-  nothing_missing_lem = none_missing_lem;
+  nothing_missing = none_missing_lem;
 }
 
 pub example : Pair

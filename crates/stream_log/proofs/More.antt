@@ -35,7 +35,7 @@ use Rattle.stream_log.specs.Ends.{Ends, receiving, sending, unless_cut, ends_aft
 use Rattle.stream_log.specs.Answers.{request_wanted}
 use Rattle.stream_log.specs.Promise.{next_of, More}
 use Rattle.stream_log.proofs.Writing.{behind_take, write_joined}
-use Rattle.stream_log.proofs.Taking.{wanted_is, none_wanted, Took, settings, invalid, too_large, no_space, not_due_lem, taken, take_took}
+use Rattle.stream_log.proofs.Taking.{wanted_is, none_wanted, Took, settings, invalid, too_large, no_space, none_due, taken, take_took}
 use Rattle.stream_log.proofs.Runs.{start_is, Tied, receiving_on, receiver_keeps, both_valid, run_tied}
 use Rattle.stream_log.proofs.Answering.{sender_wrote}
 
@@ -90,7 +90,7 @@ module _ (W c q : ℕ) (ring₀ : List ℕ) (least : 1 ≤ W) (most : W ≤ max_
       let t = log_of W e.received in
       let still : request_wanted W t cfg ≡ x ∷ [] = sym (wanted_is W s.receiver t (receiver_keeps W c q ring₀ least most started (with_receiver s r) ring e i) cfg) ∙ w in
       (λ n y. rw still (omega (arith, tests)), λ n y. absurd (let o : ◌≡◌ {A = Bool} true false = (same_amount 0 n true false y).1 in let z : ◌≡◌ {A = ℕ} 0 1 = cc in omega arith))
-  behind_right p b a r p₁ b₁ (not_due_lem g _ w d) i =
+  behind_right p b a r p₁ b₁ (none_due g _ w d) i =
       let k = sender_wrote W c q ring₀ least most started (with_receiver s r) ring e i cfg typed time p b in
       sent_right r i d 0 p b _ _ _ (ap (counted_also 0) k.0) k.1 k.2
   behind_right p b a r p₁ b₁ (taken g x _ w d _ l) i =

@@ -220,7 +220,7 @@ module _ (W c q : ℕ) (ring₀ : List ℕ) where
       pub state_taken : ((call : Call) → Typed call → GivenValid call → number_in (step_of s ring call).entry ≡ 13 → ⊥) → StateTaken W c q s ring
       state_taken never = record {
         never = never;
-        of_sender_lem = moved i.sender_is i.ring_is Sent.StateTaken (sender_never_invalid c q ring₀ started e.sent i.sender_typed);
+        of_sender = moved i.sender_is i.ring_is Sent.StateTaken (sender_never_invalid c q ring₀ started e.sent i.sender_typed);
         of_receiver = subst Received.StateTaken (sym i.receiver_is) (receiver_never_invalid W least most e.received i.receiver_typed);
         write_data = write_tested;
         next_deadline = deadline_tested;

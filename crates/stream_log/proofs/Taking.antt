@@ -65,7 +65,7 @@ pub data Took (r : Receiver) (cfg : StreamConfig) (p : PayloadWriter) (b : List 
   invalid : check_of cfg ≡ Done → payload_valid p (length b) ≡ false → Took r cfg p b (NotTaken InvalidState) r p b
   too_large : Passing cfg p b → (c : Packet) → wanted_by r cfg ≡ c ∷ [] → left p b c ≡ true → eqb p.len 0 ≡ true → Took r cfg p b (NotTaken TooLarge) r p b
   no_space : Passing cfg p b → (c : Packet) → wanted_by r cfg ≡ c ∷ [] → left p b c ≡ true → eqb p.len 0 ≡ false → Took r cfg p b NoSpace r p b
-  not_due_lem : Passing cfg p b → (r' : Receiver) → wanted_by r cfg ≡ [] → r'.request_due ≡ false → Took r cfg p b NotDue r' p b
+  none_due : Passing cfg p b → (r' : Receiver) → wanted_by r cfg ≡ [] → r'.request_due ≡ false → Took r cfg p b NotDue r' p b
   taken : Passing cfg p b → (q : RetransmitRequest) (r' : Receiver) → wanted_by r cfg ≡ request_packet q ∷ [] → r'.request_due ≡ false → r'.asked ≡ AskedFor q
       → left p b (request_packet q) ≡ false → Took r cfg p b Taken r' (written_of p b (request_packet q)).0.payload (written_of p b (request_packet q)).1
 
@@ -104,7 +104,7 @@ module _ (r : Receiver) (cfg : StreamConfig) (p : PayloadWriter) (b : List ℕ) 
     ]
 
     span_took : (s : Span) → wanted_by r cfg ≡ as_command s → TookBy r cfg p b (taken_span r p b s)
-    span_took NoSpan e = not_due_lem g (with_asked r r.asked) e refl
+    span_took NoSpan e = none_due g (with_asked r r.asked) e refl
     span_took (Of range) e = offered_took record { seq = range.first; count = range.count } e
 
     taken_took : TookBy r cfg p b (taken_of r cfg p b)
@@ -113,8 +113,8 @@ module _ (r : Receiver) (cfg : StreamConfig) (p : PayloadWriter) (b : List ℕ) 
       where
         go : (d : Bool) → r.request_due ≡ d → (o : Bool) → enabled_of r cfg ≡ o
             → TookBy r cfg p b (cond (not d) (not_due r p, b) (cond (not o) (not_due (with_asked r r.asked) p, b) (taken_span r p b (request_of r.window))))
-        go false d o e = not_due_lem g r (none_wanted r cfg d) d
-        go true d false e = not_due_lem g (with_asked r r.asked) (cc) refl
+        go false d o e = none_due g r (none_wanted r cfg d) d
+        go true d false e = none_due g (with_asked r r.asked) (cc) refl
         go true d true e = span_took (request_of r.window) (cc)
 
   -- of a receiver that passes the state test

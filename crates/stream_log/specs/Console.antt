@@ -30,7 +30,7 @@ pub data Call : Type 0 where
   -- the caller does as it likes with the bytes past a payload's length, and with the buffer's length
   lend_again : ℕ → List ℕ → Call
   -- payload, and a call that writes one command into it: a request, an error, a raw command
-  put_into_lem : ℕ → Writes.Call → Call
+  put_in : ℕ → Writes.Call → Call
   -- payload, settings: write_request
   request_into : ℕ → StreamConfig → Call
   -- payload, settings, time: write_data
@@ -62,7 +62,7 @@ on_payloads c call = record { stream = c.stream; ring = c.ring; payloads = (Deli
 unfoldable pub step_of : Console → Call → Console
 step_of c (open_payload limit buffer) = on_payloads c (Delivery.open_payload limit buffer)
 step_of c (lend_again k rest) = on_payloads c (Delivery.lend_again k rest)
-step_of c (put_into_lem k call) = on_payloads c (Delivery.put_into_lem k call)
+step_of c (put_in k call) = on_payloads c (Delivery.put_in k call)
 step_of c (request_into k cfg) =
     let v = payload_at c k in
     let h = take_answer c.stream cfg v.payload v.buffer in
@@ -80,7 +80,7 @@ step_of c (on_stream call) =
 abbrev pub of_stream : Console → Call → List Stream.Call
 of_stream c (open_payload limit buffer) = []
 of_stream c (lend_again k rest) = []
-of_stream c (put_into_lem k call) = []
+of_stream c (put_in k call) = []
 of_stream c (request_into k cfg) = let v = payload_at c k in cond (is_open c k) (write_request cfg v.payload v.buffer ∷ []) []
 of_stream c (write_into k cfg time) = let v = payload_at c k in cond (is_open c k) (write_data cfg time v.payload v.buffer ∷ []) []
 of_stream c (on_stream call) = call ∷ []
@@ -89,7 +89,7 @@ of_stream c (on_stream call) = call ∷ []
 
 -- the request that was written
 abbrev pub put_by : ℕ → Request → Asked → List Delivery.Call
-put_by k Taken (AskedFor q) = Delivery.put_into_lem k (request q) ∷ []
+put_by k Taken (AskedFor q) = Delivery.put_in k (request q) ∷ []
 put_by k Taken Unasked = []
 put_by k NotDue asked = []
 put_by k NoSpace asked = []
@@ -123,7 +123,7 @@ of_sender reset = []
 abbrev pub of_console : Console → Call → List Delivery.Call
 of_console c (open_payload limit buffer) = Delivery.open_payload limit buffer ∷ []
 of_console c (lend_again k rest) = Delivery.lend_again k rest ∷ []
-of_console c (put_into_lem k call) = Delivery.put_into_lem k call ∷ []
+of_console c (put_in k call) = Delivery.put_in k call ∷ []
 of_console c (request_into k cfg) = let t = taken_into c k cfg in cond (is_open c k) (put_by k t.0.answer t.0.receiver.asked) []
 of_console c (write_into k cfg time) =
     let t = taken_into c k cfg in
@@ -162,7 +162,7 @@ Aside reset = ⊥
 abbrev pub Allowed : Call → Type 0
 Allowed (open_payload limit buffer) = Unit {0}
 Allowed (lend_again k rest) = Unit {0}
-Allowed (put_into_lem k call) = WriteTyped call × (is_data (command_of call) ≡ false)
+Allowed (put_in k call) = WriteTyped call × (is_data (command_of call) ≡ false)
 Allowed (request_into k cfg) = Unit {0}
 Allowed (write_into k cfg time) = TypedConfig cfg
 Allowed (on_stream call) = Typed call × Aside call

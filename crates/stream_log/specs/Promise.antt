@@ -76,7 +76,7 @@ pub record StateTaken (W c q : ℕ) (s : DataStream) (ring : List ℕ) : Type 0 
   -- 13 is no call's answer
   pub never : (call : Call) → Typed call → GivenValid call → number_in (step_of s ring call).entry ≡ 13 → ⊥
   -- and each answer is what the call's definition says behind its tests: of one end, that end's
-  pub of_sender_lem : Sent.StateTaken s.sender ring
+  pub of_sender : Sent.StateTaken s.sender ring
   pub of_receiver : Received.StateTaken s.receiver
   pub write_data : (cfg : StreamConfig) (time : ℕ) (p : PayloadWriter) (b : List ℕ)
       → write_answer s cfg time p b ring

@@ -2,7 +2,6 @@
 use mathlib.Core.Path.{sym, ap, ◌∙◌}
 use Rattle.config.specs.declared.answer.Outcome.{Outcome}
 use Rattle.c_payload.specs.Export.{refused_by, made_by}
-use borrow.Author.Rules.{rules}
 use Rattle.c_payload.proofs.made.Goals as goal
 
 pub returns-in-Done : goal.returns-in-Done

@@ -1,7 +1,6 @@
 -- The payload is opened, and the command is written into it.
 use mathlib.Core.Path.{sym, ◌∙◌}
 use Rattle.c_payload.proofs.Answers.{payload_made, payload_refused}
-use borrow.Author.Rules.{rules}
 use Rattle.c_payload.proofs.sirmjold_ump_data_payload.Goals as goal
 
 pub returns-in-Payload : goal.returns-in-Payload

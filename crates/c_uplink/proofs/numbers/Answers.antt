@@ -1,7 +1,6 @@
 -- Field by field.
 use Prim.Native.Nat.{ℕ}
 use mathlib.Core.Path.{◌≡◌}
-use borrow.Author.Rules.{rules}
 use Rattle.config.specs.Refusals.{outcome_number}
 use Rattle.uplink.specs.declared.grants.Step.{Step}
 use Rattle.c_uplink.specs.Numbers.{numbers_of}

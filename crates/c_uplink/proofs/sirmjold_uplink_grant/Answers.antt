@@ -1,6 +1,5 @@
 -- The numbers of the library's step.
 use mathlib.Core.Path.{ap, ◌∙◌}
-use borrow.Author.Rules.{rules}
 use Rattle.c_uplink.specs.Numbers.{numbers_of}
 use Rattle.c_uplink.proofs.sirmjold_uplink_grant.Goals as goal
 

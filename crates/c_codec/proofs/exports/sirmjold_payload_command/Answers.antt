@@ -1,6 +1,5 @@
 -- The words are loaded, the command is written, and the words are stored.
 use Rattle.c_codec.proofs.Writes.{written, not_written}
-use borrow.Author.Rules.{rules}
 use Rattle.c_codec.proofs.exports.sirmjold_payload_command.Goals as goal
 
 pub returns-then-p-eq2 : goal.returns-then-p-eq2

@@ -1,7 +1,6 @@
 -- The new payload is stored.
 use Rattle.c_codec.specs.Exports.{open_export}
 use Rattle.c_words.proofs.Entries.{made, words_refused}
-use borrow.Author.Rules.{rules}
 use borrow.Author.Tests.{eq-eqb, ne_eqb}
 use mathlib.Core.Path.{refl, sym, ◌∙◌}
 use Rattle.c_codec.proofs.exports.sirmjold_payload_new.Goals as goal

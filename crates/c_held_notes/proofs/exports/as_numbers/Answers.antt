@@ -1,6 +1,5 @@
 -- The answer as its number.
 use Rattle.c_held_notes.specs.Numbers.{given_of}
-use borrow.Author.Rules.{rules}
 use Rattle.c_held_notes.proofs.exports.as_numbers.Goals as goal
 
 pub returns : goal.returns

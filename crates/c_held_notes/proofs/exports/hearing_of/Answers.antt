@@ -1,6 +1,5 @@
 -- Refused, or by class and loss.
 use Rattle.c_held_notes.proofs.Numbers.{hearing_done, hearing_refused_lem}
-use borrow.Author.Rules.{rules}
 use Rattle.c_held_notes.proofs.exports.hearing_of.Goals as goal
 
 pub returns-then-refusal-eq0 : goal.returns-then-refusal-eq0

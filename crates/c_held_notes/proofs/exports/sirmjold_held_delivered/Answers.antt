@@ -1,6 +1,5 @@
 -- The library's call, on the answer that the numbers stand for.
 use Rattle.c_held_notes.proofs.Numbers.{by_hearing}
-use borrow.Author.Rules.{rules}
 use Rattle.c_held_notes.proofs.exports.sirmjold_held_delivered.Goals as goal
 
 pub returns : goal.returns

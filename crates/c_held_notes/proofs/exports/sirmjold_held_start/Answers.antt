@@ -1,7 +1,6 @@
 -- The library's start, as numbers.
 use mathlib.Core.Path.{ap, ◌∙◌}
 use Rattle.c_held_notes.specs.Numbers.{given_of}
-use borrow.Author.Rules.{rules}
 use Rattle.c_held_notes.proofs.exports.sirmjold_held_start.Goals as goal
 
 pub returns : goal.returns

@@ -1,6 +1,5 @@
 -- The library's call, on the event that the number stands for.
 use Rattle.c_held_notes.proofs.Numbers.{by_event}
-use borrow.Author.Rules.{rules}
 use Rattle.c_held_notes.proofs.exports.sirmjold_held_told.Goals as goal
 
 pub returns : goal.returns

@@ -1,9 +1,7 @@
-use mathlib.Core.Path.{◌≡◌, sym, ap, ◌∙◌}
-use Prim.Native.Nat.{◌+◌, ◌-◌, ◌≤◌}
-use lib.ListN.{length, take, length-set}
+use mathlib.Core.Path.{sym, ap, ◌∙◌}
+use lib.ListN.{length-set}
 use lib.Seq.{take_all}
 use native.Mathlib.Omega.{arith}
-use borrow.Author.Rules.{rules}
 use Rattle.packet.specs.Bytes.{spliced}
 use Rattle.packet.proofs.Splice.{spliced_nil}
 use Rattle.read_command.proofs.Stores.{put_turn}

@@ -1,13 +1,8 @@
 -- The words before k are stored.
-use mathlib.Core.Path.{◌≡◌, sym, ap, ◌∙◌}
+use mathlib.Core.Path.{◌≡◌}
 use Prim.Native.Nat.{◌+◌, ◌-◌, ◌≤◌}
-use lib.ListN.{length, take, length-set}
-use lib.Seq.{take_all}
-use native.Mathlib.Omega.{arith}
-use borrow.Author.Rules.{rules}
+use lib.ListN.{length, take}
 use Rattle.packet.specs.Bytes.{spliced}
-use Rattle.packet.proofs.Splice.{spliced_nil}
-use Rattle.read_command.proofs.Stores.{put_turn}
 use Rattle.c_words.proofs.lent.put.Given as goal
 
 abbrev pub invariant-loop-k : goal.invariant-loop-k

@@ -1,5 +1,4 @@
 -- Words that stand there are the list as it was.
-use borrow.Author.Rules.{rules}
 use Rattle.c_words.proofs.lent.renew.Goals as goal
 
 pub returns-then-stand : goal.returns-then-stand

@@ -1,8 +1,7 @@
 -- As many words as there are.
-use mathlib.Core.Path.{◌≡◌, ◌∙◌}
+use mathlib.Core.Path.{◌∙◌}
 use native.Mathlib.Omega.{arith}
 use Rattle.c_words.proofs.Within.{put_whole}
-use borrow.Author.Rules.{rules}
 use Rattle.c_words.proofs.payload.store.Goals as goal
 
 pub renew-requires : goal.renew-requires

@@ -2,7 +2,6 @@
 use native.Mathlib.Omega.{arith}
 use mathlib.Core.Path.{◌∙◌}
 use Rattle.c_words.proofs.Figures.{own_test}
-use borrow.Author.Rules.{rules}
 use Rattle.c_words.proofs.settings.check.Goals as goal
 
 pub overflow_cast-tested : goal.overflow_cast-tested

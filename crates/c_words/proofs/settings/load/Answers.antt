@@ -1,6 +1,5 @@
 -- Each word fits.
 use native.Mathlib.Omega.{arith}
-use borrow.Author.Rules.{rules}
 use Rattle.c_words.proofs.settings.load.Goals as goal
 
 pub overflow_cast-result-4 : goal.overflow_cast-result-4

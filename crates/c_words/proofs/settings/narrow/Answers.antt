@@ -1,7 +1,6 @@
 -- Three words together, and one.
 use Rattle.c_words.proofs.Figures.{too_wide, last_figure}
 use native.Mathlib.Omega.{arith}
-use borrow.Author.Rules.{rules}
 use Rattle.c_words.proofs.settings.narrow.Goals as goal
 
 pub returns-then-words-gt255 : goal.returns-then-words-gt255

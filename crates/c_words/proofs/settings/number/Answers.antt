@@ -6,7 +6,6 @@ use Rattle.config.specs.Entry.{on_state}
 use Rattle.config.specs.Refusals.{outcome_number}
 use Rattle.config.specs.declared.answer.Outcome.TheVariants.{Done, Refused}
 use Rattle.c_words.proofs.Figures.{not_eight, own_refused, own_passed}
-use borrow.Author.Rules.{rules}
 use Rattle.c_words.proofs.settings.number.Goals as goal
 
 pub returns-then-words-ne8 : goal.returns-then-words-ne8

@@ -1,5 +1,4 @@
 -- The contract is the theorem of `proofs/Stretches.antt`, from the theorems that are called.
-use borrow.Author.Rules.{rules}
 use Rattle.held_log.proofs.Stretches.{held_accepted}
 use Rattle.held_log.proofs.theorems.held_accepted.Goals as goal
 

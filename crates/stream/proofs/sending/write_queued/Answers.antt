@@ -2,7 +2,6 @@
 use mathlib.Core.Path.{sym, ◌∙◌}
 use Rattle.stream.proofs.Validity.{test_receiver, test_sender}
 use Rattle.stream.proofs.Writing.{write_state, write_payload, write_made}
-use borrow.Author.Rules.{rules}
 use Rattle.stream.proofs.sending.write_queued.Goals as goal
 
 pub write_data-requires : goal.write_data-requires

@@ -1,7 +1,6 @@
 -- One case for each pair of answers; of two times the smaller one.
 use mathlib.Core.Path.{refl, ◌∙◌}
 use Rattle.stream.proofs.Answers.{earlier_of_lem, at_first, at_second}
-use borrow.Author.Rules.{rules}
 use Rattle.stream.proofs.tested.earlier.Goals as goal
 
 pub returns-then-t-u : goal.returns-then-t-u

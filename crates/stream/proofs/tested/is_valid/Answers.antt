@@ -1,7 +1,6 @@
 -- The receiver's test, then the sender's.
 use mathlib.Core.Path.{sym, ◌∙◌}
 use Rattle.stream.proofs.Validity.{test_receiver, test_sender}
-use borrow.Author.Rules.{rules}
 use Rattle.stream.proofs.tested.is_valid.Goals as goal
 
 pub returns-then-is_valid : goal.returns-then-is_valid

@@ -2,7 +2,6 @@
 use mathlib.Core.Path.{refl, sym, ◌∙◌}
 use Rattle.history.proofs.StateTest.{answers_no}
 use Rattle.stream.proofs.Validity.{test_receiver, test_sender}
-use borrow.Author.Rules.{rules}
 use Rattle.stream.proofs.tested.test.Goals as goal
 
 pub returns-then-is_valid : goal.returns-then-is_valid

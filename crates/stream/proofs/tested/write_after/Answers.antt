@@ -2,7 +2,6 @@
 use native.Mathlib.Omega.{arith}
 use Rattle.stream.proofs.Counts.{written_most}
 use Rattle.stream.proofs.Writing.{sent_after_lem}
-use borrow.Author.Rules.{rules}
 use Rattle.stream.proofs.tested.write_after.Goals as goal
 
 pub overflow_add-result : goal.overflow_add-result

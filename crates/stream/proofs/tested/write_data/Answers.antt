@@ -1,14 +1,12 @@
 -- A due request is taken; where it does not end the write, the payload is still valid and the sender writes behind it, after 0 or 1 commands.
-use mathlib.Core.Path.{◌≡◌, ap, ◌∙◌}
-use mathlib.Core.Logic.{⊎_elim}
+use mathlib.Core.Path.{◌≡◌, ◌∙◌}
 use Prim.Native.Nat.{ℕ, ◌≤◌}
 use native.Mathlib.Omega.{arith}
-use lib.ListN.{length}
 use Rattle.stream.proofs.Validity.{valid_receiver, valid_sender}
 use Rattle.stream.proofs.Taking.{taken_valid}
 use Rattle.stream.proofs.Writing.{after_taken, after_none, after_one, after_not_due}
-use borrow.Author.Rules.{rules}
 use Rattle.stream.proofs.tested.write_data.Goals as goal
+use Rattle.stream.proofs.tested.write_data.Goals.{then-before+in-Nothing, then-before+in-Written, else-before}
 
 none : (n : ℕ) → n ≡ 0 → n ≤ 1
 none n e = omega arith
@@ -29,22 +27,29 @@ returns-in-More c =
 
 pub write_after-requires : goal.write_after-requires
 write_after-requires c = (
-  ⊎_elim (λ w. none _ w.12) (⊎_elim (λ w. one _ w.12) (λ w. none _ w.4)) c.if-before.branch,
+  elim c.if-before.branch [
+    | then-before+in-Nothing w ↦ none _ w.n-is
+    | then-before+in-Written w ↦ one _ w.n-is
+    | else-before w ↦ none _ w.n-is
+  ],
   c.requires.0,
   valid_sender _ _ c.requires.1,
-  ⊎_elim
-      (λ w. rw (w.9, w.11) (taken_valid _ _ _ _ c.requires.2 _ _ w.2.ensures))
-      (⊎_elim (λ w. rw (w.9, w.11) (taken_valid _ _ _ _ c.requires.2 _ _ w.2.ensures)) (λ w. rw (w.1, w.3) c.requires.2))
-      c.if-before.branch,
+  elim c.if-before.branch [
+    | then-before+in-Nothing w ↦ rw (w.buf-is, w.payload-is) (taken_valid _ _ _ _ c.requires.2 _ _ w.write_request-taken.ensures)
+    | then-before+in-Written w ↦ rw (w.buf-is, w.payload-is) (taken_valid _ _ _ _ c.requires.2 _ _ w.write_request-taken.ensures)
+    | else-before w ↦ rw (w.buf-is, w.payload-is) c.requires.2
+  ],
   c.requires.3,
 )
 
 pub returns : goal.returns
 returns c =
     c.write_after.ensures
-    ∙ ⊎_elim
-    (λ w. after_none c.args.s c.args.cfg c.args.time c.args.p _ _ w.2.result _ w.2.ensures w.9 w.10 w.11 w.12 w.8.given.1)
-    (⊎_elim
-    (λ w. after_one c.args.s c.args.cfg c.args.time c.args.p _ _ w.2.result _ w.2.ensures w.9 w.10 w.11 w.12 w.8.given.1)
-    (λ w. after_not_due c.args.s c.args.cfg c.args.time c.args.p _ _ w.0.left w.1 w.2 w.3 w.4))
-    c.if-before.branch
+    ∙ elim c.if-before.branch [
+      | then-before+in-Nothing w ↦
+          after_none c.args.s c.args.cfg c.args.time c.args.p _ _ w.write_request-taken.result _ w.write_request-taken.ensures w.buf-is w.receiver-is w.payload-is w.n-is w.in-Nothing.is
+      | then-before+in-Written w ↦
+          after_one c.args.s c.args.cfg c.args.time c.args.p _ _ w.write_request-taken.result _ w.write_request-taken.ensures w.buf-is w.receiver-is w.payload-is w.n-is w.in-Written.is
+      | else-before w ↦
+          after_not_due c.args.s c.args.cfg c.args.time c.args.p _ _ w.if-before.false w.buf-is w.receiver-is w.payload-is w.n-is
+    ]

@@ -3,7 +3,6 @@ use mathlib.Core.Path.{ap, ◌∙◌}
 use native.Mathlib.Omega.{arith}
 use Rattle.sender.specs.Requests.{index_of}
 use Rattle.writing.proofs.Places.{begins_none, begins_short, begins_new, begins_far}
-use borrow.Author.Rules.{rules}
 use Rattle.writing.proofs.placing.begins.Goals as goal
 
 pub returns-then-queue-eq0 : goal.returns-then-queue-eq0

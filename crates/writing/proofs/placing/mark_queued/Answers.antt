@@ -1,7 +1,6 @@
 -- The oldest where the mark's entry has left, else the mark's place, so many entries nearer to the oldest.
 use mathlib.Core.Path.{◌∙◌}
 use Rattle.writing.proofs.Places.{mark_left, mark_stays}
-use borrow.Author.Rules.{rules}
 use Rattle.writing.proofs.placing.mark_queued.Goals as goal
 
 pub returns-then-from-gone : goal.returns-then-from-gone

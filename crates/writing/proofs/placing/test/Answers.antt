@@ -3,7 +3,6 @@ use mathlib.Core.Path.{refl, sym, ◌∙◌}
 use Rattle.history.proofs.Queues.{queue_fit}
 use Rattle.history.proofs.StateTest.{answers_no}
 use Rattle.sender.proofs.Validity.{test_history, test_queue, test_idle}
-use borrow.Author.Rules.{rules}
 use Rattle.writing.proofs.placing.test.Goals as goal
 
 pub begins-requires : goal.begins-requires

@@ -3,7 +3,6 @@ use mathlib.Core.Path.{ap, ◌∙◌}
 use native.Mathlib.Omega.{arith}
 use Rattle.writing.proofs.Serving.{answer_error, answer_entries, answer_standing}
 use Rattle.sender.proofs.Validity.{valid_good, valid_unsent}
-use borrow.Author.Rules.{rules}
 use Rattle.rows.specs.Rows.{row_of}
 use Rattle.writing.proofs.tested.answer.Goals as goal
 

@@ -1,6 +1,5 @@
 -- Where not all is written, the payload decides.
 use Rattle.writing.proofs.Serving.{or_right}
-use borrow.Author.Rules.{rules}
 use Rattle.writing.proofs.tested.leaves.Goals as goal
 
 pub returns : goal.returns

@@ -1,16 +1,12 @@
-use mathlib.Core.Path.{◌≡◌, refl, ap, ◌∙◌}
-use mathlib.Core.Bool.{true}
-use Prim.Native.Nat.{◌+◌, ◌*◌, ◌≤◌}
+use mathlib.Core.Path.{refl, ap, ◌∙◌}
 use native.Mathlib.Omega.{arith}
-use lib.ListN.{length, get_or}
+use lib.ListN.{get_or}
 use borrow.Author.Rules.{rules}
 use Rattle.command.specs.declared.retransmit.RetransmitRequest.{RetransmitRequest}
-use Rattle.packet.specs.Write.{valid_of as payload_valid, start_of}
-use Rattle.history.specs.Queue.{Fit, blank}
+use Rattle.history.specs.Queue.{blank}
 use Rattle.history.specs.declared.queue.RetransmitQueue.{RetransmitQueue}
 use Rattle.rows.proofs.Filling.{start_most, out_valid, out_length, out_grows}
 use Rattle.sender.specs.Requests.{with_queue}
-use Rattle.writing.specs.Writing.{served_also, served_in, served_of}
 use Rattle.writing.proofs.Serving.{front_request, pop_made, popped_fit, served_start, served_few, served_popped, served_stays, served_end}
 use Rattle.sender.proofs.Validity.{valid_fit, valid_unsent, valid_few}
 use Rattle.writing.proofs.tested.serve.Goals as goal

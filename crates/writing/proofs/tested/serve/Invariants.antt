@@ -1,19 +1,12 @@
 -- What serving the requests that are left gives, after the commands that were written, is what serving all gives. The sender differs in its ring only.
-use mathlib.Core.Path.{◌≡◌, refl, ap, ◌∙◌}
+use mathlib.Core.Path.{◌≡◌}
 use mathlib.Core.Bool.{true}
 use Prim.Native.Nat.{◌+◌, ◌*◌, ◌≤◌}
-use native.Mathlib.Omega.{arith}
-use lib.ListN.{length, get_or}
-use borrow.Author.Rules.{rules}
-use Rattle.command.specs.declared.retransmit.RetransmitRequest.{RetransmitRequest}
+use lib.ListN.{length}
 use Rattle.packet.specs.Write.{valid_of as payload_valid, start_of}
-use Rattle.history.specs.Queue.{Fit, blank}
-use Rattle.history.specs.declared.queue.RetransmitQueue.{RetransmitQueue}
-use Rattle.rows.proofs.Filling.{start_most, out_valid, out_length, out_grows}
+use Rattle.history.specs.Queue.{Fit}
 use Rattle.sender.specs.Requests.{with_queue}
 use Rattle.writing.specs.Writing.{served_also, served_in, served_of}
-use Rattle.writing.proofs.Serving.{front_request, pop_made, popped_fit, served_start, served_few, served_popped, served_stays, served_end}
-use Rattle.sender.proofs.Validity.{valid_fit, valid_unsent, valid_few}
 use Rattle.writing.proofs.tested.serve.Given as goal
 
 abbrev pub invariant-loop-left : goal.invariant-loop-left

@@ -4,7 +4,6 @@ use Prim.Native.Nat.{◌≤◌, ◌<◌}
 use Rattle.config.specs.Sequence.{turn}
 use Rattle.writing.proofs.Serving.{out_sound, written_more, written_new}
 use Rattle.writing.proofs.Idling.{idled_next, mark_kept}
-use borrow.Author.Rules.{rules}
 use Rattle.sender.specs.Requests.{with_queue}
 use Rattle.rows.proofs.Filling.{start_most}
 use Rattle.writing.proofs.tested.write.Goals as goal

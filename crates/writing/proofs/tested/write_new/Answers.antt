@@ -3,7 +3,6 @@ use mathlib.Core.Path.{sym, ◌∙◌}
 use native.Mathlib.Omega.{arith}
 use Rattle.writing.proofs.Repeating.{at_most, less_than, least_few, last_standing, last_words, last_end, again_place, new_none, new_large, new_more, new_row_lem}
 use Rattle.sender.proofs.Validity.{valid_good, valid_unsent}
-use borrow.Author.Rules.{rules}
 use Rattle.writing.proofs.tested.write_new.Goals as goal
 
 pub returns-then-s-eq0 : goal.returns-then-s-eq0

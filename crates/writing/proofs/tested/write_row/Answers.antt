@@ -2,7 +2,6 @@
 use native.Mathlib.Omega.{arith}
 use Rattle.writing.proofs.Repeating.{row_standing, row_again, row_most, row_less, row_words, row_wrote}
 use Rattle.sender.proofs.Validity.{valid_few, valid_small}
-use borrow.Author.Rules.{rules}
 use Rattle.writing.proofs.tested.write_row.Goals as goal
 
 pub write_entries-out-requires : goal.write_entries-out-requires

@@ -1,6 +1,5 @@
 -- There are more words than headers exactly where one command has words.
 use Rattle.writing.proofs.Repeating.{off_starts, off_stays}
-use borrow.Author.Rules.{rules}
 use Rattle.writing.proofs.tested.written_off.Goals as goal
 
 pub returns-then-n-words : goal.returns-then-n-words

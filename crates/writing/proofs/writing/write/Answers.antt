@@ -1,7 +1,6 @@
 -- Settings, state and payload are tested, and the rest is `tested::write`.
 use mathlib.Core.Path.{sym, ◌∙◌}
 use Rattle.writing.proofs.Answers.{write_settings, write_state, write_payload, write_made}
-use borrow.Author.Rules.{rules}
 use Rattle.writing.proofs.writing.write.Goals as goal
 
 pub write-requires : goal.write-requires

@@ -1,7 +1,6 @@
 -- Each end starts, or the definition refuses the same size.
 use mathlib.Core.Path.{sym, ◌∙◌}
 use Rattle.stream.proofs.Answers.{new_settings, new_window, new_sender_lem, new_done}
-use borrow.Author.Rules.{rules}
 use Rattle.stream.proofs.stream.DataStream.new.Goals as goal
 
 pub returns-in-Refused : goal.returns-in-Refused

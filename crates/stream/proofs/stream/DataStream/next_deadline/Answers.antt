@@ -1,7 +1,6 @@
 -- Both states are tested, and the rest is `earlier`.
 use mathlib.Core.Path.{sym, ◌∙◌}
 use Rattle.stream.proofs.Answers.{deadline_refused_lem, deadline_told}
-use borrow.Author.Rules.{rules}
 use Rattle.stream.proofs.stream.DataStream.next_deadline.Goals as goal
 
 pub returns-then-is_valid : goal.returns-then-is_valid

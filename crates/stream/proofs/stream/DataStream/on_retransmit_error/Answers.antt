@@ -1,6 +1,5 @@
 -- The receiver's call.
 use Rattle.stream.proofs.Ends.{error_end}
-use borrow.Author.Rules.{rules}
 use Rattle.stream.proofs.stream.DataStream.on_retransmit_error.Goals as goal
 
 pub returns : goal.returns

@@ -1,6 +1,5 @@
 -- The receiver's call.
 use Rattle.stream.proofs.Ends.{nak_end}
-use borrow.Author.Rules.{rules}
 use Rattle.stream.proofs.stream.DataStream.on_retransmit_nak.Goals as goal
 
 pub returns : goal.returns

@@ -1,6 +1,5 @@
 -- The sender's call.
 use Rattle.stream.proofs.Ends.{request_end}
-use borrow.Author.Rules.{rules}
 use Rattle.stream.proofs.stream.DataStream.on_retransmit_request.Goals as goal
 
 pub returns : goal.returns

@@ -1,6 +1,5 @@
 -- The receiver's call.
 use Rattle.stream.proofs.Ends.{poll_end}
-use borrow.Author.Rules.{rules}
 use Rattle.stream.proofs.stream.DataStream.poll.Goals as goal
 
 pub returns : goal.returns

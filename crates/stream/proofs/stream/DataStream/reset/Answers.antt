@@ -2,7 +2,6 @@
 use mathlib.Core.Path.{sym, ◌∙◌}
 use Rattle.stream.proofs.Validity.{valid_receiver, valid_sender}
 use Rattle.stream.proofs.Answers.{reset_refused_lem, reset_done}
-use borrow.Author.Rules.{rules}
 use Rattle.stream.proofs.stream.DataStream.reset.Goals as goal
 
 pub reset-requires : goal.reset-requires

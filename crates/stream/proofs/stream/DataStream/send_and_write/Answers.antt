@@ -5,7 +5,6 @@ use native.Mathlib.Omega.{arith}
 use Rattle.config.specs.Sequence.{turn}
 use Rattle.sender.proofs.Validity.{valid_unsent}
 use Rattle.stream.proofs.Both.{queued_valid, queued_follows, both_settings, both_state, both_words, both_written}
-use borrow.Author.Rules.{rules}
 use Rattle.stream.proofs.stream.DataStream.send_and_write.Goals as goal
 use Rattle.stream.proofs.stream.DataStream.send_and_write.Goals.{Start}
 

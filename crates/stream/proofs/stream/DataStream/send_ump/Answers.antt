@@ -1,6 +1,5 @@
 -- The sender's call.
 use Rattle.stream.proofs.Ends.{send_end}
-use borrow.Author.Rules.{rules}
 use Rattle.stream.proofs.stream.DataStream.send_ump.Goals as goal
 
 pub returns : goal.returns

@@ -1,7 +1,6 @@
 -- Both states are tested; a due request, or else what the sender says.
 use mathlib.Core.Path.{sym, ◌∙◌}
 use Rattle.stream.proofs.Answers.{wants_refused_lem, wants_request, wants_sender}
-use borrow.Author.Rules.{rules}
 use Rattle.stream.proofs.stream.DataStream.wants_write.Goals as goal
 
 pub returns-then-receiver : goal.returns-then-receiver

@@ -1,6 +1,5 @@
 -- Settings, both states and the payload are tested, and the rest is `tested::write_data`.
 use mathlib.Core.Path.{sym, ◌∙◌}
-use borrow.Author.Rules.{rules}
 use Rattle.stream.proofs.Writing.{write_settings, write_state, write_payload, write_made}
 use Rattle.stream.proofs.stream.DataStream.write_data.Goals as goal
 

@@ -1,6 +1,5 @@
 -- The receiver's call.
 use Rattle.stream.proofs.Ends.{take_end}
-use borrow.Author.Rules.{rules}
 use Rattle.stream.proofs.stream.DataStream.write_request.Goals as goal
 
 pub returns : goal.returns
