@@ -6,7 +6,12 @@
 // is not written, but answers `refused 16` on standard error.
 #![tactic(auto)]
 
-use text::{lines, out};
+use std::io;
+use std::rt::Env;
+use text::{blocks, lines, out};
+
+// The most bytes of an argument.
+const WORD: usize = 4096;
 
 fn same(a: &[u8], b: &[u8]) -> bool {
     if a.len() != b.len() {
@@ -22,10 +27,8 @@ fn same(a: &[u8], b: &[u8]) -> bool {
     true
 }
 
-fn refused(answer: u8) {
-    io::write_all(2, b"refused ");
-    io::print_decimal(2, answer as u64);
-    io::write_all(2, b"\n");
+fn refused(rt: &impl Eprint, answer: u8) -> io::Result<()> {
+    eprintln!(rt; "refused {answer}")
 }
 
 fn stored(restore: bool, block: &[u8], to: &mut [u8]) -> u8 {
@@ -36,49 +39,63 @@ fn stored(restore: bool, block: &[u8], to: &mut [u8]) -> u8 {
 }
 
 // Writes a block, or why it is refused.
-fn put(restore: bool, block: &[u8], to: &mut [u8]) {
+fn put(rt: &(impl Print + Eprint), restore: bool, block: &[u8], to: &mut [u8]) -> io::Result<()> {
     let answer = stored(restore, block, to);
     if answer == 0 {
-        out::flush(&to[..], block.len());
-        return;
+        return out::flush(rt, &to[..], block.len());
     }
-    refused(answer);
+    refused(rt, answer)
 }
 
 // Reads a block and writes it, and answers whether another may follow.
-fn turn(restore: bool, input: &mut [u8], to: &mut [u8]) -> bool {
-    let n = io::read_full(0, input);
+fn turn(
+    rt: &(impl Print + Eprint + Input),
+    restore: bool,
+    input: &mut [u8],
+    to: &mut [u8],
+) -> io::Result<bool> {
+    let n = blocks::full(rt, input)?;
     let full = n == input.len();
-    put(restore, &input[..n], to);
-    full
+    put(rt, restore, &input[..n], to)?;
+    Ok(full)
 }
 
 // A proved loop has to end, and nothing says that the input does: it counts down from a number that
 // no run uses up.
-fn all(restore: bool, input: &mut [u8], to: &mut [u8]) {
+fn all(
+    rt: &(impl Print + Eprint + Input),
+    restore: bool,
+    input: &mut [u8],
+    to: &mut [u8],
+) -> io::Result<()> {
     let mut turns = u64::MAX;
     while 0 < turns {
-        let more = turn(restore, input, to);
+        let more = turn(rt, restore, input, to)?;
         turns = lines::to_go(turns, more);
     }
+    Ok(())
 }
 
-fn run(word: &[u8], input: &mut [u8], to: &mut [u8]) {
+fn run(
+    rt: &(impl Print + Eprint + Input),
+    word: &[u8],
+    input: &mut [u8],
+    to: &mut [u8],
+) -> io::Result<()> {
     if word.len() == 0 {
-        all(false, input, to);
-        return;
+        return all(rt, false, input, to);
     }
     if same(word, b"restore") {
-        all(true, input, to);
-        return;
+        return all(rt, true, input, to);
     }
-    io::write_all(2, b"columns [restore]\n");
+    eprintln!(rt; "columns [restore]")
 }
 
-fn main() {
-    let mut word = io::buffer();
-    let k = os::arg(1, &mut word);
-    let mut input = io::large_buffer();
-    let mut to = io::large_buffer();
-    run(&word[..k], &mut input, &mut to);
+// An argument that is missing or too long is as good as none.
+fn main(rt: HostRuntime) -> io::Result<()> {
+    let mut word = [0u8; WORD];
+    let k = rt.arg(1, &mut word).unwrap_or(0);
+    let mut input = [0u8; blocks::SIZE];
+    let mut to = [0u8; blocks::SIZE];
+    run(&rt, &word[..k], &mut input, &mut to)
 }

@@ -7,11 +7,13 @@
 #![tactic(auto)]
 
 ghost use Rattle.std.specs.Prelude.{◌≤◌, ◌<◌};
-ghost use Rattle.io.specs.Counts.{IsPrefixLen};
+ghost use Rattle.text.specs.Counts.{IsPrefixLen};
 
 use loss_sheet::sheet;
 use loss_sheet::sheet::{Answered, Sheet};
-use text::{fields, lines, out};
+use std::io;
+use std::rt::Env;
+use text::{blocks, fields, lines, out};
 
 // What is left after a block of input.
 #[derive(Clone, Copy)]
@@ -21,10 +23,8 @@ struct Left {
     more: bool,
 }
 
-fn refused(answer: u8) {
-    io::write_all(2, b"refused ");
-    io::print_decimal(2, answer as u64);
-    io::write_all(2, b"\n");
+fn refused(rt: &impl Eprint, answer: u8) -> io::Result<()> {
+    eprintln!(rt; "refused {answer}")
 }
 
 // Where the record at `at` ends, or the input in it.
@@ -39,70 +39,100 @@ fn end(len: usize, at: usize) -> usize
 }
 
 // The figures of some records, written where they are not refused.
-fn step(s: Sheet, ring: &mut [u32], bytes: &[u8], to: &mut [u8]) -> Answered {
+fn step(
+    rt: &impl Print,
+    s: Sheet,
+    ring: &mut [u32],
+    bytes: &[u8],
+    to: &mut [u8],
+) -> io::Result<Answered> {
     let a = s.block(ring, bytes, to);
     if a.refusal == 0 {
-        out::flush(&to[..], bytes.len());
-        return a;
+        out::flush(rt, &to[..], bytes.len())?;
+        return Ok(a);
     }
-    a
+    Ok(a)
 }
 
 // Record after record, each as a block of its own, up to the first that is refused.
-fn singly(first: Sheet, ring: &mut [u32], bytes: &[u8], to: &mut [u8]) {
+fn singly(
+    rt: &(impl Print + Eprint),
+    first: Sheet,
+    ring: &mut [u32],
+    bytes: &[u8],
+    to: &mut [u8],
+) -> io::Result<()> {
     let mut sheet = first;
     let mut at = 0;
     while at < bytes.len() {
         let next = end(bytes.len(), at);
-        let a = step(sheet, ring, &bytes[at..next], to);
+        let a = step(rt, sheet, ring, &bytes[at..next], to)?;
         sheet = a.sheet;
         at = next;
         if a.refusal != 0 {
-            refused(a.refusal);
-            return;
+            return refused(rt, a.refusal);
         }
     }
+    Ok(())
 }
 
 // Reads a block of input, and writes its figures; where it is refused, those of the records before.
-fn turn(s: Sheet, ring: &mut [u32], input: &mut [u8], to: &mut [u8]) -> Left {
-    let n = io::read_full(0, input);
+fn turn(
+    rt: &(impl Print + Eprint + Input),
+    s: Sheet,
+    ring: &mut [u32],
+    input: &mut [u8],
+    to: &mut [u8],
+) -> io::Result<Left> {
+    let n = blocks::full(rt, input)?;
     let full = n == input.len();
-    let a = step(s, ring, &input[..n], to);
+    let a = step(rt, s, ring, &input[..n], to)?;
     let next = a.sheet;
     if a.refusal == 0 {
-        return Left {
+        return Ok(Left {
             sheet: next,
             more: full,
-        };
+        });
     }
-    singly(s, ring, &input[..n], to);
-    Left {
+    singly(rt, s, ring, &input[..n], to)?;
+    Ok(Left {
         sheet: next,
         more: false,
-    }
+    })
 }
 
 // A proved loop has to end, and nothing says that the input does: it counts down from a number that
 // no run uses up.
-fn all(first: Sheet, ring: &mut [u32], input: &mut [u8], to: &mut [u8]) {
+fn all(
+    rt: &(impl Print + Eprint + Input),
+    first: Sheet,
+    ring: &mut [u32],
+    input: &mut [u8],
+    to: &mut [u8],
+) -> io::Result<()> {
     let mut sheet = first;
     let mut turns = u64::MAX;
     while 0 < turns {
-        let left = turn(sheet, ring, input, to);
+        let left = turn(rt, sheet, ring, input, to)?;
         sheet = left.sheet;
         turns = lines::to_go(turns, left.more);
     }
+    Ok(())
 }
 
-fn started(n: usize, ring: &mut [u32], input: &mut [u8], to: &mut [u8]) {
+fn started(
+    rt: &(impl Print + Eprint + Input),
+    n: usize,
+    ring: &mut [u32],
+    input: &mut [u8],
+    to: &mut [u8],
+) -> io::Result<()> {
     let a = sheet::start(n, ring);
     if a.refusal == 0 {
         let first = a.sheet;
-        all(first, ring, input, to);
-        return;
+        return all(rt, first, ring, input, to);
     }
-    refused(a.refusal);
+    refused(rt, a.refusal)
 }
 
 // How many of a ring's first `n` words there are.
@@ -115,17 +145,23 @@ fn places(ring: &[u32], n: usize) -> usize
     n
 }
 
-fn run(n: usize, ring: &mut [u32], input: &mut [u8], to: &mut [u8]) {
+fn run(
+    rt: &(impl Print + Eprint + Input),
+    n: usize,
+    ring: &mut [u32],
+    input: &mut [u8],
+    to: &mut [u8],
+) -> io::Result<()> {
     let m = places(&ring[..], n);
-    started(n, &mut ring[..m], input, to);
+    started(rt, n, &mut ring[..m], input, to)
 }
 
-// The first argument, after a blank.
-fn word(line: &mut [u8]) -> usize {
+// The first argument, after a blank; none where it is missing or too long.
+fn word(rt: &impl Env, line: &mut [u8]) -> usize {
     if line.len() == 0 {
         return 0;
     }
-    os::arg(1, &mut line[1..])
+    rt.arg(1, &mut line[1..]).unwrap_or(0)
 }
 
 // The figure after a blank; 0 where it is none.
@@ -146,12 +182,12 @@ fn whole(line: &[u8], k: usize) -> usize {
     figure(&line[..m])
 }
 
-fn main() {
+fn main(rt: HostRuntime) -> io::Result<()> {
     let mut line = [b' '; 32];
-    let k = word(&mut line);
+    let k = word(&rt, &mut line);
     let n = whole(&line, k);
     let mut ring = [0u32; 4096];
-    let mut input = io::large_buffer();
-    let mut to = io::large_buffer();
-    run(n, &mut ring, &mut input, &mut to);
+    let mut input = [0u8; blocks::SIZE];
+    let mut to = [0u8; blocks::SIZE];
+    run(&rt, n, &mut ring, &mut input, &mut to)
 }

@@ -1,7 +1,8 @@
 // One line: its figures, the step, and the answer.
-ghost use Rattle.io.specs.Counts.{IsPrefixLen};
+ghost use Rattle.text.specs.Counts.{IsPrefixLen};
 
 use config::answer::Outcome;
+use std::io;
 use text::fields::{Count, FAILED};
 use text::{fields, forms, lines, out};
 use uplink::grants::Step;
@@ -14,8 +15,9 @@ const BAD: usize = 0;
 
 const REFUSED: usize = 1;
 
-fn said(to: &mut [u8], used: usize, form: usize, n: u8) -> usize {
+fn said(rt: &impl Print, to: &mut [u8], used: usize, form: usize, n: u8) -> io::Result<usize> {
     forms::say(
+        rt,
         to,
         used,
         b"bad|refused #|",
@@ -55,37 +57,38 @@ fn grant_at(grants: [u16; 8], i: usize) -> u64 {
 }
 
 // The grants of `n` divisions, and the next turn.
-fn grants(to: &mut [u8], used: usize, step: Step, n: usize) -> usize {
+fn grants(rt: &impl Print, to: &mut [u8], used: usize, step: Step, n: usize) -> io::Result<usize> {
     let given = step.grants;
     let mut o = used;
     let mut i = 0;
     while i < n {
-        o = out::decimal(to, o, grant_at(given, i));
-        o = out::byte(to, o, b' ');
+        o = out::decimal(rt, to, o, grant_at(given, i))?;
+        o = out::byte(rt, to, o, b' ')?;
         i += 1;
     }
-    out::decimal(to, o, step.turn as u64)
+    out::decimal(rt, to, o, step.turn as u64)
 }
 
-fn step(to: &mut [u8], used: usize, step: Step, n: usize) -> usize {
+fn step(rt: &impl Print, to: &mut [u8], used: usize, step: Step, n: usize) -> io::Result<usize> {
     let answer = step.answer;
     match answer {
-        Outcome::Done => grants(to, used, step, n),
-        Outcome::Refused(why) => said(to, used, REFUSED, why.number()),
+        Outcome::Done => grants(rt, to, used, step, n),
+        Outcome::Refused(why) => said(rt, to, used, REFUSED, why.number()),
     }
 }
 
 // The figures of a line, and its answer.
-fn figures(to: &mut [u8], used: usize, line: &[u8]) -> usize {
+fn figures(rt: &impl Print, to: &mut [u8], used: usize, line: &[u8]) -> io::Result<usize> {
     let mut asked = [0u16; 2048];
     let words = fields::figure(line, 0, MOST);
     let turn = fields::figure(line, words.next, MOST);
     let read = wants(line, turn.next, &mut asked);
     let n = read.n;
     if read.next != line.len() {
-        return said(to, used, BAD, 0);
+        return said(rt, to, used, BAD, 0);
     }
     step(
+        rt,
         to,
         used,
         uplink::grants::grant(words.n as u16, turn.n as u16, &asked[..n]),
@@ -94,17 +97,17 @@ fn figures(to: &mut [u8], used: usize, line: &[u8]) -> usize {
 }
 
 // The answer to a line. A space stands before it, so that each of its fields follows one.
-pub fn answer(to: &mut [u8], used: usize, line: &[u8]) -> usize {
+pub fn answer(rt: &impl Print, to: &mut [u8], used: usize, line: &[u8]) -> io::Result<usize> {
     if line.len() == 0 {
-        return used;
+        return Ok(used);
     }
     if lines::skipped(&line[1..]) {
-        return used;
+        return Ok(used);
     }
     if lines::LIMIT < line.len() - 1 {
-        let o = said(to, used, BAD, 0);
-        return out::byte(to, o, b'\n');
+        let o = said(rt, to, used, BAD, 0)?;
+        return out::byte(rt, to, o, b'\n');
     }
-    let o = figures(to, used, line);
-    out::byte(to, o, b'\n')
+    let o = figures(rt, to, used, line)?;
+    out::byte(rt, to, o, b'\n')
 }

@@ -12,30 +12,36 @@ ghost use Rattle.std.specs.Prelude.{◌≤◌, length};
 
 mod line;
 
+use std::io;
 use text::lines::Input;
-use text::{lines, out};
+use text::{blocks, lines, out};
 
 // Line after line. A proved loop has to end, and nothing says that the input does: it counts down from
 // a number that no run uses up.
-fn all(input: &mut [u8], line: &mut [u8], out: &mut [u8])
+fn all(
+    rt: &(impl Print + io::Input),
+    input: &mut [u8],
+    line: &mut [u8],
+    out: &mut [u8],
+) -> io::Result<()>
     requires { 1 ≤ length line.old }
 {
     let mut from = Input::new();
     let mut waits = 0;
     let mut turns = u64::MAX;
     while 0 < turns {
-        from = lines::next(from, waits, input, &mut line[1..], &out[..]);
+        from = lines::next(rt, from, waits, input, &mut line[1..], &out[..])?;
         let n = lines::lent(&line[1..], from.line);
         let end = n + 1;
-        waits = line::answer(out, from.waits, &line[..end]);
+        waits = line::answer(rt, out, from.waits, &line[..end])?;
         turns = lines::to_go(turns, from.more);
     }
-    out::flush(&out[..], waits);
+    out::flush(rt, &out[..], waits)
 }
 
-fn main() {
-    let mut input = io::large_buffer();
-    let mut out = io::large_buffer();
+fn main(rt: HostRuntime) -> io::Result<()> {
+    let mut input = [0u8; blocks::SIZE];
+    let mut out = [0u8; blocks::SIZE];
     let mut line = [b' '; 4099];
-    all(&mut input, &mut line, &mut out);
+    all(&rt, &mut input, &mut line, &mut out)
 }

@@ -1,9 +1,7 @@
 -- The index stays below both lengths, which are the same.
 use mathlib.Core.Path.{◌≡◌}
 use Prim.Native.Nat.{◌-◌, ◌≤◌}
-use native.Mathlib.Omega.{arith}
 use lib.ListN.{length}
-use borrow.Author.Rules.{rules}
 use Rattle.columns.proofs.same.Given as goal
 
 abbrev pub invariant-loop-i : goal.invariant-loop-i

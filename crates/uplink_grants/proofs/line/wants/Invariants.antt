@@ -1,10 +1,7 @@
 -- One want a turn, as long as there is room.
 use Prim.Native.Nat.{◌-◌, ◌≤◌}
 use mathlib.Core.Path.{◌≡◌}
-use native.Mathlib.Omega.{arith}
-use lib.ListN.{length, length-set}
-use borrow.Author.Rules.{rules}
-use Rattle.io.proofs.Counting.{prefix_len_of_le}
+use lib.ListN.{length}
 use Rattle.uplink_grants.proofs.line.wants.Given as goal
 
 abbrev pub invariant-loop-next : goal.invariant-loop-next
