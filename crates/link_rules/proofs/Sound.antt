@@ -18,7 +18,6 @@ use Rattle.config.specs.inner.Tests.{split, and_left}
 use Rattle.packet.specs.Layout.{Packet}
 use Rattle.packet.specs.Write.{limit_of, start_of, done_of}
 use Rattle.packet.specs.declared.writer.PayloadWriter.{PayloadWriter}
-use Rattle.packet.proofs.Outcomes.{outcome}
 use Rattle.command.specs.Messages.{type_words, message_words, divided, messages_of, whole_of}
 use Rattle.command.specs.Write.{request_packet, is_defined}
 use Rattle.command.specs.declared.retransmit.RetransmitRequest.{RetransmitRequest}

@@ -1,6 +1,5 @@
 -- By cases.
 use Rattle.c_answers.specs.Answers.{acceptance_of, delivery_refused}
-use borrow.Author.Rules.{rules}
 use mathlib.Core.Path.{sym, ap, ◌∙◌}
 use Rattle.c_answers.proofs.answers.of_acceptance.Goals as goal
 

@@ -1,6 +1,5 @@
 -- Field by field.
 use Rattle.c_answers.proofs.Classes.{class_told}
-use borrow.Author.Rules.{rules}
 use Rattle.c_answers.proofs.answers.of_class.Goals as goal
 
 pub returns : goal.returns

@@ -1,6 +1,5 @@
 -- By cases.
 use Rattle.c_answers.specs.Answers.{outcome_of, outcome_refused, outcome_kind}
-use borrow.Author.Rules.{rules}
 use mathlib.Core.Path.{sym, ap, ◌∙◌}
 use Rattle.c_answers.proofs.answers.of_outcome.Goals as goal
 

@@ -1,6 +1,5 @@
 -- By cases.
 use Rattle.c_answers.specs.Answers.{span_numbers}
-use borrow.Author.Rules.{rules}
 use mathlib.Core.Path.{sym, ap}
 use Rattle.c_answers.proofs.answers.of_span.Goals as goal
 

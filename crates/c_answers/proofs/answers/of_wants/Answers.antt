@@ -1,6 +1,5 @@
 -- By cases.
 use Rattle.c_answers.specs.Answers.{wants_of, wants_refused}
-use borrow.Author.Rules.{rules}
 use mathlib.Core.Path.{sym, ap, ◌∙◌}
 use Rattle.c_answers.proofs.answers.of_wants.Goals as goal
 

@@ -1,6 +1,5 @@
 -- By cases.
 use Rattle.c_answers.specs.Sending.{sent_written_of, sent_written_refused, queued_written}
-use borrow.Author.Rules.{rules}
 use mathlib.Core.Path.{sym, ap, ◌∙◌}
 use Rattle.c_answers.proofs.sending.of_send_and_write.Goals as goal
 
