@@ -1,11 +1,6 @@
 -- Without the signature nothing is read; else the walk from byte 4 on is the whole.
 use native.Mathlib.Omega.{arith}
 use Rattle.link_tally.proofs.Walking.{arrive_unsigned, arrive_signed}
-use borrow.Author.Rules.{rules}
-use Rattle.link_tally.proofs.arriving.arrive.Reads as reads
-use Rattle.link_tally.proofs.arriving.arrive.Lts as lts
-use Rattle.link_tally.proofs.arriving.walk.Reads as walk_reads
-use Rattle.packet.proofs.cursor.command_packets.Reads as command_packets_reads
 use Rattle.link_tally.proofs.arriving.arrive.Goals as goal
 
 pub returns-in-Refused : goal.returns-in-Refused

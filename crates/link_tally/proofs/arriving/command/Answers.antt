@@ -1,12 +1,5 @@
 -- One law for each kind of command; other kinds and malformed ones pass.
-use native.Mathlib.Omega.{arith}
 use Rattle.link_tally.proofs.Tallies as tallies
-use borrow.Author.Rules.{rules}
-use Rattle.link_tally.proofs.arriving.command.Reads as reads
-use Rattle.link_tally.proofs.arriving.command.Lts as lts
-use Rattle.link_tally.proofs.arriving.error.Reads as error_reads
-use Rattle.link_tally.proofs.arriving.hear.Reads as hear_reads
-use Rattle.link_tally.proofs.arriving.request.Reads as request_reads
 use Rattle.link_tally.proofs.arriving.command.Goals as goal
 
 pub returns-in-UmpData : goal.returns-in-UmpData

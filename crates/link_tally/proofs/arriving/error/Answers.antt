@@ -2,11 +2,6 @@
 use mathlib.Core.List.{[]}
 use native.Mathlib.Omega.{arith}
 use Rattle.link_tally.proofs.Tallies as tallies
-use borrow.Author.Rules.{rules}
-use Rattle.link_tally.proofs.arriving.error.Reads as reads
-use Rattle.link_tally.proofs.arriving.error.Lts as lts
-use Rattle.link_tally.proofs.arriving.event_loss.Reads as event_loss_reads
-use Rattle.stream.proofs.stream.DataStream.on_retransmit_error.Reads as on_retransmit_error_reads
 use Rattle.link_tally.proofs.arriving.error.Goals as goal
 
 pub overflow_add-result : goal.overflow_add-result

@@ -2,12 +2,6 @@
 use mathlib.Core.List.{[]}
 use native.Mathlib.Omega.{arith}
 use Rattle.link_tally.proofs.Tallies as tallies
-use borrow.Author.Rules.{rules}
-use Rattle.link_tally.proofs.arriving.hear.Reads as reads
-use Rattle.link_tally.proofs.arriving.hear.Lts as lts
-use Rattle.link_tally.proofs.arriving.hands_on.Reads as hands_on_reads
-use Rattle.link_tally.proofs.arriving.span_loss.Reads as span_loss_reads
-use Rattle.stream.proofs.stream.DataStream.on_ump_data.Reads as on_ump_data_reads
 use Rattle.link_tally.proofs.arriving.hear.Goals as goal
 
 pub overflow_add-result : goal.overflow_add-result
