@@ -3,6 +3,7 @@
 ghost use Rattle.std.specs.Prelude.{◌≡◌};
 ghost use Rattle.script.specs.Answers.{entry_of, refused_by, unless_refused};
 
+use std::io;
 use text::forms;
 use text::forms::Answer;
 
@@ -46,8 +47,9 @@ pub const NO_GAP: usize = 27;
 pub const GAP: usize = 28;
 
 // Prints an answer.
-pub fn say(out: &mut [u8], used: usize, answer: Answer) -> usize {
+pub fn say(rt: &impl Print, out: &mut [u8], used: usize, answer: Answer) -> io::Result<usize> {
     forms::say(
+        rt,
         out,
         used,
         b"bad|ok|refused #||#|ok # # #|\

@@ -1,5 +1,5 @@
 // The call of a line: its name, its fields and its words.
-ghost use Rattle.io.specs.Counts.{IsPrefixLen};
+ghost use Rattle.text.specs.Counts.{IsPrefixLen};
 
 use text::{forms, lines};
 

@@ -1,6 +1,7 @@
 // What reading a payload finds, as text, the parts of an item joined by colons.
 use super::answers::of;
 use read_command::next::Read;
+use std::io;
 use text::forms::Answer;
 use text::{forms, out};
 
@@ -17,8 +18,9 @@ pub const ERROR: u8 = 5;
 
 const REFUSED: usize = 6;
 
-fn say(to: &mut [u8], used: usize, answer: Answer) -> usize {
+fn say(rt: &impl Print, to: &mut [u8], used: usize, answer: Answer) -> io::Result<usize> {
     forms::say(
+        rt,
         to,
         used,
         b"|cut:%:%:%:%|raw:%:%:%:|data:#:|request:#:#|error:#:#|refused:#|",
@@ -56,21 +58,34 @@ fn named(r: Read) -> Answer {
     }
 }
 
-pub fn item(to: &mut [u8], used: usize, r: Read, words: &[u32]) -> usize {
-    let o = say(to, used, named(r));
+pub fn item(
+    rt: &impl Print,
+    to: &mut [u8],
+    used: usize,
+    r: Read,
+    words: &[u32],
+) -> io::Result<usize> {
+    let o = say(rt, to, used, named(r))?;
     let kind = r.kind;
     match kind {
-        DATA => handed(to, o, r, words, b':'),
-        RAW => out::words(to, o, words, 0, r.len as usize),
-        _ => o,
+        DATA => handed(rt, to, o, r, words, b':'),
+        RAW => out::words(rt, to, o, words, 0, r.len as usize),
+        _ => Ok(o),
     }
 }
 
 // The words of a data command's whole messages, and whether they end inside a message.
-pub fn handed(to: &mut [u8], used: usize, r: Read, words: &[u32], between: u8) -> usize {
-    let one = out::words(to, used, words, 0, r.count as usize);
-    let two = out::byte(to, one, between);
-    out::decimal(to, two, cut(r))
+pub fn handed(
+    rt: &impl Print,
+    to: &mut [u8],
+    used: usize,
+    r: Read,
+    words: &[u32],
+    between: u8,
+) -> io::Result<usize> {
+    let one = out::words(rt, to, used, words, 0, r.count as usize)?;
+    let two = out::byte(rt, to, one, between)?;
+    out::decimal(rt, to, two, cut(r))
 }
 
 fn cut(r: Read) -> u64 {

@@ -1,6 +1,6 @@
 // What a run holds between two calls. The words of stream and settings lie beside it, as a C caller has
 // them, and so do the memory and the buffer that are lent.
-ghost use Rattle.io.specs.Counts.{IsPrefixLen};
+ghost use Rattle.text.specs.Counts.{IsPrefixLen};
 
 use super::calls::Call;
 use super::{answers, calls};

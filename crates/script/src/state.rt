@@ -6,6 +6,7 @@ use history::queue::RetransmitQueue;
 use idle::idle::IdleTimer;
 use receiver::receiver::{Asked, Receiver, Timer};
 use sender::sender::Sender;
+use std::io;
 use text::forms::Answer;
 use text::{forms, out};
 use window::window::ReceiveWindow;
@@ -41,8 +42,9 @@ const FURTHER: usize = 13;
 
 const HISTORY: usize = 14;
 
-fn say(to: &mut [u8], used: usize, answer: Answer) -> usize {
+fn say(rt: &impl Print, to: &mut [u8], used: usize, answer: Answer) -> io::Result<usize> {
     forms::say(
+        rt,
         to,
         used,
         b"highest # bits @@| timer -| timer #,#| due # refused #| asked -| asked #,#| \
@@ -72,18 +74,26 @@ fn asked(a: Asked) -> Answer {
 }
 
 // Four fields, one after the other.
-fn four(to: &mut [u8], used: usize, a: Answer, b: Answer, c: Answer, d: Answer) -> usize {
-    let one = say(to, used, a);
-    let two = say(to, one, b);
-    let three = say(to, two, c);
-    say(to, three, d)
+fn four(
+    rt: &impl Print,
+    to: &mut [u8],
+    used: usize,
+    a: Answer,
+    b: Answer,
+    c: Answer,
+    d: Answer,
+) -> io::Result<usize> {
+    let one = say(rt, to, used, a)?;
+    let two = say(rt, to, one, b)?;
+    let three = say(rt, to, two, c)?;
+    say(rt, to, three, d)
 }
 
-pub fn receiver(to: &mut [u8], used: usize, r: Receiver) -> usize {
+pub fn receiver(rt: &impl Print, to: &mut [u8], used: usize, r: Receiver) -> io::Result<usize> {
     let t = r.timer;
     let a = r.asked;
     let flags = of(FLAGS, bit(r.request_due), bit(r.refused), 0);
-    four(to, used, window(r.window), timer(t), flags, asked(a))
+    four(rt, to, used, window(r.window), timer(t), flags, asked(a))
 }
 
 fn places(h: SendHistory) -> Answer {
@@ -124,31 +134,43 @@ fn request(q: RetransmitRequest, place: usize) -> Answer {
 }
 
 // The requests that wait, oldest first.
-fn waiting(to: &mut [u8], used: usize, q: RetransmitQueue) -> usize {
+fn waiting(rt: &impl Print, to: &mut [u8], used: usize, q: RetransmitQueue) -> io::Result<usize> {
     let items = q.items;
     let mut o = used;
     let mut at = q.head;
     let mut i = 0;
     while i < q.len {
-        o = say(to, o, request(items[at % 16], i));
+        o = say(rt, to, o, request(items[at % 16], i))?;
         at = out::after(at, q.size);
         i += 1;
     }
-    o
+    Ok(o)
 }
 
 // The words in use.
-fn words(to: &mut [u8], used: usize, memory: &[u32], h: SendHistory) -> usize {
-    let o = say(to, used, plain(HISTORY));
-    out::words(to, o, memory, h.head, h.used)
+fn words(
+    rt: &impl Print,
+    to: &mut [u8],
+    used: usize,
+    memory: &[u32],
+    h: SendHistory,
+) -> io::Result<usize> {
+    let o = say(rt, to, used, plain(HISTORY))?;
+    out::words(rt, to, o, memory, h.head, h.used)
 }
 
-pub fn sender(to: &mut [u8], used: usize, s: Sender, memory: &[u32]) -> usize {
+pub fn sender(
+    rt: &impl Print,
+    to: &mut [u8],
+    used: usize,
+    s: Sender,
+    memory: &[u32],
+) -> io::Result<usize> {
     let h = s.history;
     let i = s.idle;
     let q = s.queue;
     let counts = unsent(h.last, s.unsent, s.unsent_words);
-    let one = four(to, used, places(h), counts, idle(i), ring(q.len));
-    let two = waiting(to, one, q);
-    words(to, two, memory, h)
+    let one = four(rt, to, used, places(h), counts, idle(i), ring(q.len))?;
+    let two = waiting(rt, to, one, q)?;
+    words(rt, to, two, memory, h)
 }

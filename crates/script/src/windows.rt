@@ -6,6 +6,7 @@ use super::calls::Call;
 use config::answer::Answered;
 use config::refusal::Refusal;
 use config::sequence::SeqNum;
+use std::io;
 use text::forms;
 use text::forms::Answer;
 use window::window::{Class, Classification, Extended, Extent, ReceiveWindow, SeqRange, Span};
@@ -33,8 +34,9 @@ const NUMBERS: usize = 9;
 
 const BITS: usize = 10;
 
-fn say(to: &mut [u8], used: usize, answer: Answer) -> usize {
+fn say(rt: &impl Print, to: &mut [u8], used: usize, answer: Answer) -> io::Result<usize> {
     forms::say(
+        rt,
         to,
         used,
         b"refused #|class N #|class L 0|class D 0| processed #| missing | request | marked |-|#,#| \
@@ -84,20 +86,32 @@ fn extent(e: Extent) -> Answer {
 }
 
 // What the window takes a number for, and whether it was processed.
-fn number(to: &mut [u8], used: usize, w: ReceiveWindow, seq: SeqNum) -> usize {
+fn number(
+    rt: &impl Print,
+    to: &mut [u8],
+    used: usize,
+    w: ReceiveWindow,
+    seq: SeqNum,
+) -> io::Result<usize> {
     let classified = w.classify(seq);
     let known = w.is_processed(seq);
     let answer = classified.answer;
     let knowledge = known.answer;
-    let o = say(to, used, class(answer));
-    say(to, o, processed(knowledge))
+    let o = say(rt, to, used, class(answer))?;
+    say(rt, to, o, processed(knowledge))
 }
 
 // A name, and the numbers that it has.
-fn extended(to: &mut [u8], used: usize, name: usize, by: Extended) -> usize {
+fn extended(
+    rt: &impl Print,
+    to: &mut [u8],
+    used: usize,
+    name: usize,
+    by: Extended,
+) -> io::Result<usize> {
     let answer = by.answer;
-    let o = say(to, used, plain(name));
-    say(to, o, extent(answer))
+    let o = say(rt, to, used, plain(name))?;
+    say(rt, to, o, extent(answer))
 }
 
 fn bits(w: ReceiveWindow) -> Answer {
@@ -106,18 +120,30 @@ fn bits(w: ReceiveWindow) -> Answer {
 }
 
 // What marking the range answers, and the bits that it leaves.
-fn marked(to: &mut [u8], used: usize, w: ReceiveWindow, range: SeqRange) -> usize {
+fn marked(
+    rt: &impl Print,
+    to: &mut [u8],
+    used: usize,
+    w: ReceiveWindow,
+    range: SeqRange,
+) -> io::Result<usize> {
     let after = w.mark_range(range);
-    let o = extended(to, used, MARKED, after);
-    say(to, o, bits(after.window))
+    let o = extended(rt, to, used, MARKED, after)?;
+    say(rt, to, o, bits(after.window))
 }
 
 // window NUMBER COUNT
-pub fn all(to: &mut [u8], used: usize, w: ReceiveWindow, c: Call) -> usize {
+pub fn all(
+    rt: &impl Print,
+    to: &mut [u8],
+    used: usize,
+    w: ReceiveWindow,
+    c: Call,
+) -> io::Result<usize> {
     let first = calls::half(c.a);
     let count = calls::half(c.b);
-    let one = number(to, used, w, first);
-    let two = extended(to, one, MISSING, w.missing());
-    let three = extended(to, two, REQUEST, w.request());
-    marked(to, three, w, SeqRange { first, count })
+    let one = number(rt, to, used, w, first)?;
+    let two = extended(rt, to, one, MISSING, w.missing())?;
+    let three = extended(rt, to, two, REQUEST, w.request())?;
+    marked(rt, to, three, w, SeqRange { first, count })
 }

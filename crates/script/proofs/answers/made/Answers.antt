@@ -1,6 +1,5 @@
 -- By the test of the number.
 use Rattle.script.specs.Answers.{unless_refused}
-use borrow.Author.Rules.{rules}
 use borrow.Author.Tests.{eq-eqb, ne_eqb}
 use Rattle.script.proofs.answers.made.Goals as goal
 

@@ -1,9 +1,7 @@
 -- The index stays below the length, and the settings keep theirs.
 use Prim.Native.Nat.{◌-◌, ◌≤◌}
-use borrow.Author.Rules.{rules}
-use lib.ListN.{length, length-set}
+use lib.ListN.{length}
 use mathlib.Core.Path.{◌≡◌}
-use native.Mathlib.Omega.{arith}
 use Rattle.script.proofs.calls.keep.Given as goal
 
 abbrev pub invariant-loop-i : goal.invariant-loop-i

@@ -1,12 +1,11 @@
 -- The count reaches the number of requests, and the buffer keeps its length.
 use Prim.Native.Nat.{◌-◌}
-use borrow.Author.Rules.{rules}
 use lib.ListN.{length}
 use mathlib.Core.Path.{◌≡◌}
 use Rattle.script.proofs.state.waiting.Given as goal
 
 abbrev pub invariant-loop-i : goal.invariant-loop-i
-invariant-loop-i l = length l.to ≡ length l.initial.to
+invariant-loop-i g l = length l.to ≡ length l.initial.to
 
 abbrev pub decreases-loop-i : goal.decreases-loop-i
-decreases-loop-i l = l.q.len - l.i
+decreases-loop-i g l = l.q.len - l.i
