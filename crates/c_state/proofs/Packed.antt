@@ -9,8 +9,6 @@ use borrow.Author.Tests.{eq-eqb, ne_eqb, eqb-true}
 use Rattle.config.specs.inner.Tests.{split, and_left, and_right}
 use Rattle.c_answers.specs.Answers.{bit}
 use Rattle.c_state.specs.Pack.{four_in, word, two_in, pair, flags_in, flags_number, held}
-use Rattle.c_state.specs.declared.pack.Quarters.{Quarters}
-use Rattle.c_state.specs.declared.pack.Halves.{Halves}
 use Rattle.c_state.specs.declared.pack.Flags.{Flags}
 
 -- ---- four of 16 bits

@@ -1,5 +1,5 @@
 -- What a data command or an error leaves of a receiver that was loaded has words that fit.
-use mathlib.Core.Path.{◌≡◌, refl, sym, ap, subst, ◌∙◌}
+use mathlib.Core.Path.{◌≡◌, sym, ap, subst, ◌∙◌}
 use mathlib.Core.Bool.{Bool, true, false, ◌&&◌}
 use mathlib.Core.List.{List}
 use Prim.Native.Nat.{ℕ, ◌<◌}
@@ -30,7 +30,7 @@ use Rattle.c_state.specs.Sender.{sender_holds}
 use Rattle.c_state.specs.Stream.{fits, receiver_in, with_receiver}
 use Rattle.c_state.specs.Theorems.{Wide, ReceiverSmall}
 use Rattle.c_state.proofs.Choices.{by_test, by_state, by_entry}
-use Rattle.c_state.proofs.Ends.{both_receiver, both_sender, both_whole, sender_stays}
+use Rattle.c_state.proofs.Ends.{both_sender, both_whole, sender_stays}
 use Rattle.c_state.proofs.Streams.{sender_long, receiver_length, receiver_taken, fits_sender}
 
 -- ---- figures as wide as their types

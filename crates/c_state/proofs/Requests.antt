@@ -7,7 +7,7 @@ use lib.ListN.{length, get_or, drop}
 use lib.Seq.{get_or-drop}
 use Rattle.command.specs.declared.retransmit.RetransmitRequest.{RetransmitRequest}
 use Rattle.history.specs.Queue.{blank}
-use Rattle.c_words.proofs.Runs.{run, run_all}
+use Rattle.c_words.proofs.Runs.{run_all}
 use Rattle.c_state.specs.Pack.{four_in}
 use Rattle.c_state.specs.Sender.{both_in, first_in, second_in, requests_in, request_words}
 use Rattle.c_state.specs.declared.pack.Quarters.{Quarters}

@@ -15,7 +15,7 @@ use Rattle.idle.specs.declared.idle.IdleTimer.{IdleTimer}
 use Rattle.idle.specs.declared.idle.IdleTimer.TheVariants.{Off, Waiting}
 use Rattle.sender.specs.State.{valid_of}
 use Rattle.sender.specs.Requests.{not_written, requested_of}
-use Rattle.sender.specs.Answers.{request_refused, request_answer}
+use Rattle.sender.specs.Answers.{request_answer}
 use Rattle.sender.specs.declared.sender.Sender.{Sender}
 use Rattle.sender.specs.declared.sender.RequestHeard.{RequestHeard}
 use Rattle.c_answers.specs.Answers.{bit}

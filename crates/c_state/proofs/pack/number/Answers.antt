@@ -3,7 +3,6 @@ use mathlib.Core.Path.{refl}
 use Rattle.c_state.specs.Pack.{flags_number}
 use Rattle.c_state.proofs.Packed.{bit_small}
 use native.Mathlib.Omega.{arith}
-use borrow.Author.Rules.{rules}
 use Rattle.c_state.proofs.pack.number.Goals as goal
 
 pub overflow_mul-result : goal.overflow_mul-result

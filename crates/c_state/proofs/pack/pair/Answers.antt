@@ -1,7 +1,6 @@
 -- The sum stays below 16 bits.
 use mathlib.Core.Path.{refl}
 use Rattle.c_state.specs.Pack.{pair}
-use borrow.Author.Rules.{rules}
 use Rattle.c_state.proofs.pack.pair.Goals as goal
 
 pub returns : goal.returns

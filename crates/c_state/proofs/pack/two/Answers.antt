@@ -1,7 +1,6 @@
 -- Each figure by its digits.
 use mathlib.Core.Path.{refl}
 use Rattle.c_state.specs.Pack.{two_in}
-use borrow.Author.Rules.{rules}
 use Rattle.c_state.proofs.pack.two.Goals as goal
 
 pub returns : goal.returns

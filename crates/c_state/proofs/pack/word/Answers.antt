@@ -1,7 +1,6 @@
 -- The sum stays below a word.
 use mathlib.Core.Path.{refl}
 use Rattle.c_state.specs.Pack.{word}
-use borrow.Author.Rules.{rules}
 use Rattle.c_state.proofs.pack.word.Goals as goal
 
 pub returns : goal.returns

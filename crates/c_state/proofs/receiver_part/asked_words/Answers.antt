@@ -1,7 +1,6 @@
 -- By cases.
 use mathlib.Core.Path.{sym, ap}
 use Rattle.c_state.specs.Receiver.{asked_words}
-use borrow.Author.Rules.{rules}
 use Rattle.c_state.proofs.receiver_part.asked_words.Goals as goal
 
 pub returns-in-Nothing : goal.returns-in-Nothing

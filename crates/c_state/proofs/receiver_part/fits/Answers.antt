@@ -2,7 +2,6 @@
 use mathlib.Core.Path.{sym, ◌∙◌}
 use Rattle.c_state.proofs.Receivers.{but_timer_flags, but_timer_fails, timer_last}
 use native.Mathlib.Omega.{arith}
-use borrow.Author.Rules.{rules}
 use Rattle.c_state.proofs.receiver_part.fits.Goals as goal
 
 pub overflow_cast-words : goal.overflow_cast-words

@@ -2,7 +2,6 @@
 use mathlib.Core.Path.{◌∙◌}
 use Rattle.c_state.proofs.Receivers.{upper_fails, flags_fail, asked_last}
 use native.Mathlib.Omega.{arith}
-use borrow.Author.Rules.{rules}
 use Rattle.c_state.proofs.receiver_part.fits_but_timer.Goals as goal
 
 pub returns-then-words-ne0 : goal.returns-then-words-ne0

@@ -1,7 +1,6 @@
 -- Each field is a figure.
 use Rattle.c_state.proofs.Receivers.{receiver_made}
 use native.Mathlib.Omega.{arith}
-use borrow.Author.Rules.{rules}
 use Rattle.c_state.proofs.receiver_part.load.Goals as goal
 
 pub overflow_cast-words : goal.overflow_cast-words

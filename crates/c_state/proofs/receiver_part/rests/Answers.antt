@@ -2,7 +2,6 @@
 use mathlib.Core.Path.{sym, ◌∙◌}
 use Rattle.c_state.proofs.Receivers.{but_timer_flags, rests_fails, running_rests, stopped_rests}
 use native.Mathlib.Omega.{arith}
-use borrow.Author.Rules.{rules}
 use Rattle.c_state.proofs.receiver_part.rests.Goals as goal
 
 pub overflow_cast-words : goal.overflow_cast-words

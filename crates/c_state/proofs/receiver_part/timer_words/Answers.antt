@@ -1,7 +1,6 @@
 -- By cases.
 use mathlib.Core.Path.{sym, ap}
 use Rattle.c_state.specs.Receiver.{timer_words}
-use borrow.Author.Rules.{rules}
 use Rattle.c_state.proofs.receiver_part.timer_words.Goals as goal
 
 pub returns-in-Stopped : goal.returns-in-Stopped

@@ -1,6 +1,5 @@
 -- Each field is a figure.
 use Rattle.c_state.proofs.Receivers.{window_made}
-use borrow.Author.Rules.{rules}
 use Rattle.c_state.proofs.receiver_part.window_in.Goals as goal
 
 pub returns : goal.returns

@@ -1,6 +1,5 @@
 -- The words of the window, and the others as they are.
 use Rattle.c_state.proofs.Receivers.{window_words_lem}
-use borrow.Author.Rules.{rules}
 use Rattle.c_state.proofs.receiver_part.with_window.Goals as goal
 
 pub returns : goal.returns

@@ -1,7 +1,6 @@
 -- Each figure in its place.
 use Rattle.c_state.proofs.Receivers.{receiver_words_lem}
 use native.Mathlib.Omega.{arith}
-use borrow.Author.Rules.{rules}
 use Rattle.c_state.proofs.receiver_part.words_of.Goals as goal
 
 pub overflow_cast-window : goal.overflow_cast-window

@@ -1,5 +1,4 @@
 -- No request waits, the timer is stopped, none is unanswered, and the window is the same.
-use borrow.Author.Rules.{rules}
 use Rattle.c_state.proofs.Hearings.{untrue, rest_is}
 use Rattle.c_state.proofs.receiving.at_rest.Goals as goal
 

@@ -1,7 +1,6 @@
 -- The state is tested, and then the call is made.
 use mathlib.Core.Path.{sym, ◌∙◌}
 use Rattle.c_state.proofs.Hearings.{heard_tested, heard_refused_lem}
-use borrow.Author.Rules.{rules}
 use Rattle.c_state.proofs.receiving.hear.Goals as goal
 
 pub hear_valid-requires : goal.hear_valid-requires

@@ -5,7 +5,6 @@ use Rattle.window.specs.declared.window.Arrival.{Arrival}
 use Rattle.window.proofs.Accepts.{taken_is}
 use Rattle.receiver.proofs.Validity.{valid_window, valid_taken}
 use Rattle.c_state.proofs.Hearings.{heard_into_lem}
-use borrow.Author.Rules.{rules}
 use Rattle.c_state.proofs.receiving.hear_ahead.Goals as goal
 use Rattle.c_state.proofs.receiving.hear_ahead.Goals.{After-class_ahead-class}
 

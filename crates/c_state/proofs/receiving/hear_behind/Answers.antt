@@ -5,7 +5,6 @@ use Rattle.receiver.specs.Receiver.{is_gap}
 use Rattle.receiver.proofs.Validity.{valid_window, valid_taken}
 use Rattle.c_state.specs.Stream.{with_receiver}
 use Rattle.c_state.proofs.Hearings.{kept_settled, behind_no_gap, heard_into_lem}
-use borrow.Author.Rules.{rules}
 use Rattle.c_state.proofs.receiving.hear_behind.Goals as goal
 
 pub accept_behind-taken-requires : goal.accept_behind-taken-requires

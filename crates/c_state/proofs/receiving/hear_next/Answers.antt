@@ -7,7 +7,6 @@ use Rattle.receiver.proofs.Validity.{valid_window, valid_taken}
 use Rattle.c_state.specs.Stream.{with_receiver}
 use Rattle.c_state.proofs.Streams.{receiver_known}
 use Rattle.c_state.proofs.Hearings.{valid_narrow, settled_rest, heard_into_lem}
-use borrow.Author.Rules.{rules}
 use Rattle.c_state.proofs.receiving.hear_next.Goals as goal
 
 pub accept_next-taken-requires : goal.accept_next-taken-requires

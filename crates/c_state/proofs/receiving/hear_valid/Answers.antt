@@ -1,7 +1,6 @@
 -- The number is in order, ahead or behind, and each way meets the contract.
 use mathlib.Core.Path.{sym, ◌∙◌}
 use Rattle.receiver.proofs.Validity.{valid_window}
-use borrow.Author.Rules.{rules}
 use Rattle.c_state.proofs.receiving.hear_valid.Goals as goal
 
 pub in_order-requires : goal.in_order-requires

@@ -1,7 +1,6 @@
 -- The state is tested, and then the call is made.
 use mathlib.Core.Path.{sym, ◌∙◌}
 use Rattle.c_state.proofs.Hearings.{told_tested, told_refused}
-use borrow.Author.Rules.{rules}
 use Rattle.c_state.proofs.receiving.poll.Goals as goal
 
 pub poll_valid-requires : goal.poll_valid-requires

@@ -2,7 +2,6 @@
 use Rattle.receiver.proofs.Validity.{valid_window}
 use Rattle.c_state.proofs.Streams.{receiver_known}
 use Rattle.c_state.proofs.Hearings.{valid_narrow, polled_early, polled_narrow, told_into_lem}
-use borrow.Author.Rules.{rules}
 use Rattle.c_state.proofs.receiving.poll_running.Goals as goal
 
 pub returns-then-time-t : goal.returns-then-time-t

@@ -1,6 +1,5 @@
 -- A timer that is stopped changes nothing.
 use Rattle.c_state.proofs.Hearings.{polled_stopped}
-use borrow.Author.Rules.{rules}
 use Rattle.c_state.proofs.receiving.poll_valid.Goals as goal
 
 pub returns-in-Stopped : goal.returns-in-Stopped

@@ -5,7 +5,6 @@ use Rattle.c_state.specs.Receiver.{with_window}
 use Rattle.c_state.specs.Stream.{with_receiver}
 use Rattle.c_state.proofs.Streams.{receiver_known}
 use Rattle.c_state.proofs.Hearings.{valid_narrow, settled_rest, settled_started, settled_window}
-use borrow.Author.Rules.{rules}
 use Rattle.c_state.proofs.receiving.settle.Goals as goal
 
 pub store_rest-requires : goal.store_rest-requires

@@ -5,7 +5,6 @@ use Rattle.c_state.specs.Receiver.{with_window}
 use Rattle.c_state.specs.Stream.{with_receiver}
 use Rattle.c_state.proofs.Streams.{receiver_known}
 use Rattle.c_state.proofs.Hearings.{valid_narrow, words_stay, kept_rest, kept_window, rest_kept, window_kept}
-use borrow.Author.Rules.{rules}
 use Rattle.c_state.proofs.receiving.settle_behind.Goals as goal
 
 pub returns-then-at_rest : goal.returns-then-at_rest

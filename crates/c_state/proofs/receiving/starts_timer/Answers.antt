@@ -1,6 +1,5 @@
 -- The tests, one by one.
 use mathlib.Core.Path.{sym, ◌∙◌}
-use borrow.Author.Rules.{rules}
 use Rattle.c_state.proofs.Hearings.{starts_by, starts_disabled, starts_no_gap}
 use Rattle.c_state.proofs.receiving.starts_timer.Goals as goal
 

@@ -2,7 +2,6 @@
 use mathlib.Core.Path.{sym, ◌∙◌}
 use Rattle.c_state.proofs.Waiting.{waits_short, waits_invalid, waits_made}
 use Rattle.c_state.proofs.Streams.{part_lengths}
-use borrow.Author.Rules.{rules}
 use Rattle.c_state.proofs.receiving.waits.Goals as goal
 
 pub returns-then-words-ne-WORDS : goal.returns-then-words-ne-WORDS

@@ -1,7 +1,6 @@
 -- Each figure in its place.
 use Rattle.c_state.proofs.Senders.{figure_words_lem}
 use native.Mathlib.Omega.{arith}
-use borrow.Author.Rules.{rules}
 use Rattle.c_state.proofs.sender_part.figures.Goals as goal
 
 pub overflow_cast-history : goal.overflow_cast-history

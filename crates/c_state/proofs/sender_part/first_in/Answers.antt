@@ -1,6 +1,5 @@
 -- By its figures.
 use Rattle.c_state.proofs.Requests.{first_made}
-use borrow.Author.Rules.{rules}
 use Rattle.c_state.proofs.sender_part.first_in.Goals as goal
 
 pub returns : goal.returns

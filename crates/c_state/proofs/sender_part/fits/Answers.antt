@@ -1,7 +1,6 @@
 -- The flag, and the figures beside it.
 use mathlib.Core.Path.{◌∙◌}
 use Rattle.c_state.proofs.Senders.{flag_fails, idle_last}
-use borrow.Author.Rules.{rules}
 use Rattle.c_state.proofs.sender_part.fits.Goals as goal
 
 pub returns-then-top-gt1 : goal.returns-then-top-gt1

@@ -1,6 +1,5 @@
 -- Each field is a figure.
 use Rattle.c_state.proofs.Senders.{history_made}
-use borrow.Author.Rules.{rules}
 use Rattle.c_state.proofs.sender_part.history_in.Goals as goal
 
 pub returns : goal.returns

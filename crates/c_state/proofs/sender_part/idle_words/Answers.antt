@@ -1,7 +1,6 @@
 -- By cases.
 use mathlib.Core.Path.{sym, ap}
 use Rattle.c_state.specs.Sender.{idle_words}
-use borrow.Author.Rules.{rules}
 use Rattle.c_state.proofs.sender_part.idle_words.Goals as goal
 
 pub returns-in-Off : goal.returns-in-Off

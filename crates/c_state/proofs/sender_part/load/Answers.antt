@@ -1,6 +1,5 @@
 -- Part by part.
 use Rattle.c_state.proofs.Senders.{sender_made}
-use borrow.Author.Rules.{rules}
 use Rattle.c_state.proofs.sender_part.load.Goals as goal
 
 pub history_in-requires : goal.history_in-requires

@@ -3,7 +3,6 @@ use mathlib.Core.Path.{ap, ◌∙◌}
 use Rattle.c_state.specs.Sender.{requests_in}
 use Rattle.c_state.proofs.Parts.{rest_whole, rest_length}
 use Rattle.c_state.proofs.Senders.{queue_made}
-use borrow.Author.Rules.{rules}
 use Rattle.c_state.proofs.sender_part.queue_in.Goals as goal
 
 pub requests_in-requires : goal.requests_in-requires

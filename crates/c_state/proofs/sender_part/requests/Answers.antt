@@ -1,6 +1,5 @@
 -- Word by word.
 use Rattle.c_state.proofs.Requests.{words_made}
-use borrow.Author.Rules.{rules}
 use Rattle.c_state.proofs.sender_part.requests.Goals as goal
 
 pub returns : goal.returns

@@ -1,7 +1,6 @@
 -- Word by word.
 use Rattle.c_state.proofs.Requests.{requests_made}
 use native.Mathlib.Omega.{arith}
-use borrow.Author.Rules.{rules}
 use Rattle.c_state.proofs.sender_part.requests_in.Goals as goal
 
 pub bounds-words-0 : goal.bounds-words-0

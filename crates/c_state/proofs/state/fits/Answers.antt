@@ -1,7 +1,6 @@
 -- The receiver's words, then the sender's.
 use mathlib.Core.Path.{sym, ◌∙◌}
 use Rattle.c_state.proofs.Streams.{fits_sender, fits_not}
-use borrow.Author.Rules.{rules}
 use Rattle.c_state.proofs.state.fits.Goals as goal
 
 pub returns-then-receiver_fits : goal.returns-then-receiver_fits

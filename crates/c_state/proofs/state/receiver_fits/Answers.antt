@@ -1,7 +1,6 @@
 -- The length, then the receiver's part.
 use mathlib.Core.Path.{◌∙◌}
 use Rattle.c_state.proofs.Streams.{receiver_short, receiver_long, part_lengths}
-use borrow.Author.Rules.{rules}
 use Rattle.c_state.proofs.state.receiver_fits.Goals as goal
 
 pub returns-then-words-ne-WORDS : goal.returns-then-words-ne-WORDS

@@ -3,7 +3,6 @@ use mathlib.Core.Path.{ap, ◌∙◌}
 use Rattle.c_state.specs.Sender.{sender_holds}
 use Rattle.c_state.proofs.Parts.{rest_whole, rest_length}
 use Rattle.c_state.proofs.Streams.{sender_short, sender_long}
-use borrow.Author.Rules.{rules}
 use Rattle.c_state.proofs.state.sender_fits.Goals as goal
 
 pub returns-then-words-ne-WORDS : goal.returns-then-words-ne-WORDS

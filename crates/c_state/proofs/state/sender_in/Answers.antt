@@ -4,15 +4,13 @@ use Rattle.c_state.specs.Sender.{sender_of}
 use Rattle.c_state.proofs.Parts.{rest_whole, rest_length}
 use Rattle.c_state.proofs.Streams.{sender_known}
 use native.Mathlib.Omega.{arith}
-use borrow.Author.Rules.{rules}
 use Rattle.c_state.proofs.state.sender_in.Goals as goal
 
 pub slice_bounds-load-count : goal.slice_bounds-load-count
 slice_bounds-load-count c = omega (arith, (sender_known c.args.words.now c.requires).0)
 
--- LEFT slice-bounds-load-start
--- part-load-start : tie.Need-slice-bounds-load-start
--- part-load-start c = omega (arith, (sender_known c.before.args.words.now c.before.requires).0)
+pub slice_bounds-load-start : goal.slice_bounds-load-start
+slice_bounds-load-start c = omega (arith, (sender_known c.args.words.now c.requires).0)
 
 pub load-requires : goal.load-requires
 load-requires c =

@@ -2,7 +2,6 @@
 use mathlib.Core.Path.{sym, ap, ◌∙◌}
 use Rattle.c_state.specs.Stream.{with_receiver}
 use Rattle.c_state.proofs.Streams.{receiver_known, receiver_same}
-use borrow.Author.Rules.{rules}
 use Rattle.c_state.proofs.state.store_changed.Goals as goal
 
 pub store_receiver-requires : goal.store_receiver-requires

@@ -5,7 +5,6 @@ use Rattle.packet.specs.Bytes.{spliced}
 use Rattle.c_state.proofs.Senders.{length_figures}
 use Rattle.c_state.proofs.Streams.{sender_known, figures_put}
 use native.Mathlib.Omega.{arith}
-use borrow.Author.Rules.{rules}
 use Rattle.c_state.proofs.state.store_figures.Goals as goal
 
 pub put-requires : goal.put-requires

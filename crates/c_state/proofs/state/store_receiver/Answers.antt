@@ -4,7 +4,6 @@ use lib.ListN.{length}
 use Rattle.packet.specs.Bytes.{spliced}
 use Rattle.c_state.proofs.Receivers.{length_receiver}
 use native.Mathlib.Omega.{arith}
-use borrow.Author.Rules.{rules}
 use Rattle.c_state.proofs.state.store_receiver.Goals as goal
 
 pub words_of-new-requires : goal.words_of-new-requires

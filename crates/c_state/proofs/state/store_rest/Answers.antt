@@ -3,7 +3,6 @@ use mathlib.Core.Path.{sym, ap, subst, ◌∙◌}
 use Prim.Native.Nat.{◌<◌}
 use Rattle.receiver.specs.declared.receiver.Receiver.{Receiver}
 use Rattle.c_state.specs.Stream.{with_receiver}
-use borrow.Author.Rules.{rules}
 use Rattle.c_state.proofs.state.store_rest.Goals as goal
 
 pub store_receiver-requires : goal.store_receiver-requires

@@ -9,7 +9,6 @@ use Rattle.c_state.proofs.Requests.{length_words}
 use Rattle.c_state.proofs.Senders.{length_figures}
 use Rattle.c_state.proofs.Streams.{figures_length, sender_put}
 use native.Mathlib.Omega.{arith}
-use borrow.Author.Rules.{rules}
 use Rattle.c_state.proofs.state.store_sender.Goals as goal
 
 pub figures-new-requires : goal.figures-new-requires

@@ -7,12 +7,10 @@ use Rattle.c_state.specs.Stream.{receiver_in}
 use Rattle.c_state.proofs.Receivers.{length_receiver}
 use Rattle.c_state.proofs.Streams.{receiver_known, part_lengths}
 use native.Mathlib.Omega.{arith}
-use borrow.Author.Rules.{rules}
 use Rattle.c_state.proofs.state.store_window.Goals as goal
 
--- LEFT slice-bounds-with-window-end
--- part-with-window-end : tie.Need-slice-bounds-with-window-end
--- part-with-window-end c = omega (arith, (receiver_known c.before.before.args.words.now c.before.before.requires.0).0)
+pub slice_bounds-with_window-end : goal.slice_bounds-with_window-end
+slice_bounds-with_window-end c = omega (arith, (receiver_known c.args.words.now c.requires.0).0)
 
 pub with_window-new-requires : goal.with_window-new-requires
 with_window-new-requires c = let k = receiver_known c.args.words.now c.requires.0 in ((part_lengths c.args.words.now k.0).0, k.1, c.requires.1)

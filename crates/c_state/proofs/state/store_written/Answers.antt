@@ -5,7 +5,6 @@ use Prim.Native.Nat.{ℕ}
 use lib.ListN.{length}
 use Rattle.c_state.specs.Stream.{with_sender}
 use Rattle.c_state.proofs.Streams.{both_fit, receiver_known, stream_put, receiver_length}
-use borrow.Author.Rules.{rules}
 use Rattle.c_state.proofs.state.store_written.Goals as goal
 
 pub store_changed-requires : goal.store_changed-requires

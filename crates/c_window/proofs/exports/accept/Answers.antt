@@ -3,7 +3,6 @@ use mathlib.Core.Path.{sym, ap, ◌∙◌}
 use Rattle.window.proofs.Validity.{valid_of_lem}
 use Rattle.c_window.specs.Window.{taken_into}
 use Rattle.c_window.proofs.Accepting.{accepted_valid, accepted_refused}
-use borrow.Author.Rules.{rules}
 use Rattle.c_window.proofs.exports.accept.Goals as goal
 
 pub in_order-requires : goal.in_order-requires

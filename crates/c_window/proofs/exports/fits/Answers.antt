@@ -1,7 +1,6 @@
 -- Each test is one of the definition.
 use Rattle.c_window.proofs.Windows.{window_short, window_large, window_last}
 use native.Mathlib.Omega.{arith}
-use borrow.Author.Rules.{rules}
 use Rattle.c_window.proofs.exports.fits.Goals as goal
 
 pub returns-then-words-ne4 : goal.returns-then-words-ne4

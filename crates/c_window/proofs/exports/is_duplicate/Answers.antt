@@ -1,7 +1,6 @@
 -- By cases.
 use mathlib.Core.Path.{sym, ap}
 use Rattle.c_window.specs.Window.{is_duplicate}
-use borrow.Author.Rules.{rules}
 use Rattle.c_window.proofs.exports.is_duplicate.Goals as goal
 
 pub returns-in-Duplicate : goal.returns-in-Duplicate

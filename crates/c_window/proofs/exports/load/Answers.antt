@@ -1,6 +1,5 @@
 -- Words that pass the test fit.
 use Rattle.c_window.proofs.Windows.{window_known}
-use borrow.Author.Rules.{rules}
 use Rattle.c_window.proofs.exports.load.Goals as goal
 
 pub known-requires : goal.known-requires

@@ -2,7 +2,6 @@
 use mathlib.Core.Path.{◌∙◌}
 use native.Mathlib.Omega.{arith}
 use Rattle.c_words.proofs.Within.{put_whole}
-use borrow.Author.Rules.{rules}
 use Rattle.c_window.proofs.exports.renewed.Goals as goal
 
 pub renew-requires : goal.renew-requires

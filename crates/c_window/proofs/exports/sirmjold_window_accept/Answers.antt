@@ -4,7 +4,6 @@ use Rattle.c_words.proofs.Entries.{made, words_refused}
 use Rattle.c_window.specs.Window.{accept_export}
 use Rattle.c_window.proofs.Windows.{window_known}
 use Rattle.c_window.proofs.Accepting.{accepted_out}
-use borrow.Author.Rules.{rules}
 use Rattle.c_window.proofs.exports.sirmjold_window_accept.Goals as goal
 
 pub load-before-requires : goal.load-before-requires

@@ -1,7 +1,6 @@
 -- The new window is stored.
 use Rattle.c_window.specs.Window.{start_export}
 use Rattle.c_words.proofs.Entries.{made, words_refused}
-use borrow.Author.Rules.{rules}
 use borrow.Author.Tests.{eq-eqb, ne_eqb}
 use mathlib.Core.Path.{refl}
 use Rattle.c_window.proofs.exports.sirmjold_window_starting_at.Goals as goal

@@ -1,6 +1,5 @@
 -- By cases.
 use Rattle.c_window.proofs.Windows.{started_window, started_refused}
-use borrow.Author.Rules.{rules}
 use Rattle.c_window.proofs.exports.start.Goals as goal
 
 pub store-requires : goal.store-requires

@@ -1,5 +1,4 @@
 -- Its words are stored.
-use borrow.Author.Rules.{rules}
 use Rattle.c_window.proofs.exports.take.Goals as goal
 
 pub returns : goal.returns

@@ -2,7 +2,6 @@
 use mathlib.Core.Path.{ap, ◌∙◌}
 use Rattle.window.proofs.Accepts.{taken_is}
 use Rattle.c_window.specs.Window.{taken_into}
-use borrow.Author.Rules.{rules}
 use Rattle.c_window.proofs.exports.take_ahead.Goals as goal
 
 pub lost_to-lost-requires : goal.lost_to-lost-requires

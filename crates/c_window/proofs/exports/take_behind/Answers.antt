@@ -2,7 +2,6 @@
 use mathlib.Core.Path.{sym, ap, ◌∙◌}
 use Rattle.c_window.specs.Window.{is_duplicate, taken_into}
 use Rattle.c_window.proofs.Accepting.{duplicate_stays}
-use borrow.Author.Rules.{rules}
 use Rattle.c_window.proofs.exports.take_behind.Goals as goal
 
 pub classify-requires : goal.classify-requires
