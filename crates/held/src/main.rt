@@ -22,9 +22,10 @@ use held_notes::held::{Given, HeldNotes};
 use held_notes::listing::Notes;
 use held_notes::{held, listing};
 use receiver::receiver::{Delivery, Hearing, StreamEvent};
+use std::io;
 use text::forms::Answer;
 use text::lines::Input;
-use text::{forms, lines, out};
+use text::{blocks, forms, lines, out};
 use window::window::{Class, SeqRange, Span};
 
 // The entries of the table in `line_of`, in its order; 0 is no call, and the others are deliveries.
@@ -66,7 +67,14 @@ struct Session {
 
 // ---- printing
 
-fn say(to: &mut [u8], used: usize, form: usize, a: u64, b: u64) -> usize {
+fn say(
+    rt: &impl Print,
+    to: &mut [u8],
+    used: usize,
+    form: usize,
+    a: u64,
+    b: u64,
+) -> io::Result<usize> {
     let said = Answer {
         form,
         a,
@@ -74,49 +82,61 @@ fn say(to: &mut [u8], used: usize, form: usize, a: u64, b: u64) -> usize {
         c: 0,
         d: 0,
     };
-    forms::say(to, used, b"bad|given|held|refused #| #:#|", said)
+    forms::say(rt, to, used, b"bad|given|held|refused #| #:#|", said)
 }
 
 // An answer that is its line.
-fn say_line(to: &mut [u8], used: usize, form: usize, a: u64) -> usize {
-    let o = say(to, used, form, a, 0);
-    out::byte(to, o, b'\n')
+fn say_line(rt: &impl Print, to: &mut [u8], used: usize, form: usize, a: u64) -> io::Result<usize> {
+    let o = say(rt, to, used, form, a, 0)?;
+    out::byte(rt, to, o, b'\n')
 }
 
 // A note, if it is one of those to be shown.
-fn one(to: &mut [u8], used: usize, note: u16, shown: bool) -> usize {
+fn one(rt: &impl Print, to: &mut [u8], used: usize, note: u16, shown: bool) -> io::Result<usize> {
     if shown {
-        return say(to, used, NOTE, (note / 128) as u64, (note % 128) as u64);
+        return say(rt, to, used, NOTE, (note / 128) as u64, (note % 128) as u64);
     }
-    used
+    Ok(used)
 }
 
 // The first `count` notes.
-fn several(to: &mut [u8], used: usize, items: &[u16], count: usize) -> usize {
+fn several(
+    rt: &impl Print,
+    to: &mut [u8],
+    used: usize,
+    items: &[u16],
+    count: usize,
+) -> io::Result<usize> {
     let mut o = used;
     let mut i = 0;
     while i < items.len() {
-        o = one(to, o, items[i], i < count);
+        o = one(rt, to, o, items[i], i < count)?;
         i += 1;
     }
-    o
+    Ok(o)
 }
 
 // An answer and its notes.
-fn printed(to: &mut [u8], used: usize, form: usize, notes: Notes) -> usize {
+fn printed(
+    rt: &impl Print,
+    to: &mut [u8],
+    used: usize,
+    form: usize,
+    notes: Notes,
+) -> io::Result<usize> {
     let items = notes.items;
-    let o = say(to, used, form, 0, 0);
-    let o = several(to, o, &items[..], notes.count);
-    out::byte(to, o, b'\n')
+    let o = say(rt, to, used, form, 0, 0)?;
+    let o = several(rt, to, o, &items[..], notes.count)?;
+    out::byte(rt, to, o, b'\n')
 }
 
 // What a call gave.
-fn shown(to: &mut [u8], used: usize, given: Given) -> usize {
+fn shown(rt: &impl Print, to: &mut [u8], used: usize, given: Given) -> io::Result<usize> {
     let answer = given.answer;
     let notes = given.notes;
     match answer {
-        Outcome::Done => printed(to, used, GIVES, notes),
-        Outcome::Refused(why) => { say_line(to, used, REFUSES, why.number() as u64) }
+        Outcome::Done => printed(rt, to, used, GIVES, notes),
+        Outcome::Refused(why) => { say_line(rt, to, used, REFUSES, why.number() as u64) }
     }
 }
 
@@ -219,39 +239,46 @@ fn is_call(kind: usize, started: bool) -> bool {
     started
 }
 
-fn run(s: Session, kind: usize, figure: u64, words: &[u32], to: &mut [u8]) -> Session {
+fn run(
+    rt: &impl Print,
+    s: Session,
+    kind: usize,
+    figure: u64,
+    words: &[u32],
+    to: &mut [u8],
+) -> io::Result<Session> {
     let state = s.state;
     if is_call(kind, s.started) {
         if kind == HELD {
             let held = state.held;
-            let waits = printed(to, s.waits, HOLDS, listing::listed(held));
-            return Session {
+            let waits = printed(rt, to, s.waits, HOLDS, listing::listed(held))?;
+            return Ok(Session {
                 state,
                 started: true,
                 waits,
-            };
+            });
         }
         let given = called(state, kind, figure, words);
         let after = given.state;
-        let waits = shown(to, s.waits, given);
-        return Session {
+        let waits = shown(rt, to, s.waits, given)?;
+        return Ok(Session {
             state: after,
             started: true,
             waits,
-        };
+        });
     }
-    let waits = say_line(to, s.waits, BAD, 0);
-    Session {
+    let waits = say_line(rt, to, s.waits, BAD, 0)?;
+    Ok(Session {
         state,
         started: s.started,
         waits,
-    }
+    })
 }
 
 // A line without its end.
-fn line_of(s: Session, line: &[u8], to: &mut [u8]) -> Session {
+fn line_of(rt: &impl Print, s: Session, line: &[u8], to: &mut [u8]) -> io::Result<Session> {
     if lines::skipped(line) {
-        return s;
+        return Ok(s);
     }
     let mut figures = [0u64; 1];
     let mut words = [0u32; 255];
@@ -263,17 +290,23 @@ fn line_of(s: Session, line: &[u8], to: &mut [u8]) -> Session {
     );
     let n = c.words;
     if lines::LIMIT < line.len() {
-        return run(s, 0, 0, &words[..n], to);
+        return run(rt, s, 0, 0, &words[..n], to);
     }
-    run(s, c.kind, figures[0], &words[..n], to)
+    run(rt, s, c.kind, figures[0], &words[..n], to)
 }
 
 // The line that was gathered.
-fn whole(s: Session, from: Input, line: &[u8], to: &mut [u8]) -> Session {
+fn whole(
+    rt: &impl Print,
+    s: Session,
+    from: Input,
+    line: &[u8],
+    to: &mut [u8],
+) -> io::Result<Session> {
     let n = lines::lent(line, from.line);
     let mut at = s;
     at.waits = from.waits;
-    line_of(at, &line[..n], to)
+    line_of(rt, at, &line[..n], to)
 }
 
 fn first() -> Session {
@@ -289,21 +322,26 @@ fn first() -> Session {
 
 // Line after line. A proved loop has to end, and nothing says that the input does: it counts down from a
 // number that no run uses up.
-fn all(input: &mut [u8], line: &mut [u8], to: &mut [u8]) {
+fn all(
+    rt: &(impl Print + io::Input),
+    input: &mut [u8],
+    line: &mut [u8],
+    to: &mut [u8],
+) -> io::Result<()> {
     let mut session = first();
     let mut from = Input::new();
     let mut turns = u64::MAX;
     while 0 < turns {
-        from = lines::next(from, session.waits, input, line, &to[..]);
-        session = whole(session, from, &line[..], to);
+        from = lines::next(rt, from, session.waits, input, line, &to[..])?;
+        session = whole(rt, session, from, &line[..], to)?;
         turns = lines::to_go(turns, from.more);
     }
-    out::flush(&to[..], session.waits);
+    out::flush(rt, &to[..], session.waits)
 }
 
-fn main() {
-    let mut input = io::large_buffer();
-    let mut to = io::large_buffer();
+fn main(rt: HostRuntime) -> io::Result<()> {
+    let mut input = [0u8; blocks::SIZE];
+    let mut to = [0u8; blocks::SIZE];
     let mut line = [0u8; 4098];
-    all(&mut input, &mut line, &mut to);
+    all(&rt, &mut input, &mut line, &mut to)
 }

@@ -16,9 +16,10 @@ ghost use Rattle.std.specs.Prelude.{◌≤◌};
 use config::settings::StreamConfig;
 use link::link::run;
 use link_rules::run::Ran;
+use std::io;
 use text::forms::Answer;
 use text::lines::Input;
-use text::{forms, lines, out};
+use text::{blocks, forms, lines, out};
 
 // The most words of a history.
 const MOST: usize = 32768;
@@ -149,49 +150,60 @@ fn answer(line: &[u8]) -> Answer {
     }
 }
 
-fn answered(to: &mut [u8], used: usize, line: &[u8]) -> usize {
+fn answered(rt: &impl Print, to: &mut [u8], used: usize, line: &[u8]) -> io::Result<usize> {
     if line.len() == 0 {
-        return used;
+        return Ok(used);
     }
     if lines::skipped(&line[1..]) {
-        return used;
+        return Ok(used);
     }
-    forms::say(to, used, b"bad\n|# # #\n|refused #\n|", answer(line))
+    forms::say(rt, to, used, b"bad\n|# # #\n|refused #\n|", answer(line))
 }
 
 // The answer to the line of `n` bytes behind the blank; none where fewer are there.
-fn whole(to: &mut [u8], used: usize, line: &[u8], n: usize) -> usize {
+fn whole(rt: &impl Print, to: &mut [u8], used: usize, line: &[u8], n: usize) -> io::Result<usize> {
     if line.len() <= n {
-        return used;
+        return Ok(used);
     }
     let m = lines::lent(line, n + 1);
-    answered(to, used, &line[..m])
+    answered(rt, to, used, &line[..m])
 }
 
 // Gathers the next line after the blank.
-fn next(from: Input, input: &mut [u8], line: &mut [u8], to: &[u8]) -> Input {
+fn next(
+    rt: &(impl Print + io::Input),
+    from: Input,
+    input: &mut [u8],
+    line: &mut [u8],
+    to: &[u8],
+) -> io::Result<Input> {
     if line.len() == 0 {
-        return from;
+        return Ok(from);
     }
-    lines::next(from, from.waits, input, &mut line[1..], to)
+    lines::next(rt, from, from.waits, input, &mut line[1..], to)
 }
 
 // Line after line. A proved loop has to end, and nothing says that the input does: it counts down from a
 // number that no run uses up.
-fn all(input: &mut [u8], line: &mut [u8], to: &mut [u8]) {
+fn all(
+    rt: &(impl Print + io::Input),
+    input: &mut [u8],
+    line: &mut [u8],
+    to: &mut [u8],
+) -> io::Result<()> {
     let mut from = Input::new();
     let mut turns = u64::MAX;
     while 0 < turns {
-        from = next(from, input, line, &to[..]);
-        from.waits = whole(to, from.waits, &line[..], from.line);
+        from = next(rt, from, input, line, &to[..])?;
+        from.waits = whole(rt, to, from.waits, &line[..], from.line)?;
         turns = lines::to_go(turns, from.more);
     }
-    out::flush(&to[..], from.waits);
+    out::flush(rt, &to[..], from.waits)
 }
 
-fn main() {
-    let mut input = io::large_buffer();
-    let mut to = io::large_buffer();
+fn main(rt: HostRuntime) -> io::Result<()> {
+    let mut input = [0u8; blocks::SIZE];
+    let mut to = [0u8; blocks::SIZE];
     let mut line = [b' '; 4099];
-    all(&mut input, &mut line, &mut to);
+    all(&rt, &mut input, &mut line, &mut to)
 }

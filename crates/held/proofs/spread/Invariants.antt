@@ -1,6 +1,5 @@
 -- The index stays below the words' length, and the command's bytes keep theirs.
 use Prim.Native.Nat.{◌-◌, ◌≤◌}
-use borrow.Author.Rules.{rules}
 use lib.ListN.{length}
 use mathlib.Core.Path.{◌≡◌}
 use Rattle.held.proofs.spread.Given as goal

@@ -2,7 +2,6 @@
 use mathlib.Core.Path.{sym, ◌∙◌}
 use native.Mathlib.Omega.{arith}
 use Rattle.link.proofs.Resting.{back_rests}
-use borrow.Author.Rules.{rules}
 use Rattle.link.proofs.halves.back.Goals as goal
 
 pub returns-then-chamber_rests : goal.returns-then-chamber_rests

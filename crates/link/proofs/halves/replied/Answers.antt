@@ -1,13 +1,5 @@
 -- The chamber's turn, and what arrives of its bytes.
-use native.Mathlib.Omega.{arith}
-use mathlib.Core.Path.{◌≡◌, refl, sym, ap, ◌∙◌}
 use Rattle.link.proofs.Halving as halving
-use borrow.Author.Rules.{rules}
-use Rattle.link.proofs.halves.replied.Reads as reads
-use Rattle.link.proofs.halves.replied.Lts as lts
-use Rattle.link_tally.proofs.arriving.arrive.Reads as arrive_reads
-use Rattle.link.proofs.turns.chamber_turn.Reads as chamber_turn_reads
-use Rattle.link.proofs.turns.part.Reads as part_reads
 use Rattle.link.proofs.halves.replied.Goals as goal
 
 pub arrive-read-requires : goal.arrive-read-requires

@@ -1,13 +1,5 @@
 -- The console's turn, and what arrives of its bytes.
-use native.Mathlib.Omega.{arith}
-use mathlib.Core.Path.{◌≡◌, refl, sym, ap, ◌∙◌}
 use Rattle.link.proofs.Halving as halving
-use borrow.Author.Rules.{rules}
-use Rattle.link.proofs.halves.spoken.Reads as reads
-use Rattle.link.proofs.halves.spoken.Lts as lts
-use Rattle.link.proofs.turns.carry.Reads as carry_reads
-use Rattle.link.proofs.turns.console_turn.Reads as console_turn_reads
-use Rattle.link.proofs.turns.part.Reads as part_reads
 use Rattle.link.proofs.halves.spoken.Goals as goal
 
 pub carry-heard-requires : goal.carry-heard-requires

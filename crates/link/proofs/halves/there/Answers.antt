@@ -2,7 +2,6 @@
 use mathlib.Core.Path.{sym, ◌∙◌}
 use native.Mathlib.Omega.{arith}
 use Rattle.link.proofs.Resting.{there_rests}
-use borrow.Author.Rules.{rules}
 use Rattle.link.proofs.halves.there.Goals as goal
 
 pub returns-then-console_rests : goal.returns-then-console_rests

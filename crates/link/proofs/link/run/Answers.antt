@@ -1,13 +1,6 @@
 -- Each refusal by its law; a run that starts is its steps from the state that both starts leave.
-use mathlib.Core.Path.{◌≡◌, refl, sym, ap, ◌∙◌}
-use native.Mathlib.Omega.{arith}
+use mathlib.Core.Path.{refl, sym, ◌∙◌}
 use Rattle.link.proofs.Running.{run_settings, run_over, run_lengths, run_start, run_starts}
-use borrow.Author.Rules.{rules}
-use Rattle.link.proofs.link.run.Reads as reads
-use Rattle.link.proofs.link.run.Lts as lts
-use Rattle.config.proofs.settings.StreamConfig.check.Reads as check_reads
-use Rattle.link.proofs.link.steps.Reads as steps_reads
-use Rattle.stream.proofs.stream.DataStream.new.Reads as new_reads
 use Rattle.link.proofs.link.run.Goals as goal
 
 pub returns-then-budget-gt-MOST_STEPS : goal.returns-then-budget-gt-MOST_STEPS

@@ -1,13 +1,6 @@
 -- The draws and the two halves, one after the other, are the step of the definition.
 use native.Mathlib.Omega.{arith}
-use mathlib.Core.Path.{◌≡◌, refl, sym, ap, ◌∙◌}
 use Rattle.link.proofs.Halving as halving
-use borrow.Author.Rules.{rules}
-use Rattle.link.proofs.link.step.Reads as reads
-use Rattle.link.proofs.link.step.Lts as lts
-use Rattle.link.proofs.halves.back.Reads as back_reads
-use Rattle.link.proofs.halves.there.Reads as there_reads
-use Rattle.load.proofs.load.Load.draw.Reads as draw_reads
 use Rattle.link.proofs.link.step.Goals as goal
 
 pub overflow_add-result : goal.overflow_add-result

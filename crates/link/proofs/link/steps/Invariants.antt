@@ -1,15 +1,9 @@
 -- After each turn of the loop the state is the definition's after as many steps.
-use Prim.Native.Nat.{◌-◌, ◌≤◌, ◌<◌}
-use mathlib.Core.Path.{◌≡◌, refl, sym, ap, ◌∙◌}
-use native.Mathlib.Omega.{arith}
+use Prim.Native.Nat.{◌-◌, ◌≤◌}
+use mathlib.Core.Path.{◌≡◌}
 use lib.ListN.{length}
-use borrow.Author.Rules.{rules}
 use Rattle.link_rules.specs.Link.{run_of, most_steps}
 use Rattle.link.specs.Turns.{ends_of, Fits}
-use Rattle.link.proofs.Running.{run_none, run_more, run_end}
-use Rattle.link.proofs.link.steps.Reads as reads
-use Rattle.link.proofs.link.steps.Lts as lts
-use Rattle.link.proofs.link.step.Reads as step_reads
 use Rattle.link.proofs.link.steps.Given as goal
 
 abbrev pub invariant-loop-done : goal.invariant-loop-done

@@ -1,6 +1,5 @@
 -- By its tests in their order.
 use Rattle.link.proofs.Resting.{timer_waits, chamber_decides}
-use borrow.Author.Rules.{rules}
 use Rattle.link.proofs.quiet.chamber_rests.Goals as goal
 
 pub returns-then-timer_rests : goal.returns-then-timer_rests

@@ -1,6 +1,5 @@
 -- By its tests in their order.
 use Rattle.link.proofs.Resting.{error_waits, words_come, console_decides}
-use borrow.Author.Rules.{rules}
 use Rattle.link.proofs.quiet.console_rests.Goals as goal
 
 pub returns-then-asked-gt0 : goal.returns-then-asked-gt0

@@ -1,5 +1,4 @@
 -- By cases.
-use borrow.Author.Rules.{rules}
 use Rattle.link.proofs.Resting.{rests_off, rests_until}
 use Rattle.link.proofs.quiet.idle_rests.Goals as goal
 

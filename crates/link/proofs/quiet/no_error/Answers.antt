@@ -1,6 +1,5 @@
 -- By cases.
 use Rattle.link.proofs.Resting.{error_none, error_some}
-use borrow.Author.Rules.{rules}
 use Rattle.link.proofs.quiet.no_error.Goals as goal
 
 pub returns-in-Nothing : goal.returns-in-Nothing

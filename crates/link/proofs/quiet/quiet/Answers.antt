@@ -1,5 +1,4 @@
 -- By its tests in their order.
-use borrow.Author.Rules.{rules}
 use Rattle.link.proofs.Resting.{due_waits, words_wait, request_waits, idle_decides}
 use Rattle.link.proofs.quiet.quiet.Goals as goal
 

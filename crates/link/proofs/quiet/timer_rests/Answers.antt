@@ -1,5 +1,4 @@
 -- By cases.
-use borrow.Author.Rules.{rules}
 use Rattle.link.proofs.Resting.{timer_off, timer_until}
 use Rattle.link.proofs.quiet.timer_rests.Goals as goal
 

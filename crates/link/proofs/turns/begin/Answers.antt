@@ -1,11 +1,5 @@
 -- A fresh payload, or one with the error that waits written into it.
-use native.Mathlib.Omega.{arith}
-use mathlib.Core.Path.{◌≡◌, refl, sym, ap, ◌∙◌}
 use Rattle.link.proofs.Turning as turning
-use borrow.Author.Rules.{rules}
-use Rattle.link.proofs.turns.begin.Reads as reads
-use Rattle.link.proofs.turns.begin.Lts as lts
-use Rattle.command.proofs.retransmit.RetransmitError.write.Reads as write_reads
 use Rattle.link.proofs.turns.begin.Goals as goal
 
 pub returns-in-Nothing : goal.returns-in-Nothing

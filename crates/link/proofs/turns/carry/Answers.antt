@@ -1,11 +1,6 @@
 -- A draw below the figure leaves nothing to read; else the payload arrives.
 use native.Mathlib.Omega.{arith}
-use mathlib.Core.Path.{◌≡◌, refl, sym, ap, ◌∙◌}
 use Rattle.link.proofs.Turning as turning
-use borrow.Author.Rules.{rules}
-use Rattle.link.proofs.turns.carry.Reads as reads
-use Rattle.link.proofs.turns.carry.Lts as lts
-use Rattle.link_tally.proofs.arriving.arrive.Reads as arrive_reads
 use Rattle.link.proofs.turns.carry.Goals as goal
 
 pub returns-then-line-figure : goal.returns-then-line-figure

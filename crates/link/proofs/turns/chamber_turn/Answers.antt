@@ -1,13 +1,6 @@
 -- Poll and write, each by its contract; the poll's event is at most one loss.
 use native.Mathlib.Omega.{arith}
-use mathlib.Core.Path.{◌≡◌, refl, sym, ap, ◌∙◌}
 use Rattle.link.proofs.Turning as turning
-use borrow.Author.Rules.{rules}
-use Rattle.link.proofs.turns.chamber_turn.Reads as reads
-use Rattle.link.proofs.turns.chamber_turn.Lts as lts
-use Rattle.link_tally.proofs.arriving.event_loss.Reads as event_loss_reads
-use Rattle.link.proofs.turns.write.Reads as write_reads
-use Rattle.stream.proofs.stream.DataStream.poll.Reads as poll_reads
 use Rattle.link.proofs.turns.chamber_turn.Goals as goal
 
 pub returns : goal.returns

@@ -1,13 +1,7 @@
 -- The first bytes of a buffer, or all of it if there are fewer.
 use mathlib.Core.Path.{sym, refl}
 use Rattle.link.proofs.Turning as turning
-use Prim.Native.Nat.{◌≤◌, ◌<◌}
-use lib.ListN.{length}
 use lib.Seq.{length-take-le}
-use native.Mathlib.Omega.{arith}
-use borrow.Author.Rules.{rules}
-use Rattle.link.proofs.turns.part.Reads as reads
-use Rattle.link.proofs.turns.part.Lts as lts
 use Rattle.link.proofs.turns.part.Goals as goal
 
 pub returns-then-buf-len : goal.returns-then-buf-len

@@ -1,13 +1,8 @@
 -- The load's count takes the first words of the array, and they are the words the definition queues.
 use lib.Seq.{length-take-le}
 use native.Mathlib.Omega.{arith}
-use mathlib.Core.Path.{◌≡◌, refl, sym, ap, ◌∙◌}
+use mathlib.Core.Path.{sym}
 use Rattle.link.proofs.Turning as turning
-use borrow.Author.Rules.{rules}
-use Rattle.link.proofs.turns.queue.Reads as reads
-use Rattle.link.proofs.turns.queue.Lts as lts
-use Rattle.load.proofs.load.Load.words.Reads as words_reads
-use Rattle.stream.proofs.stream.DataStream.send_ump.Reads as send_ump_reads
 use Rattle.link.proofs.turns.queue.Goals as goal
 
 pub slice_bounds-words-end : goal.slice_bounds-words-end
