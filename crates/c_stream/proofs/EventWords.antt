@@ -13,7 +13,7 @@ use Rattle.window.specs.Window.{missing_span}
 use Rattle.window.specs.declared.window.ReceiveWindow.{ReceiveWindow}
 use Rattle.window.specs.declared.window.Span.{Span}
 use Rattle.window.specs.declared.window.Span.TheVariants.{Nothing as NoSpan, Of}
-use Rattle.receiver.specs.Receiver.{valid_of, rest_of, enabled_of, nothing_missing, loss_of, gave_up, polled_at, polled_of}
+use Rattle.receiver.specs.Receiver.{valid_of, enabled_of, nothing_missing, loss_of, gave_up, polled_at, polled_of}
 use Rattle.receiver.specs.Answers as receiver
 use Rattle.receiver.specs.declared.receiver.Receiver.{Receiver}
 use Rattle.receiver.specs.declared.receiver.Timer.{Timer}

@@ -12,7 +12,6 @@ use Rattle.config.specs.declared.answer.Outcome.{Outcome}
 use Rattle.config.specs.declared.answer.Outcome.TheVariants.{Done, Refused}
 use Rattle.config.specs.declared.settings.StreamConfig.{StreamConfig}
 use Rattle.stream.specs.Answers.{not_started, sizes_out, new_answer}
-use Rattle.stream.specs.declared.stream.DataStream.{DataStream}
 use Rattle.stream.specs.declared.stream.Started.{Started}
 use Rattle.c_stream.specs.Exports.{started_into}
 use Rattle.c_state.specs.Stream.{stored}

@@ -8,7 +8,6 @@ use Rattle.stream.specs.Writing.{write_answer}
 use Rattle.stream.specs.declared.stream.DataStream.{DataStream}
 use Rattle.config.specs.declared.answer.Outcome.{Outcome}
 use Rattle.config.specs.declared.answer.Outcome.TheVariants.{Done, Refused}
-use Rattle.stream.specs.declared.stream.Started.{Started}
 use Rattle.stream.specs.declared.stream.WasReset.{WasReset}
 use Rattle.stream.specs.declared.stream.Sent.{Sent}
 use Rattle.stream.specs.declared.stream.Heard.{Heard}

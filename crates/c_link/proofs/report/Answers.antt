@@ -1,7 +1,6 @@
 -- By cases.
 use mathlib.Core.Path.{sym, ap, ◌∙◌}
 use Rattle.c_link.specs.Export.{report_of, refused_by}
-use borrow.Author.Rules.{rules}
 use Rattle.c_link.proofs.report.Goals as goal
 
 pub returns-in-Done : goal.returns-in-Done

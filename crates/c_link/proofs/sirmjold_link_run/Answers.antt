@@ -3,7 +3,6 @@ use mathlib.Core.Path.{refl, ap}
 use Rattle.c_words.proofs.Entries.{made, settings_refused}
 use Rattle.c_words.proofs.Figures.{passed, figures_small}
 use Rattle.c_link.specs.Export.{reported, run_export}
-use borrow.Author.Rules.{rules}
 use Rattle.c_link.proofs.sirmjold_link_run.Goals as goal
 
 pub load-requires : goal.load-requires

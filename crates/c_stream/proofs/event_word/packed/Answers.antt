@@ -1,7 +1,6 @@
 -- The figures are as wide as their places.
 use Rattle.c_stream.proofs.EventWords.{event_back}
 use native.Mathlib.Omega.{arith}
-use borrow.Author.Rules.{rules}
 use Rattle.c_stream.proofs.event_word.packed.Goals as goal
 
 pub returns : goal.returns

@@ -1,6 +1,5 @@
 -- Each field is a figure.
 use Rattle.c_stream.proofs.EventWords.{event_made}
-use borrow.Author.Rules.{rules}
 use Rattle.c_stream.proofs.event_word.unpacked.Goals as goal
 
 pub returns : goal.returns

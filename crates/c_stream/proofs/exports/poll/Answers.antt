@@ -6,7 +6,6 @@ use Rattle.c_words.proofs.Figures.{passed, figures_small, settings_passed}
 use Rattle.c_stream.specs.Exports.{poll_export}
 use Rattle.c_stream.proofs.Stays.{told_out}
 use Rattle.c_stream.proofs.EventWords.{no_reason}
-use borrow.Author.Rules.{rules}
 use Rattle.c_stream.proofs.exports.poll.Goals as goal
 
 pub load-requires : goal.load-requires

@@ -6,7 +6,6 @@ use Rattle.c_words.proofs.Figures.{passed, figures_small}
 use Rattle.c_stream.specs.Exports.{new_export}
 use Rattle.c_stream.proofs.Places.{new_narrow}
 use Rattle.c_stream.proofs.Started.{new_kept, new_started, new_refused}
-use borrow.Author.Rules.{rules}
 use Rattle.c_stream.proofs.exports.sirmjold_stream_new.Goals as goal
 
 pub load-requires : goal.load-requires

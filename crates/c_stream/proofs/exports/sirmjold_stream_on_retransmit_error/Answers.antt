@@ -8,7 +8,6 @@ use Rattle.c_state.proofs.Ends.{receiver_whole}
 use Rattle.c_state.specs.Theorems.{Wide}
 use Rattle.c_stream.proofs.Places.{error_narrow}
 use native.Mathlib.Omega.{arith}
-use borrow.Author.Rules.{rules}
 use Rattle.c_stream.proofs.exports.sirmjold_stream_on_retransmit_error.Goals as goal
 use Rattle.c_stream.proofs.exports.sirmjold_stream_on_retransmit_error.Goals.{After-slice_known-1}
 

@@ -9,7 +9,6 @@ use Rattle.c_words.proofs.Figures.{passed, figures_small}
 use Rattle.c_stream.specs.Exports.{request_export}
 use Rattle.c_stream.proofs.Places.{request_narrow}
 use native.Mathlib.Omega.{arith}
-use borrow.Author.Rules.{rules}
 use Rattle.c_stream.proofs.exports.sirmjold_stream_on_retransmit_request.Goals as goal
 use Rattle.c_stream.proofs.exports.sirmjold_stream_on_retransmit_request.Goals.{After-slice_known-1}
 

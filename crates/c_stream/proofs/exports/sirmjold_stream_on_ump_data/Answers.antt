@@ -5,7 +5,6 @@ use Rattle.c_words.proofs.Entries.{made, words_refused, settings_refused}
 use Rattle.c_words.proofs.Figures.{passed, figures_small, settings_passed}
 use Rattle.c_stream.specs.Exports.{data_export}
 use Rattle.c_stream.proofs.Stays.{heard_out}
-use borrow.Author.Rules.{rules}
 use Rattle.c_stream.proofs.exports.sirmjold_stream_on_ump_data.Goals as goal
 
 pub load-requires : goal.load-requires

@@ -6,7 +6,6 @@ use Rattle.c_words.proofs.Figures.{passed, settings_passed}
 use Rattle.c_state.proofs.Waiting.{waits_fit, waits_same}
 use Rattle.c_stream.specs.Exports.{poll_export}
 use Rattle.c_stream.proofs.Stays.{told_out, told_again, refused_again}
-use borrow.Author.Rules.{rules}
 use Rattle.c_stream.proofs.exports.sirmjold_stream_poll.Goals as goal
 
 pub returns-then-waits : goal.returns-then-waits

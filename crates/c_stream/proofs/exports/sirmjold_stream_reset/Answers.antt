@@ -5,7 +5,6 @@ use Rattle.c_state.proofs.Ends.{both_whole}
 use Rattle.c_state.specs.Theorems.{Wide}
 use Rattle.c_stream.proofs.Places.{reset_narrow}
 use native.Mathlib.Omega.{arith}
-use borrow.Author.Rules.{rules}
 use mathlib.Core.Path.{refl, sym, ◌∙◌}
 use Rattle.c_stream.proofs.exports.sirmjold_stream_reset.Goals as goal
 use Rattle.c_stream.proofs.exports.sirmjold_stream_reset.Goals.{After-slice_known-1}

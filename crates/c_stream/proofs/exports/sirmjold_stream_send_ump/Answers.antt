@@ -9,7 +9,6 @@ use Rattle.c_stream.specs.Exports.{send_export}
 use Rattle.c_stream.proofs.Places.{send_narrow}
 use Rattle.c_stream.proofs.Stays.{send_items}
 use native.Mathlib.Omega.{arith}
-use borrow.Author.Rules.{rules}
 use Rattle.c_stream.proofs.exports.sirmjold_stream_send_ump.Goals as goal
 use Rattle.c_stream.proofs.exports.sirmjold_stream_send_ump.Goals.{After-slice_known-1}
 

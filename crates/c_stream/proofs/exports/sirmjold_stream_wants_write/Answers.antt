@@ -2,7 +2,6 @@
 use mathlib.Core.Path.{refl, sym, ◌∙◌}
 use Rattle.c_stream.specs.Exports.{wants_export}
 use Rattle.c_words.proofs.Entries.{made, words_refused}
-use borrow.Author.Rules.{rules}
 use Rattle.c_stream.proofs.exports.sirmjold_stream_wants_write.Goals as goal
 
 pub load-stream-requires : goal.load-stream-requires

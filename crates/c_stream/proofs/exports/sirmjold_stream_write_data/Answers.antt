@@ -9,7 +9,6 @@ use Rattle.c_stream.specs.Exports.{write_export}
 use Rattle.c_stream.proofs.Places.{write_narrow}
 use Rattle.c_stream.proofs.Stays.{write_stays}
 use native.Mathlib.Omega.{arith}
-use borrow.Author.Rules.{rules}
 use Rattle.c_stream.proofs.exports.sirmjold_stream_write_data.Goals as goal
 use Rattle.c_stream.proofs.exports.sirmjold_stream_write_data.Goals.{After-slice_known-1}
 
@@ -17,27 +16,27 @@ wide : (c : After-slice_known-1) → Wide c.args.s.now
 wide c = λ k. omega (arith, c.type_inv.s k)
 
 pub load-before-requires : goal.load-before-requires
-load-before-requires c = sym c.fits-then-number-eq0.ensures ∙ and_left _ _ (sym c.both.ensures ∙ c.if-both.true)
+load-before-requires c = sym c.fits.ensures ∙ and_left _ _ (sym c.both.ensures ∙ c.if-both.true)
 
 pub load-requires : goal.load-requires
 load-requires c = figures_small _ (passed _ c.number-number.ensures c.if-number-eq0.true)
 
 pub load-requires-then-both : goal.load-requires-then-both
-load-requires-then-both c = eqb-true _ _ (sym c.fits.ensures ∙ and_right c.fits-then-number-eq0.result _ (sym c.both.ensures ∙ c.if-both.true))
+load-requires-then-both c = eqb-true _ _ (sym c.fits-then-number-eq0.ensures ∙ and_right c.fits.result _ (sym c.both.ensures ∙ c.if-both.true))
 
 pub store_written-requires : goal.store_written-requires
-store_written-requires c = let n = write_narrow c.args.s.now (wide (goal.at.store_written-requires c).After-slice_known-1) _ c.load-before.ensures _ _ _ _ _ _ _ _ c.write_data-done.ensures in (sym c.fits-then-number-eq0.ensures ∙ and_left _ _ (sym c.both.ensures ∙ c.if-both.true), n.0, n.1, write_stays c.args.s.now _ c.load-before.ensures _ _ _ _ _ _ _ _ c.write_data-done.ensures)
+store_written-requires c = let n = write_narrow c.args.s.now (wide (goal.at.store_written-requires c).After-slice_known-1) _ c.load-before.ensures _ _ _ _ _ _ _ _ c.write_data-done.ensures in (sym c.fits.ensures ∙ and_left _ _ (sym c.both.ensures ∙ c.if-both.true), n.0, n.1, write_stays c.args.s.now _ c.load-before.ensures _ _ _ _ _ _ _ _ c.write_data-done.ensures)
 
 pub store-requires : goal.store-requires
-store-requires c = eqb-true _ _ (sym c.fits.ensures ∙ and_right c.fits-then-number-eq0.result _ (sym c.both.ensures ∙ c.if-both.true))
+store-requires c = eqb-true _ _ (sym c.fits-then-number-eq0.ensures ∙ and_right c.fits.result _ (sym c.both.ensures ∙ c.if-both.true))
 
 pub returns-then-both : goal.returns-then-both
 unfolding write_export
-returns-then-both c = let q = rw (c.load-before.ensures, c.load.ensures, c.load-then-both.ensures) at c.write_data-done.ensures in made _ _ (passed _ c.number-number.ensures c.if-number-eq0.true) (sym (c.both.ensures ∙ rw (c.fits-then-number-eq0.ensures, c.fits.ensures)) ∙ c.if-both.true) (rw (c.of_writing.ensures, c.store_written.ensures, c.store.ensures, ← q))
+returns-then-both c = let q = rw (c.load-before.ensures, c.load.ensures, c.load-then-both.ensures) at c.write_data-done.ensures in made _ _ (passed _ c.number-number.ensures c.if-number-eq0.true) (sym (c.both.ensures ∙ rw (c.fits.ensures, c.fits-then-number-eq0.ensures)) ∙ c.if-both.true) (rw (c.of_writing.ensures, c.store_written.ensures, c.store.ensures, ← q))
 
 pub returns-then-number-eq0 : goal.returns-then-number-eq0
 unfolding write_export
-returns-then-number-eq0 c = words_refused _ _ (passed _ c.number-number.ensures c.if-number-eq0.true) (sym (c.both.ensures ∙ rw (c.fits-then-number-eq0.ensures, c.fits.ensures)) ∙ c.if-both.false) (rw c.refused_written.ensures)
+returns-then-number-eq0 c = words_refused _ _ (passed _ c.number-number.ensures c.if-number-eq0.true) (sym (c.both.ensures ∙ rw (c.fits.ensures, c.fits-then-number-eq0.ensures)) ∙ c.if-both.false) (rw c.refused_written.ensures)
 
 pub returns : goal.returns
 unfolding write_export

@@ -11,7 +11,6 @@ use Rattle.c_words.proofs.Figures.{passed, figures_small}
 use Rattle.c_stream.specs.Exports.{take_export}
 use Rattle.c_stream.proofs.Places.{take_narrow}
 use native.Mathlib.Omega.{arith}
-use borrow.Author.Rules.{rules}
 use Rattle.c_stream.proofs.exports.sirmjold_stream_write_request.Goals as goal
 use Rattle.c_stream.proofs.exports.sirmjold_stream_write_request.Goals.{After-slice_known-1}
 
