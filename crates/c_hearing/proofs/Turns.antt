@@ -16,14 +16,13 @@ use Rattle.packet.specs.declared.cursor.PacketItem.TheVariants.{Command as Whole
 use Rattle.packet.proofs.Reading.{next_found, body_part}
 use Rattle.command.specs.Parse.{parsed_of}
 use Rattle.command.specs.declared.parse.Command.{Command}
-use Rattle.read_command.specs.Next.{read_of, command_read}
+use Rattle.read_command.specs.Next.{command_read}
 use Rattle.c_state.specs.Pack.{word, pair}
 use Rattle.c_hearing.specs.Figures.{read_word, number_figures}
 use Rattle.c_hearing.specs.Given.{given_of}
 use Rattle.c_hearing.specs.Walk.{answered, ended, goes_on, cut_turn, whole_turn, turn_at, heard_to, hear_from}
 use Rattle.c_hearing.specs.declared.figures.Figures.{Figures}
 use Rattle.c_hearing.specs.declared.walk.Turn.{Turn}
-use Rattle.c_hearing.specs.declared.walk.CHeard.{CHeard}
 
 abbrev Turned : Type 0
 Turned = Turn × List ℕ × List ℕ

@@ -4,14 +4,8 @@
 ghost use Rattle.std.specs.Prelude.{◌≡◌};
 ghost use Rattle.c_stream.specs.Exports.{new_export, reset_export, send_export, data_export, write_export, request_export, error_export, nak_export, poll_export, take_export, deadline_export, wants_export};
 
+use c_answers::answers::{CDeadline, CDelivery, CEvent, COutcome, CRequest, CWants, CWritten};
 use c_stream::exports;
-use c_answers::answers::CDeadline;
-use c_answers::answers::CDelivery;
-use c_answers::answers::CEvent;
-use c_answers::answers::COutcome;
-use c_answers::answers::CRequest;
-use c_answers::answers::CWants;
-use c_answers::answers::CWritten;
 
 // A fresh stream: a receive window of `window` numbers, the lent history, which is zeroed, and a
 // request queue of `places` places. A start that is refused stores nothing.

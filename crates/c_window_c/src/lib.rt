@@ -4,8 +4,8 @@
 ghost use Rattle.std.specs.Prelude.{◌≡◌};
 ghost use Rattle.c_window.specs.Window.{start_export, accept_export};
 
-use c_window::exports;
 use c_answers::answers::CDelivery;
+use c_window::exports;
 
 // A window of `size` numbers, 1 to 128; `highest` and all before it are processed. A fresh window
 // has the highest 65535.

@@ -5,7 +5,6 @@ use Rattle.c_words.proofs.Entries.{made, words_refused, settings_refused}
 use Rattle.c_words.proofs.Figures.{passed, figures_small, settings_passed}
 use Rattle.c_hearing.specs.Exports.{hear_export}
 use Rattle.c_hearing.proofs.Opened.{opened, not_opened}
-use borrow.Author.Rules.{rules}
 use Rattle.c_hearing.proofs.exports.sirmjold_stream_hear.Goals as goal
 
 pub load-requires : goal.load-requires

@@ -4,7 +4,6 @@ use Prim.Native.Nat.{ℕ}
 use Rattle.command.specs.declared.parse.Command.{Command}
 use Rattle.read_command.specs.Next.{command_read}
 use Rattle.c_hearing.specs.Figures.{read_word}
-use borrow.Author.Rules.{rules}
 use Rattle.c_hearing.proofs.figures.of_command.Goals as goal
 
 abbrev as_read : ℕ → Command → ℕ

@@ -1,5 +1,4 @@
 -- The figures in their places.
-use borrow.Author.Rules.{rules}
 use Rattle.c_hearing.proofs.figures.of_event.Goals as goal
 
 pub returns : goal.returns

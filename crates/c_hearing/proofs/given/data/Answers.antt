@@ -3,7 +3,6 @@ use native.Mathlib.Omega.{arith}
 use Rattle.c_state.specs.Theorems.{Wide}
 use Rattle.c_state.proofs.Ends.{both_receiver}
 use Rattle.c_hearing.proofs.Ends.{data_given_lem}
-use borrow.Author.Rules.{rules}
 use Rattle.c_hearing.proofs.given.data.Goals as goal
 use Rattle.c_hearing.proofs.given.data.Goals.{After-slice_known-1}
 

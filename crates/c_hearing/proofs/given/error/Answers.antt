@@ -3,7 +3,6 @@ use native.Mathlib.Omega.{arith}
 use Rattle.c_state.specs.Theorems.{Wide}
 use Rattle.c_state.proofs.Ends.{both_receiver, both_whole}
 use Rattle.c_hearing.proofs.Ends.{error_stored, error_given_lem}
-use borrow.Author.Rules.{rules}
 use Rattle.c_hearing.proofs.given.error.Goals as goal
 use Rattle.c_hearing.proofs.given.error.Goals.{After-slice_known-1}
 

@@ -1,11 +1,10 @@
 -- By cases of the command.
 use mathlib.Core.Path.{sym, ap, ◌∙◌}
 use Rattle.c_hearing.specs.Given.{given_of}
-use borrow.Author.Rules.{rules}
 use Rattle.c_hearing.proofs.given.give.Goals as goal
 
 pub returns-in-UmpData : goal.returns-in-UmpData
-returns-in-UmpData c = ((goal.at.returns-in-UmpData c).After-data.«data».ensures.0 ∙ sym (ap (given_of _ _ _ _) c.in-UmpData.is), (goal.at.returns-in-UmpData c).After-data.«data».ensures.1)
+returns-in-UmpData c = (c.«data».ensures.0 ∙ sym (ap (given_of _ _ _ _) c.in-UmpData.is), c.«data».ensures.1)
 
 pub returns-in-RetransmitRequest : goal.returns-in-RetransmitRequest
 returns-in-RetransmitRequest c = (c.request.ensures.0 ∙ sym (ap (given_of _ _ _ _) c.in-RetransmitRequest.is), c.request.ensures.1)

@@ -3,7 +3,6 @@ use native.Mathlib.Omega.{arith}
 use Rattle.c_state.specs.Theorems.{Wide}
 use Rattle.c_state.proofs.Ends.{both_sender, both_whole}
 use Rattle.c_hearing.proofs.Ends.{request_stored, request_given_lem}
-use borrow.Author.Rules.{rules}
 use Rattle.c_hearing.proofs.given.request.Goals as goal
 use Rattle.c_hearing.proofs.given.request.Goals.{After-slice_known-1}
 

@@ -1,7 +1,6 @@
 -- With room for its answer, or without.
 use native.Mathlib.Omega.{arith}
 use Rattle.c_hearing.proofs.Turns.{cut_full, cut_answered}
-use borrow.Author.Rules.{rules}
 use Rattle.c_hearing.proofs.walk.cut.Goals as goal
 
 pub returns-then-heard-count : goal.returns-then-heard-count

@@ -1,12 +1,5 @@
-use mathlib.Core.Path.{◌≡◌, refl, sym, ◌∙◌}
-use mathlib.Core.Bool.{true}
-use lib.ListN.{length}
-use Prim.Native.Nat.{◌/◌}
+use mathlib.Core.Path.{refl, sym, ◌∙◌}
 use native.Mathlib.Omega.{arith}
-use Rattle.config.specs.Settings.{check_of}
-use Rattle.config.specs.declared.answer.Outcome.TheVariants.{Done}
-use Rattle.c_state.specs.Stream.{fits}
-use Rattle.c_hearing.specs.Walk.{hear_from}
 use Rattle.c_hearing.proofs.Turns.{hear_ends, hear_on, hear_done}
 use Rattle.c_hearing.proofs.walk.hear.Goals as goal
 

@@ -1,14 +1,12 @@
 -- What is left from here on is the whole from the start.
-use mathlib.Core.Path.{◌≡◌, refl, sym, ◌∙◌}
+use mathlib.Core.Path.{◌≡◌}
 use mathlib.Core.Bool.{true}
 use lib.ListN.{length}
 use Prim.Native.Nat.{◌/◌}
-use native.Mathlib.Omega.{arith}
 use Rattle.config.specs.Settings.{check_of}
 use Rattle.config.specs.declared.answer.Outcome.TheVariants.{Done}
 use Rattle.c_state.specs.Stream.{fits}
 use Rattle.c_hearing.specs.Walk.{hear_from}
-use Rattle.c_hearing.proofs.Turns.{hear_ends, hear_on, hear_done}
 use Rattle.c_hearing.proofs.walk.hear.Given as goal
 
 abbrev pub invariant-loop-turns : goal.invariant-loop-turns

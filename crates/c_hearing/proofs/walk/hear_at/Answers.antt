@@ -3,7 +3,6 @@ use mathlib.Core.Path.{sym, ◌∙◌}
 use native.Mathlib.Omega.{arith}
 use Rattle.packet.proofs.Reading.{next_found}
 use Rattle.c_hearing.proofs.Turns.{part_body, turn_end, turn_cut, turn_whole}
-use borrow.Author.Rules.{rules}
 use Rattle.c_hearing.proofs.walk.hear_at.Goals as goal
 
 pub overflow_add-from : goal.overflow_add-from
@@ -12,13 +11,11 @@ overflow_add-from c = omega (arith, next_found _ _ _ _ _ (sym c.next.ensures ∙
 pub slice_bounds-whole-count : goal.slice_bounds-whole-count
 slice_bounds-whole-count c = omega (arith, next_found _ _ _ _ _ (sym c.next.ensures ∙ c.in-Command.is))
 
--- LEFT slice-bounds-whole-start
--- part-whole-start : tie.Need-slice-bounds-whole-start
--- part-whole-start c = omega (arith, next_found _ _ _ _ _ (sym c.before.before.before.next.ensures ∙ c.before.header2.given.1))
+pub slice_bounds-whole-start : goal.slice_bounds-whole-start
+slice_bounds-whole-start c = omega (arith, next_found _ _ _ _ _ (sym c.next.ensures ∙ c.in-Command.is))
 
--- LEFT slice-bounds-whole-end
--- part-whole-end : tie.Need-slice-bounds-whole-end
--- part-whole-end c = omega (arith, next_found _ _ _ _ _ (sym c.before.before.before.next.ensures ∙ c.before.header2.given.1))
+pub slice_bounds-whole-end : goal.slice_bounds-whole-end
+slice_bounds-whole-end c = omega (arith, next_found _ _ _ _ _ (sym c.next.ensures ∙ c.in-Command.is))
 
 pub whole-requires : goal.whole-requires
 whole-requires c = c.requires

@@ -1,6 +1,5 @@
 -- The four words are stored.
 use Rattle.c_hearing.specs.Walk.{answered}
-use borrow.Author.Rules.{rules}
 use Rattle.c_hearing.proofs.walk.put.Goals as goal
 
 pub returns : goal.returns

@@ -2,7 +2,6 @@
 use Prim.Native.Nat.{◌+◌, ◌<◌}
 use native.Mathlib.Omega.{arith}
 use Rattle.c_hearing.proofs.Turns.{whole_full, whole_answered}
-use borrow.Author.Rules.{rules}
 use Rattle.c_hearing.proofs.walk.whole.Goals as goal
 use Rattle.c_hearing.proofs.walk.whole.Goals.{Else-heard-count}
 
