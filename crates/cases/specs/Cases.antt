@@ -17,7 +17,6 @@ use Rattle.config.specs.declared.answer.Outcome.{Outcome}
 use Rattle.config.specs.declared.answer.Outcome.TheVariants.{Done, Refused}
 use Rattle.command.specs.Write.{request_packet, error_written}
 use Rattle.command.specs.Messages.{messages_of, walked}
-use Rattle.command.specs.declared.retransmit.RetransmitRequest.{RetransmitRequest}
 use Rattle.window.specs.Answers.{new_answer, accept_answer, missing_answer, request_answer}
 use Rattle.window.specs.Window.{fresh}
 use Rattle.window.specs.declared.window.Acceptance.TheVariants.{Heard}

@@ -1,5 +1,5 @@
 -- Which entry of the table of answers (crate `script`, `answers`) the numbers of a C function are, and its figures: entries of one kind of call stand in the order of their numbers.
-use Rattle.std.specs.Prelude.{ℕ, ◌+◌}
+use Rattle.std.specs.Prelude.{◌+◌}
 use Rattle.text.specs.declared.forms.Answer.{Answer}
 use Rattle.script.specs.Answers.{entry_of, unless_refused}
 use Rattle.c_answers.specs.declared.answers.CDeadline.{CDeadline}

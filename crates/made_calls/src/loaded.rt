@@ -4,40 +4,59 @@ use c_words::guard;
 use script::calls::Call;
 use script::{answers, windows};
 use sender::sender::Next;
+use std::io;
 use text::forms::Answer;
 
 // Words that no call has left.
-fn invalid(to: &mut [u8], used: usize) -> usize {
-    answers::say(to, used, answers::refused(guard::INVALID_STATE))
+fn invalid(rt: &impl Print, to: &mut [u8], used: usize) -> io::Result<usize> {
+    answers::say(rt, to, used, answers::refused(guard::INVALID_STATE))
 }
 
-fn receiver(to: &mut [u8], used: usize, stream: &[u64]) -> usize {
+fn receiver(rt: &impl Print, to: &mut [u8], used: usize, stream: &[u64]) -> io::Result<usize> {
     if state::receiver_fits(stream) {
-        return script::state::receiver(to, used, state::receiver_in(stream));
+        return script::state::receiver(rt, to, used, state::receiver_in(stream));
     }
-    invalid(to, used)
+    invalid(rt, to, used)
 }
 
-fn sender(to: &mut [u8], used: usize, stream: &[u64], memory: &[u32]) -> usize {
+fn sender(
+    rt: &impl Print,
+    to: &mut [u8],
+    used: usize,
+    stream: &[u64],
+    memory: &[u32],
+) -> io::Result<usize> {
     if state::sender_fits(stream) {
-        return script::state::sender(to, used, state::sender_in(stream), memory);
+        return script::state::sender(rt, to, used, state::sender_in(stream), memory);
     }
-    invalid(to, used)
+    invalid(rt, to, used)
 }
 
 // state
-pub fn whole(to: &mut [u8], used: usize, stream: &[u64], memory: &[u32]) -> usize {
-    let o = receiver(to, used, stream);
-    sender(to, o, stream, memory)
+pub fn whole(
+    rt: &impl Print,
+    to: &mut [u8],
+    used: usize,
+    stream: &[u64],
+    memory: &[u32],
+) -> io::Result<usize> {
+    let o = receiver(rt, to, used, stream)?;
+    sender(rt, to, o, stream, memory)
 }
 
 // window NUMBER COUNT
-pub fn window(to: &mut [u8], used: usize, stream: &[u64], call: Call) -> usize {
+pub fn window(
+    rt: &impl Print,
+    to: &mut [u8],
+    used: usize,
+    stream: &[u64],
+    call: Call,
+) -> io::Result<usize> {
     if state::receiver_fits(stream) {
         let r = state::receiver_in(stream);
-        return windows::all(to, used, r.window, call);
+        return windows::all(rt, to, used, r.window, call);
     }
-    invalid(to, used)
+    invalid(rt, to, used)
 }
 
 fn numbered(n: Next) -> Answer {

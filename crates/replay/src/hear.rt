@@ -5,6 +5,7 @@ use read_command::next::Read;
 use script::calls::Call;
 use script::session::Session;
 use script::{answers, calls, items};
+use std::io;
 use text::{fields, lines, out};
 
 // The call that takes a command; 0 where none does.
@@ -40,36 +41,37 @@ fn given(s: Session, call: Call, stream: &mut [u64], settings: &[u32], memory: &
 }
 
 // The answer, and what follows its text: words that are handed on, or the command.
-fn answer(to: &mut [u8], s: Session, r: Read, words: &[u32]) -> usize {
-    let o = answers::say(to, s.waits, s.answer);
+fn answer(rt: &impl Print, to: &mut [u8], s: Session, r: Read, words: &[u32]) -> io::Result<usize> {
+    let o = answers::say(rt, to, s.waits, s.answer)?;
     let form = s.answer.form;
     match form {
-        answers::NEW | answers::LATE => items::handed(to, o, r, words, b' '),
-        answers::SHOWN => items::item(to, o, r, words),
-        _ => o,
+        answers::NEW | answers::LATE => items::handed(rt, to, o, r, words, b' '),
+        answers::SHOWN => items::item(rt, to, o, r, words),
+        _ => Ok(o),
     }
 }
 
 // What stands between two answers; `at` is the place of a command, 0 for the first.
-fn apart(to: &mut [u8], used: usize, at: usize) -> usize {
+fn apart(rt: &impl Print, to: &mut [u8], used: usize, at: usize) -> io::Result<usize> {
     if at == 0 {
-        return used;
+        return Ok(used);
     }
-    let one = out::byte(to, used, b' ');
-    let two = out::byte(to, one, b'|');
-    out::byte(to, two, b' ')
+    let one = out::byte(rt, to, used, b' ')?;
+    let two = out::byte(rt, to, one, b'|')?;
+    out::byte(rt, to, two, b' ')
 }
 
 // The end of a payload, which had no command where it is the first that is found.
-fn end(to: &mut [u8], used: usize, at: usize) -> usize {
+fn end(rt: &impl Print, to: &mut [u8], used: usize, at: usize) -> io::Result<usize> {
     if at == 0 {
-        return out::byte(to, used, b'-');
+        return out::byte(rt, to, used, b'-');
     }
-    used
+    Ok(used)
 }
 
 // What was read at a place.
 fn heard(
+    rt: &impl Print,
     mut s: Session,
     r: Read,
     at: usize,
@@ -79,22 +81,23 @@ fn heard(
     settings: &[u32],
     memory: &[u32],
     out: &mut [u8],
-) -> Session {
+) -> io::Result<Session> {
     if items::ends(r) {
-        let waits = end(out, s.waits, at);
+        let waits = end(rt, out, s.waits, at)?;
         s.waits = waits;
-        return s;
+        return Ok(s);
     }
-    let between = apart(out, s.waits, at);
+    let between = apart(rt, out, s.waits, at)?;
     s.waits = between;
     let mut done = given(s, call_of(r, time), stream, settings, memory);
-    let waits = answer(out, done, r, words);
+    let waits = answer(rt, out, done, r, words)?;
     done.waits = waits;
-    done
+    Ok(done)
 }
 
 // Each command; words and lengths of messages are lent to the reading.
 fn commands(
+    rt: &impl Print,
     s: Session,
     time: u64,
     bytes: &[u8],
@@ -104,13 +107,14 @@ fn commands(
     settings: &[u32],
     memory: &[u32],
     out: &mut [u8],
-) -> Session {
+) -> io::Result<Session> {
     let mut session = s;
     let mut at = 0;
     let mut turns = reading::MOST;
     while 0 < turns {
         let read = c::sirmjold_command_next(bytes, at, words, lens);
         session = heard(
+            rt,
             session,
             read,
             at,
@@ -120,15 +124,16 @@ fn commands(
             settings,
             memory,
             out,
-        );
+        )?;
         at = read.next as usize;
         turns = lines::to_go(turns, 0 < at);
     }
-    session
+    Ok(session)
 }
 
 // A payload, if it begins with its signature.
 fn payload(
+    rt: &impl Print,
     mut s: Session,
     time: u64,
     bytes: &[u8],
@@ -136,51 +141,53 @@ fn payload(
     settings: &[u32],
     memory: &[u32],
     out: &mut [u8],
-) -> Session {
+) -> io::Result<Session> {
     let mut words = [0u32; 255];
     let mut lens = [0u8; 255];
     let number = reading::signature(bytes, &mut words, &mut lens);
     if number == 0 {
         return commands(
-            s, time, bytes, &mut words, &mut lens, stream, settings, memory, out,
+            rt, s, time, bytes, &mut words, &mut lens, stream, settings, memory, out,
         );
     }
-    let waits = answers::say(out, s.waits, answers::refused(number));
+    let waits = answers::say(rt, out, s.waits, answers::refused(number))?;
     s.waits = waits;
-    s
+    Ok(s)
 }
 
 // The fields of a line.
 fn fields_of(
+    rt: &impl Print,
     mut s: Session,
     line: &[u8],
     stream: &mut [u64],
     settings: &[u32],
     memory: &[u32],
     out: &mut [u8],
-) -> Session {
+) -> io::Result<Session> {
     let mut bytes = [0u8; 2000];
     let now = fields::figure(line, 4, u64::MAX);
     let found = fields::bytes(line, now.next, &mut bytes);
     if found.next == line.len() {
         let n = found.n;
-        return payload(s, now.n, &bytes[..n], stream, settings, memory, out);
+        return payload(rt, s, now.n, &bytes[..n], stream, settings, memory, out);
     }
-    let waits = answers::say(out, s.waits, answers::plain(answers::BAD));
+    let waits = answers::say(rt, out, s.waits, answers::plain(answers::BAD))?;
     s.waits = waits;
-    s
+    Ok(s)
 }
 
 pub fn line(
+    rt: &impl Print,
     s: Session,
     line: &[u8],
     stream: &mut [u64],
     settings: &[u32],
     memory: &[u32],
     out: &mut [u8],
-) -> Session {
-    let mut done = fields_of(s, line, stream, settings, memory, out);
-    let waits = out::byte(out, done.waits, b'\n');
+) -> io::Result<Session> {
+    let mut done = fields_of(rt, s, line, stream, settings, memory, out)?;
+    let waits = out::byte(rt, out, done.waits, b'\n')?;
     done.waits = waits;
-    done
+    Ok(done)
 }

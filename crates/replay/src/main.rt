@@ -21,10 +21,12 @@ use made_calls::{run, show, streams};
 use script::calls::Call;
 use script::session::Session;
 use script::{calls, session};
-use text::{lines, out};
+use std::io;
+use text::{blocks, lines, out};
 
 // A call on the words and bytes that are lent to it, and its answer.
 fn answered(
+    rt: &impl Print,
     s: Session,
     c: Call,
     line: &[u8],
@@ -34,12 +36,13 @@ fn answered(
     memory: &mut [u32],
     buffer: &mut [u8],
     out: &mut [u8],
-) -> Session {
+) -> io::Result<Session> {
     if c.kind == calls::HEAR {
-        return hear::line(s, line, stream, settings, &memory[..], out);
+        return hear::line(rt, s, line, stream, settings, &memory[..], out);
     }
     let mut done = run::run(s, c, words, stream, settings, memory, buffer);
     let waits = show::line(
+        rt,
         out,
         done,
         c,
@@ -48,13 +51,14 @@ fn answered(
         &stream[..],
         &memory[..],
         &buffer[..],
-    );
+    )?;
     done.waits = waits;
-    done
+    Ok(done)
 }
 
 // Lends a call the history and the payload's buffer.
 fn lends(
+    rt: &impl Print,
     s: Session,
     c: Call,
     line: &[u8],
@@ -64,10 +68,11 @@ fn lends(
     memory: &mut [u32],
     buffer: &mut [u8],
     out: &mut [u8],
-) -> Session {
+) -> io::Result<Session> {
     let m = session::lent(&memory[..], s.words_lent(c));
     let b = lines::lent(&buffer[..], s.bytes_lent(c));
     answered(
+        rt,
         s,
         c,
         line,
@@ -82,6 +87,7 @@ fn lends(
 
 // A line without its end.
 fn whole(
+    rt: &impl Print,
     s: Session,
     line: &[u8],
     stream: &mut [u64],
@@ -89,14 +95,15 @@ fn whole(
     memory: &mut [u32],
     buffer: &mut [u8],
     out: &mut [u8],
-) -> Session {
+) -> io::Result<Session> {
     if lines::skipped(line) {
-        return s;
+        return Ok(s);
     }
     let mut words = [0u32; 454];
     let c = calls::read(line, &mut words, settings);
     let n = c.words;
     lends(
+        rt,
         s,
         c,
         line,
@@ -111,6 +118,7 @@ fn whole(
 
 // The next line of the input.
 fn turn(
+    rt: &(impl Print + Input),
     mut s: Session,
     input: &mut [u8],
     line: &mut [u8],
@@ -119,17 +127,18 @@ fn turn(
     memory: &mut [u32],
     buffer: &mut [u8],
     out: &mut [u8],
-) -> Session {
-    let from = lines::next(s.from, s.waits, input, line, &out[..]);
+) -> io::Result<Session> {
+    let from = lines::next(rt, s.from, s.waits, input, line, &out[..])?;
     let n = lines::lent(&line[..], from.line);
     s.from = from;
     s.waits = from.waits;
-    whole(s, &line[..n], stream, settings, memory, buffer, out)
+    whole(rt, s, &line[..n], stream, settings, memory, buffer, out)
 }
 
 // Line after line. A proved loop has to end, and nothing says that the input does: it counts down from
 // a number that no run uses up.
 fn all(
+    rt: &(impl Print + Input),
     input: &mut [u8],
     line: &mut [u8],
     stream: &mut [u64],
@@ -137,27 +146,30 @@ fn all(
     memory: &mut [u32],
     buffer: &mut [u8],
     out: &mut [u8],
-) {
+) -> io::Result<()> {
     let mut session = streams::first(stream, &settings[..], memory);
     let mut turns = u64::MAX;
     while 0 < turns {
-        session = turn(session, input, line, stream, settings, memory, buffer, out);
+        session = turn(
+            rt, session, input, line, stream, settings, memory, buffer, out,
+        )?;
         turns = lines::to_go(turns, session.from.more);
     }
-    out::flush(&out[..], session.waits);
+    out::flush(rt, &out[..], session.waits)
 }
 
 // The settings are the defaults. The memory is a word more than a history
 // takes: a start with more is refused by its size.
-fn main() {
-    let mut input = io::large_buffer();
-    let mut out = io::large_buffer();
+fn main(rt: HostRuntime) -> io::Result<()> {
+    let mut input = [0u8; blocks::SIZE];
+    let mut out = [0u8; blocks::SIZE];
     let mut line = [0u8; 4098];
     let mut stream = [0u64; WORDS];
     let mut settings = [100u32, 2, 5, 2, 1, 10, 3, 64];
     let mut memory = [0u32; 32769];
     let mut buffer = [0xAAu8; 2048];
     all(
+        &rt,
         &mut input,
         &mut line,
         &mut stream,
@@ -165,5 +177,5 @@ fn main() {
         &mut memory,
         &mut buffer,
         &mut out,
-    );
+    )
 }

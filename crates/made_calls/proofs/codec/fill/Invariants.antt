@@ -1,9 +1,7 @@
 -- The index stays below the length, and the buffer keeps its own.
 use Prim.Native.Nat.{◌-◌, ◌≤◌}
-use borrow.Author.Rules.{rules}
-use lib.ListN.{length, length-set}
+use lib.ListN.{length}
 use mathlib.Core.Path.{◌≡◌}
-use native.Mathlib.Omega.{arith}
 use Rattle.made_calls.proofs.codec.fill.Given as goal
 
 abbrev pub invariant-loop-i : goal.invariant-loop-i

@@ -1,11 +1,10 @@
 -- The turns run out, and every lent slice keeps its length.
-use borrow.Author.Rules.{rules}
 use lib.ListN.{length}
 use mathlib.Core.Path.{◌≡◌}
 use Rattle.made_calls.proofs.reading.each.Given as goal
 
 abbrev pub invariant-loop-turns : goal.invariant-loop-turns
-invariant-loop-turns l = (length l.to ≡ length l.initial.to) × (length l.words ≡ length l.initial.words) × (length l.lens ≡ length l.initial.lens)
+invariant-loop-turns g l = (length l.to ≡ length l.initial.to) × (length l.words ≡ length l.initial.words) × (length l.lens ≡ length l.initial.lens)
 
 abbrev pub decreases-loop-turns : goal.decreases-loop-turns
-decreases-loop-turns l = l.turns
+decreases-loop-turns g l = l.turns
