@@ -1,6 +1,6 @@
 -- Performances that the old wording calls equal, since their messages are, and that 02, 13/14 tells apart, each pair by one thing alone. A and B are messages of one word:
 --   together      A B         one command                apart       A, B      two: the division differs
---   idleBetween   A, -, B     after silence between      idleAfter   A, B, -   after silence behind: the Zero Length Command stands elsewhere
+--   idle_between  A, -, B     after silence between      idle_after  A, B, -   after silence behind: the Zero Length Command stands elsewhere
 --   alone         A           no silence                 idle        A, -      after silence: the Zero Length Command is there or not
 use Prim.Native.Nat.{ℕ}
 use mathlib.Core.Path.{◌≡◌, refl, ap}

@@ -2,9 +2,9 @@
 //
 //     a receiver's log      each data command with its answer, each poll, Retransmit Error and NAK
 //        |                  with its event
-//     callsOf               those answers, given to `held_notes`, after a start or a restart
+//     calls_of              those answers, given to `held_notes`, after a start or a restart
 //        |
-//     heldIn                is the note held
+//     held_in               is the note held
 //
 // There is no state and no code here. Each function of `theorems` only calls the theorems that it
 // rests on, if any, and its contract is a theorem:

@@ -1,5 +1,5 @@
 // Blocks of input without lines, each filled before it is used.
-ghost use Rattle.std.specs.Prelude.{IfOk};
+ghost use Rattle.std.specs.Prelude.{◌≡◌, length, IfOk, OnErr};
 ghost use Rattle.text.specs.Counts.{IsPrefixLen};
 
 use std::io;
@@ -10,7 +10,8 @@ pub const SIZE: usize = 65536;
 
 // Reads until the block is full or the input ends, and answers how many bytes it has.
 pub fn full(rt: &impl io::Input, input: &mut [u8]) -> io::Result<usize>
-    ensures { IfOk result (λ n. IsPrefixLen n input.new) }
+    ensures ok { IfOk result (λ n. IsPrefixLen n input.new) }
+    ensures err { OnErr result (length input.new ≡ length input.old) }
 {
     let mut reader = rt.reader();
     let mut done = 0;

@@ -5,7 +5,7 @@
 //
 // The buffer has two bytes more than the longest line, so that a full one is a line too long even
 // where its last byte is a carriage return.
-ghost use Rattle.std.specs.Prelude.{◌-◌, ◌≤◌, IfOk};
+ghost use Rattle.std.specs.Prelude.{◌≡◌, ◌-◌, ◌≤◌, length, IfOk, OnErr};
 ghost use Rattle.text.specs.Counts.{IsPrefixLen};
 
 use super::{fields, out};
@@ -99,7 +99,8 @@ fn bare(line: &[u8], used: usize) -> usize
 
 // Reads what input there is, as much as there is room for; nothing at its end.
 fn fetch(rt: &impl io::Input, input: &mut [u8]) -> io::Result<usize>
-    ensures { IfOk result (λ n. IsPrefixLen n input.new) }
+    ensures ok { IfOk result (λ n. IsPrefixLen n input.new) }
+    ensures err { OnErr result (length input.new ≡ length input.old) }
 {
     let mut reader = rt.reader();
     reader.read(input)
