@@ -190,7 +190,7 @@ def prove():
     """Proves and builds the program, and says each crate as it is proved."""
     if not shutil.which("rt"):
         raise Trouble("target/bin/replay has to be built, and rt, of the Rattle kit, is not on the PATH")
-    say("tools/program replay: about eight minutes where nothing is proved yet")
+    say("tools/program replay: some minutes where nothing is proved yet")
     began, said = time.time(), []
     with subprocess.Popen(["tools/program", "replay"], cwd=here, stdout=subprocess.PIPE, stderr=subprocess.STDOUT, text=True) as check:
         for line in check.stdout:
