@@ -7,20 +7,10 @@
 
 ghost use Rattle.std.specs.Prelude.{◌≡◌, ◌+◌, ◌*◌};
 
-mod out;
-
-use out::Out;
 use std::io;
 use text::blocks;
-use window::window::{Acceptance, Class, ReceiveWindow, SeqRange, Span, Started};
-
-// What is left after a block of input.
-#[derive(Clone, Copy)]
-struct Left {
-    window: ReceiveWindow,
-    // Another block may follow.
-    more: bool,
-}
+use text::out::Output;
+use window::window::{Class, ReceiveWindow, SeqRange};
 
 fn letter(class: Class) -> u8 {
     match class {
@@ -38,148 +28,91 @@ fn gap(class: Class) -> u16 {
     }
 }
 
-fn range(lost: Span) -> SeqRange {
+fn range(lost: Option<SeqRange>) -> SeqRange {
     match lost {
-        Span::Of(range) => range,
-        Span::Nothing => SeqRange { first: 0, count: 0 },
+        Some(range) => range,
+        None => SeqRange { first: 0, count: 0 },
     }
 }
 
 // A figure, and the blank after it.
-fn figure(to: Out, buf: &mut [u8], n: u16) -> Out {
-    let o = to.decimal(buf, n);
-    o.byte(buf, b' ')
+fn figure(out: &mut Output<'_, impl Print>, n: u16) -> io::Result<()> {
+    out.decimal(u64::from(n))?;
+    out.byte(b' ')
 }
 
-// The loss, and the end of the line.
-fn loss(rt: &impl Print, to: Out, buf: &mut [u8], lost: SeqRange) -> io::Result<Out> {
-    let counted = figure(to, buf, lost.count);
-    let placed = counted.decimal(buf, lost.first);
-    let ended = placed.byte(buf, b'\n');
-    ended.room(rt, buf)
-}
-
+// The line of a number. It has at most 26 bytes, and what waits is written where fewer than 64 are free.
 fn line(
-    rt: &impl Print,
-    to: Out,
-    buf: &mut [u8],
+    out: &mut Output<'_, impl Print>,
     seq: u16,
     class: Class,
-    lost: Span,
-) -> io::Result<Out> {
-    let numbered = figure(to, buf, seq);
-    let named = numbered.byte(buf, letter(class));
-    let spaced = named.byte(buf, b' ');
-    let gapped = figure(spaced, buf, gap(class));
-    loss(rt, gapped, buf, range(lost))
-}
-
-#[derive(Clone, Copy)]
-struct Step {
-    window: ReceiveWindow,
-    out: Out,
+    lost: SeqRange,
+) -> io::Result<()> {
+    figure(out, seq)?;
+    out.byte(letter(class))?;
+    out.byte(b' ')?;
+    figure(out, gap(class))?;
+    figure(out, lost.count)?;
+    out.decimal(u64::from(lost.first))?;
+    out.byte(b'\n')?;
+    out.room(64)
 }
 
 // One number arrives.
 fn arrive(
-    rt: &impl Print,
+    out: &mut Output<'_, impl Print>,
     window: ReceiveWindow,
-    to: Out,
-    buf: &mut [u8],
     seq: u16,
-) -> io::Result<Step> {
+) -> io::Result<ReceiveWindow> {
     let accepted = window.accept(seq);
-    let next = accepted.window;
     let answer = accepted.answer;
     match answer {
-        Acceptance::Heard { class, lost } => Ok(Step {
-            window: next,
-            out: line(rt, to, buf, seq, class, lost)?,
-        }),
-        Acceptance::Refused(_) => Ok(Step {
-            window: next,
-            out: to,
-        }),
+        Ok(taken) => line(out, seq, taken.class, range(taken.lost))?,
+        Err(_) => (),
     }
+    Ok(accepted.window)
 }
 
 // The higher byte comes first.
 fn number(high: u8, low: u8) -> u16
     ensures { result ≡ high * 256 + low }
 {
-    (high as u16) * 0x100 + (low as u16)
+    u16::from_be_bytes([high, low])
 }
 
-// The numbers of a block, each printed.
+// The lines of a block's numbers.
 fn block(
-    rt: &impl Print,
+    out: &mut Output<'_, impl Print>,
     first: ReceiveWindow,
-    input: &[u8],
-    buf: &mut [u8],
+    bytes: &[u8],
 ) -> io::Result<ReceiveWindow> {
     let mut window = first;
-    let mut to = Out { used: 0 };
-    let mut i = 0;
-    while i < input.len() / 2 {
-        let step = arrive(rt, window, to, buf, number(input[2 * i], input[2 * i + 1]))?;
-        window = step.window;
-        to = step.out;
-        i += 1;
+    for pair in bytes.chunks_exact(2) {
+        window = arrive(out, window, number(pair[0], pair[1]))?;
     }
-    to.flush(rt, buf)?;
+    out.flush()?;
+    if bytes.len() % 2 == 1 {
+        out.text(b"cut\n")?;
+        out.flush()?;
+    }
     Ok(window)
 }
 
-// Reads a block of input, and prints its lines.
-fn turn(
-    rt: &(impl Print + Input),
-    window: ReceiveWindow,
-    input: &mut [u8],
-    buf: &mut [u8],
-) -> io::Result<Left> {
-    let n = blocks::full(rt, input)?;
-    let full = n == input.len();
-    let next = block(rt, window, &input[..n], buf)?;
-    if n % 2 == 1 {
-        rt.write_all(b"cut\n")?;
-        return Ok(Left {
-            window: next,
-            more: false,
-        });
-    }
-    Ok(Left {
-        window: next,
-        more: full,
-    })
-}
-
-// A proved loop has to end, and nothing says that the input does: it counts down from a number that
-// no run uses up.
-fn all(
-    rt: &(impl Print + Input),
-    first: ReceiveWindow,
-    input: &mut [u8],
-    buf: &mut [u8],
-) -> io::Result<()> {
+fn all(rt: &(impl Print + Input), first: ReceiveWindow) -> io::Result<()> {
+    let mut input = [0u8; blocks::SIZE];
+    let mut to = [0u8; blocks::SIZE];
+    let mut out = Output::new(rt, &mut to);
     let mut window = first;
-    let mut turns = u64::MAX;
-    while 0 < turns {
-        let left = turn(rt, window, input, buf)?;
-        window = left.window;
-        turns -= 1;
-        if !left.more {
-            return Ok(());
-        }
-    }
-    Ok(())
+    blocks::each(rt, &mut input, |bytes| {
+        window = block(&mut out, window, bytes)?;
+        Ok(true)
+    })
 }
 
 // Reads all of standard input.
 pub fn run(rt: &(impl Print + Input)) -> io::Result<()> {
-    let mut input = [0u8; blocks::SIZE];
-    let mut buf = [0u8; blocks::SIZE];
     match ReceiveWindow::new(64) {
-        Started::Window(window) => all(rt, window, &mut input, &mut buf),
-        Started::Refused(_) => Ok(()),
+        Ok(window) => all(rt, window),
+        Err(_) => Ok(()),
     }
 }

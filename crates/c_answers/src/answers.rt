@@ -1,14 +1,14 @@
 // Answers as numbers: each has 0, or the number of a refusal, in `refusal`; then every other field
-// is 0.
+// is 0. The kinds are numbers and a flag stands beside its values, since C reads them.
 ghost use Rattle.std.specs.Prelude.{◌≡◌};
 ghost use Rattle.c_answers.specs.Answers.{span_numbers, class_number, skipped_in, class_of, delivery_of, delivery_refused, written_refused, written_of, acceptance_of, ignored_number, outcome_refused, outcome_of, event_refused, event_of, request_refused, request_of, deadline_refused, deadline_of, wants_refused, wants_of};
 
-use config::answer::{Answered, Deadline};
+use config::refusal::Refusal;
 use history::queue::Ignored;
-use receiver::receiver::{Hearing, Request, StreamEvent};
+use receiver::receiver::{Delivery, Request, StreamEvent};
 use sender::sender::RequestOutcome;
-use window::window::{Acceptance, Class, Span};
-use writing::writing::Writing;
+use window::window::{Class, SeqRange, Taken};
+use writing::writing::Written;
 
 // What became of a Retransmit Request: 0 queued, 1 one with its number waits, 2 every place is
 // taken, 3 the error to write, 4 not supported.
@@ -106,39 +106,35 @@ pub fn refused_outcome(n: u8) -> COutcome
     }
 }
 
-pub fn of_outcome(a: RequestOutcome) -> COutcome
+pub fn of_outcome(a: Result<RequestOutcome, Refusal>) -> COutcome
     ensures { result ≡ outcome_of a }
 {
     match a {
-        RequestOutcome::Queued => refused_outcome(0),
-        RequestOutcome::Ignored(i) => COutcome {
-            refusal: 0,
+        Ok(RequestOutcome::Queued) => refused_outcome(0),
+        Ok(RequestOutcome::Ignored(i)) => COutcome {
             kind: of_ignored(i),
-            reason: 0,
-            seq: 0,
+            ..refused_outcome(0)
         },
-        RequestOutcome::Error(e) => COutcome {
+        Ok(RequestOutcome::Error(e)) => COutcome {
             refusal: 0,
             kind: 3,
             reason: e.reason,
             seq: e.seq,
         },
-        RequestOutcome::NotSupported => COutcome {
-            refusal: 0,
+        Ok(RequestOutcome::NotSupported) => COutcome {
             kind: 4,
-            reason: 0,
-            seq: 0,
+            ..refused_outcome(0)
         },
-        RequestOutcome::Refused(why) => refused_outcome(why.number()),
+        Err(why) => refused_outcome(why.number()),
     }
 }
 
-pub fn of_span(a: Span) -> Numbers
+pub fn of_span(a: Option<SeqRange>) -> Numbers
     ensures { result ≡ span_numbers a }
 {
     match a {
-        Span::Nothing => Numbers { first: 0, count: 0 },
-        Span::Of(range) => Numbers {
+        None => Numbers { first: 0, count: 0 },
+        Some(range) => Numbers {
             first: range.first,
             count: range.count,
         },
@@ -163,7 +159,7 @@ fn class_number(c: Class) -> u8
     ensures { result ≡ class_number c }
 {
     match c {
-        Class::New(n) => 0,
+        Class::New(_) => 0,
         Class::Late => 1,
         Class::Duplicate => 2,
     }
@@ -174,12 +170,11 @@ fn skipped(c: Class) -> u16
 {
     match c {
         Class::New(n) => n,
-        Class::Late => 0,
-        Class::Duplicate => 0,
+        Class::Late | Class::Duplicate => 0,
     }
 }
 
-pub fn of_class(class: Class, gap: Span, lost: Span) -> CDelivery
+pub fn of_class(class: Class, gap: Option<SeqRange>, lost: Option<SeqRange>) -> CDelivery
     ensures { result ≡ class_of class gap lost }
 {
     let g = of_span(gap);
@@ -195,17 +190,12 @@ pub fn of_class(class: Class, gap: Span, lost: Span) -> CDelivery
     }
 }
 
-pub fn of_hearing(a: Hearing) -> CDelivery
+pub fn of_hearing(a: Result<Delivery, Refusal>) -> CDelivery
     ensures { result ≡ delivery_of a }
 {
     match a {
-        Hearing::Delivery(d) => {
-            let class = d.class;
-            let gap = d.gap;
-            let lost = d.lost;
-            of_class(class, gap, lost)
-        }
-        Hearing::Refused(why) => refused_delivery(why.number()),
+        Ok(d) => of_class(d.class, d.gap, d.lost),
+        Err(why) => refused_delivery(why.number()),
     }
 }
 
@@ -222,20 +212,18 @@ pub fn refused_event(n: u8) -> CEvent
     }
 }
 
-pub fn of_event(a: StreamEvent) -> CEvent
+pub fn of_event(a: Result<Option<StreamEvent>, Refusal>) -> CEvent
     ensures { result ≡ event_of a }
 {
     match a {
-        StreamEvent::Nothing => refused_event(0),
-        StreamEvent::DataLoss(range) => CEvent {
-            refusal: 0,
+        Ok(None) => refused_event(0),
+        Ok(Some(StreamEvent::DataLoss(range))) => CEvent {
             kind: 1,
-            reason: 0,
-            seq: 0,
             first: range.first,
             count: range.count,
+            ..refused_event(0)
         },
-        StreamEvent::ErrorLoss(range, e) => CEvent {
+        Ok(Some(StreamEvent::ErrorLoss(range, e))) => CEvent {
             refusal: 0,
             kind: 2,
             reason: e.reason,
@@ -243,15 +231,13 @@ pub fn of_event(a: StreamEvent) -> CEvent
             first: range.first,
             count: range.count,
         },
-        StreamEvent::RetransmitError(e) => CEvent {
-            refusal: 0,
+        Ok(Some(StreamEvent::RetransmitError(e))) => CEvent {
             kind: 3,
             reason: e.reason,
             seq: e.seq,
-            first: 0,
-            count: 0,
+            ..refused_event(0)
         },
-        StreamEvent::Refused(why) => refused_event(why.number()),
+        Err(why) => refused_event(why.number()),
     }
 }
 
@@ -264,23 +250,20 @@ pub fn refused_request(n: u8) -> CRequest
     }
 }
 
-pub fn of_request(a: Request) -> CRequest
+pub fn of_request(a: Result<Request, Refusal>) -> CRequest
     ensures { result ≡ request_of a }
 {
     match a {
-        Request::Nothing => CRequest {
-            refusal: 0,
-            kind: 0,
-        },
-        Request::Written => CRequest {
+        Ok(Request::Nothing) => refused_request(0),
+        Ok(Request::Written) => CRequest {
             refusal: 0,
             kind: 1,
         },
-        Request::More => CRequest {
+        Ok(Request::More) => CRequest {
             refusal: 0,
             kind: 2,
         },
-        Request::Refused(why) => refused_request(why.number()),
+        Err(why) => refused_request(why.number()),
     }
 }
 
@@ -294,21 +277,17 @@ pub fn refused_deadline(n: u8) -> CDeadline
     }
 }
 
-pub fn of_deadline(a: Deadline) -> CDeadline
+pub fn of_deadline(a: Result<Option<u64>, Refusal>) -> CDeadline
     ensures { result ≡ deadline_of a }
 {
     match a {
-        Deadline::Nothing => CDeadline {
-            time: 0,
-            refusal: 0,
-            kind: 0,
-        },
-        Deadline::At(t) => CDeadline {
+        Ok(None) => refused_deadline(0),
+        Ok(Some(t)) => CDeadline {
             time: t,
             refusal: 0,
             kind: 1,
         },
-        Deadline::Refused(why) => refused_deadline(why.number()),
+        Err(why) => refused_deadline(why.number()),
     }
 }
 
@@ -321,15 +300,15 @@ pub fn refused_wants(n: u8) -> CWants
     }
 }
 
-pub fn of_wants(a: Answered) -> CWants
+pub fn of_wants(a: Result<bool, Refusal>) -> CWants
     ensures { result ≡ wants_of a }
 {
     match a {
-        Answered::Is(b) => CWants {
+        Ok(b) => CWants {
             refusal: 0,
             wants: b as u8,
         },
-        Answered::Refused(why) => refused_wants(why.number()),
+        Err(why) => refused_wants(why.number()),
     }
 }
 
@@ -343,24 +322,24 @@ pub fn refused_written(n: u8) -> CWritten
     }
 }
 
-pub fn of_writing(a: Writing) -> CWritten
+pub fn of_writing(a: Result<Written, Refusal>) -> CWritten
     ensures { result ≡ written_of a }
 {
     match a {
-        Writing::Written(w) => CWritten {
+        Ok(w) => CWritten {
             commands: w.commands as u64,
             refusal: 0,
             more: w.more as u8,
         },
-        Writing::Refused(why) => refused_written(why.number()),
+        Err(why) => refused_written(why.number()),
     }
 }
 
-pub fn of_acceptance(a: Acceptance) -> CDelivery
+pub fn of_acceptance(a: Result<Taken, Refusal>) -> CDelivery
     ensures { result ≡ acceptance_of a }
 {
     match a {
-        Acceptance::Heard { class, lost } => of_class(class, Span::Nothing, lost),
-        Acceptance::Refused(why) => refused_delivery(why.number()),
+        Ok(taken) => of_class(taken.class, None, taken.lost),
+        Err(why) => refused_delivery(why.number()),
     }
 }

@@ -1,5 +1,7 @@
 -- A refused call hands back what it was given.
 use mathlib.Core.Path.{◌≡◌, refl}
+use Rattle.std.proofs.Common.{Result, Ok}
+use Rattle.config.specs.declared.refusal.Refusal.{Refusal}
 use mathlib.Core.Bool.{Bool, true, false, cond, not, ◌||◌}
 use mathlib.Core.List.{List, [], ◌∷◌}
 use Prim.Native.Nat.{ℕ}
@@ -16,7 +18,6 @@ use Rattle.packet.specs.declared.cursor.Header.{Header}
 use Rattle.packet.specs.declared.cursor.PacketItem.{PacketItem}
 use Rattle.packet.specs.declared.cursor.PacketItem.TheVariants.{Command as WholeCommand, Truncated, End}
 use Rattle.packet.specs.declared.writer.PayloadWriter.{PayloadWriter}
-use Rattle.packet.specs.declared.writer.Opened.{Opened}
 use Rattle.packet.specs.declared.writer.Wrote.{Wrote}
 use Rattle.packet.proofs.Outcomes.{outcome}
 use Rattle.packet.proofs.Splice.{spliced_nil}
@@ -37,7 +38,7 @@ module _ (p : List ℕ) where
   pub open_keeps : (max : ℕ) → KeptOne itself p (open_export p max)
   unfolding open_export opened_of
   open_keeps max =
-      call_keeps _ _ (λ (e : Opened). opened_into e p) _ (opened_of max) (λ n. refl) (λ _ _. by_test (outside 8 1400 max) _ _ (λ _. as_was refl) (done refl))
+      call_keeps _ _ (λ (e : Result PayloadWriter Refusal). opened_into e p) _ (opened_of max) (λ n. refl) (λ _ _. by_test (outside 8 1400 max) _ _ (λ _. as_was refl) (done refl))
 
 module _ (p b : List ℕ) where
   abbrev PutKept : Wrote × List ℕ → Type 0
@@ -87,7 +88,7 @@ module _ (words lens : List ℕ) where
   parsed_kept h next ws = by_code (eqb h.code 0xFF) (eqb h.code 0x80) (eqb h.code 0x81) ws
     where
       by_code : (ump request error : Bool) (ws : List ℕ)
-          → KeptTwo (λ (a : Read). a.refusal) words lens (command_read h.len next (whole_count ws) (cond ump (UmpData record { seq = csd_of h }) (cond request (request_in h ws) (cond error (error_in h ws) (Raw h)))), spliced words 0 ws, cond ump (spliced lens 0 (lengths_of ws)) lens)
+          → KeptTwo (λ (a : Read). a.refusal) words lens (command_read h.len next (whole_count ws) (cond ump (Ok (UmpData record { seq = csd_of h })) (cond request (request_in h ws) (cond error (error_in h ws) (Ok (Raw h))))), spliced words 0 ws, cond ump (spliced lens 0 (lengths_of ws)) lens)
       by_code true request error ws = done refl
       by_code false true error [] = as_was (spliced_nil words 0 (omega arith), refl)
       by_code false true error (w ∷ ws) = done refl

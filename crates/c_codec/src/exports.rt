@@ -10,7 +10,7 @@ ghost use Rattle.c_codec.specs.Exports.{open_export, command_export};
 use c_words::{guard, payload};
 use command::data::UmpData;
 use command::retransmit::{RetransmitError, RetransmitRequest};
-use packet::writer::{Opened, PayloadWriter};
+use packet::writer::PayloadWriter;
 use read_command::next;
 use read_command::next::Read;
 
@@ -21,11 +21,11 @@ pub extern "C" fn sirmjold_payload_new(p: &mut [u64], max: usize) -> u8
 {
     if p.len() == 2 {
         match PayloadWriter::new(max) {
-            Opened::Payload(payload) => {
+            Ok(payload) => {
                 payload::open(payload, p);
                 return 0;
             }
-            Opened::Refused(why) => {
+            Err(why) => {
                 return why.number();
             }
         }
@@ -51,7 +51,7 @@ pub extern "C" fn sirmjold_payload_command(
         let after = done.payload;
         let answer = done.answer;
         payload::store(after, p);
-        return answer.number();
+        return config::answer::number(answer);
     }
     guard::INVALID_STATE
 }
@@ -71,7 +71,7 @@ pub extern "C" fn sirmjold_ump_data_write(
         let after = done.payload;
         let answer = done.answer;
         payload::store(after, p);
-        return answer.number();
+        return config::answer::number(answer);
     }
     guard::INVALID_STATE
 }
@@ -92,7 +92,7 @@ pub extern "C" fn sirmjold_retransmit_request_write(
         let after = done.payload;
         let answer = done.answer;
         payload::store(after, p);
-        return answer.number();
+        return config::answer::number(answer);
     }
     guard::INVALID_STATE
 }
@@ -113,7 +113,7 @@ pub extern "C" fn sirmjold_retransmit_error_write(
         let after = done.payload;
         let answer = done.answer;
         payload::store(after, p);
-        return answer.number();
+        return config::answer::number(answer);
     }
     guard::INVALID_STATE
 }

@@ -1,5 +1,12 @@
 -- A command that is given to its end: the answer, and words that fit.
 use mathlib.Core.Path.{◌≡◌, sym, ap, subst, ◌∙◌}
+use Rattle.std.proofs.Common.{Option, Result}
+use Rattle.config.specs.declared.refusal.Refusal.{Refusal}
+use Rattle.receiver.specs.declared.receiver.Delivery.{Delivery}
+use Rattle.receiver.specs.declared.receiver.ReceiverAnswer.{ReceiverAnswer}
+use Rattle.receiver.specs.declared.receiver.StreamEvent.{StreamEvent}
+use Rattle.sender.specs.declared.sender.RequestOutcome.{RequestOutcome}
+use Rattle.sender.specs.declared.sender.SenderAnswer.{SenderAnswer}
 use mathlib.Core.Bool.{true}
 use mathlib.Core.List.{List}
 use Prim.Native.Nat.{ℕ, ◌<◌}
@@ -8,11 +15,8 @@ use Rattle.command.specs.declared.retransmit.RetransmitRequest.{RetransmitReques
 use Rattle.command.specs.declared.retransmit.RetransmitError.{RetransmitError}
 use Rattle.receiver.specs.Answers as receiver
 use Rattle.receiver.specs.declared.receiver.Receiver.{Receiver}
-use Rattle.receiver.specs.declared.receiver.Hearing.{Hearing}
-use Rattle.receiver.specs.declared.receiver.Told.{Told}
 use Rattle.sender.specs.Answers as sender
 use Rattle.sender.specs.declared.sender.Sender.{Sender}
-use Rattle.sender.specs.declared.sender.RequestHeard.{RequestHeard}
 use Rattle.stream.specs.Ends.{data_answer, request_answer, error_answer}
 use Rattle.c_answers.specs.Answers.{delivery_of, outcome_of, event_of}
 use Rattle.c_answers.specs.declared.answers.CDelivery.{CDelivery}
@@ -39,14 +43,14 @@ module _ (st : List ℕ) (wide : Wide st) where
   unfolding data_answer loaded
   data_narrow cfg time seq = (stays.hear cfg time seq).0
 
-  pub data_given_lem : fits st ≡ true → (cfg : StreamConfig) (time seq : ℕ) → seq < 65536 → (h : Hearing) (after : List ℕ) → (h, after) ≡ heard_into st (receiver.data_answer (receiver_in st) cfg time seq)
+  pub data_given_lem : fits st ≡ true → (cfg : StreamConfig) (time seq : ℕ) → seq < 65536 → (h : Result Delivery Refusal) (after : List ℕ) → (h, after) ≡ heard_into st (receiver.data_answer (receiver_in st) cfg time seq)
       → (d : CDelivery) → d ≡ delivery_of h → (f : Figures) → f ≡ delivery_figures d
       → ((f, after) ≡ data_given st cfg time seq) × (fits after ≡ true)
   unfolding data_given data_answer loaded
   data_given_lem all cfg time seq few h after eh d ed f ef = (
     ap (λ (x : Figures). (x, after)) (ef ∙ ap delivery_figures ed)
-        ∙ ap (λ (x : Hearing × List ℕ). (delivery_figures (delivery_of x.0), x.1)) eh,
-    subst (λ (x : List ℕ). fits x ≡ true) (sym (ap (λ (x : Hearing × List ℕ). x.1) eh)) (data_fits st all wide cfg time seq few (data_narrow cfg time seq)),
+        ∙ ap (λ (x : Result Delivery Refusal × List ℕ). (delivery_figures (delivery_of x.0), x.1)) eh,
+    subst (λ (x : List ℕ). fits x ≡ true) (sym (ap (λ (x : Result Delivery Refusal × List ℕ). x.1) eh)) (data_fits st all wide cfg time seq few (data_narrow cfg time seq)),
   )
 
   -- ---- an error
@@ -54,20 +58,20 @@ module _ (st : List ℕ) (wide : Wide st) where
   unfolding error_answer loaded
   error_narrow err = (stays.error err).0
 
-  module _ (r : Receiver) (from : r ≡ receiver_in st) (err : RetransmitError) (e : Told) (q : e ≡ receiver.error_answer r err) where
+  module _ (r : Receiver) (from : r ≡ receiver_in st) (err : RetransmitError) (e : ReceiverAnswer (Option StreamEvent)) (q : e ≡ receiver.error_answer r err) where
     told : e ≡ receiver.error_answer (receiver_in st) err
     told = q ∙ ap (λ (x : Receiver). receiver.error_answer x err) from
 
     pub error_stored : NarrowReceiver e.receiver
-    error_stored = subst (λ (x : Told). NarrowReceiver x.receiver) (sym told) (error_narrow err)
+    error_stored = subst (λ (x : ReceiverAnswer (Option StreamEvent)). NarrowReceiver x.receiver) (sym told) (error_narrow err)
 
-    pub error_given_lem : fits st ≡ true → (after : List ℕ) → after ≡ with_receiver st e.receiver → (a : CEvent) → a ≡ event_of e.event → (f : Figures) → f ≡ event_figures a
+    pub error_given_lem : fits st ≡ true → (after : List ℕ) → after ≡ with_receiver st e.receiver → (a : CEvent) → a ≡ event_of e.answer → (f : Figures) → f ≡ event_figures a
         → ((f, after) ≡ error_given st err) × (fits after ≡ true)
     unfolding error_given error_answer loaded
     error_given_lem all after ea a et f ef =
-        let s : after ≡ with_receiver st (receiver.error_answer (receiver_in st) err).receiver = ea ∙ ap (λ (x : Told). with_receiver st x.receiver) told in (
-          ap (λ (x : Figures). (x, after)) (ef ∙ ap event_figures (et ∙ ap (λ (x : Told). event_of x.event) told))
-              ∙ ap (λ (x : List ℕ). (event_figures (event_of (receiver.error_answer (receiver_in st) err).event), x)) s,
+        let s : after ≡ with_receiver st (receiver.error_answer (receiver_in st) err).receiver = ea ∙ ap (λ (x : ReceiverAnswer (Option StreamEvent)). with_receiver st x.receiver) told in (
+          ap (λ (x : Figures). (x, after)) (ef ∙ ap event_figures (et ∙ ap (λ (x : ReceiverAnswer (Option StreamEvent)). event_of x.answer) told))
+              ∙ ap (λ (x : List ℕ). (event_figures (event_of (receiver.error_answer (receiver_in st) err).answer), x)) s,
           subst (λ (x : List ℕ). fits x ≡ true) (sym s) (error_fits st all wide err (error_narrow err)),
         )
 
@@ -76,19 +80,19 @@ module _ (st : List ℕ) (wide : Wide st) where
   unfolding request_answer loaded
   request_narrow cfg ring a = (stays.request cfg ring a).1
 
-  module _ (s : Sender) (from : s ≡ sender_in st) (cfg : StreamConfig) (ring : List ℕ) (a : RetransmitRequest) (e : RequestHeard) (q : e ≡ sender.request_answer s cfg ring a) where
+  module _ (s : Sender) (from : s ≡ sender_in st) (cfg : StreamConfig) (ring : List ℕ) (a : RetransmitRequest) (e : SenderAnswer RequestOutcome) (q : e ≡ sender.request_answer s cfg ring a) where
     heard : e ≡ sender.request_answer (sender_in st) cfg ring a
     heard = q ∙ ap (λ (x : Sender). sender.request_answer x cfg ring a) from
 
     pub request_stored : NarrowSender e.sender
-    request_stored = subst (λ (x : RequestHeard). NarrowSender x.sender) (sym heard) (request_narrow cfg ring a)
+    request_stored = subst (λ (x : SenderAnswer RequestOutcome). NarrowSender x.sender) (sym heard) (request_narrow cfg ring a)
 
-    pub request_given_lem : fits st ≡ true → (after : List ℕ) → after ≡ with_sender st e.sender → (o : COutcome) → o ≡ outcome_of e.outcome → (f : Figures) → f ≡ outcome_figures o
+    pub request_given_lem : fits st ≡ true → (after : List ℕ) → after ≡ with_sender st e.sender → (o : COutcome) → o ≡ outcome_of e.answer → (f : Figures) → f ≡ outcome_figures o
         → ((f, after) ≡ request_given st cfg ring a) × (fits after ≡ true)
     unfolding request_given request_answer loaded
     request_given_lem all after ea o eo f ef =
-        let t : after ≡ with_sender st (sender.request_answer (sender_in st) cfg ring a).sender = ea ∙ ap (λ (x : RequestHeard). with_sender st x.sender) heard in (
-          ap (λ (x : Figures). (x, after)) (ef ∙ ap outcome_figures (eo ∙ ap (λ (x : RequestHeard). outcome_of x.outcome) heard))
-              ∙ ap (λ (x : List ℕ). (outcome_figures (outcome_of (sender.request_answer (sender_in st) cfg ring a).outcome), x)) t,
+        let t : after ≡ with_sender st (sender.request_answer (sender_in st) cfg ring a).sender = ea ∙ ap (λ (x : SenderAnswer RequestOutcome). with_sender st x.sender) heard in (
+          ap (λ (x : Figures). (x, after)) (ef ∙ ap outcome_figures (eo ∙ ap (λ (x : SenderAnswer RequestOutcome). outcome_of x.answer) heard))
+              ∙ ap (λ (x : List ℕ). (outcome_figures (outcome_of (sender.request_answer (sender_in st) cfg ring a).answer), x)) t,
           subst (λ (x : List ℕ). fits x ≡ true) (sym t) (request_fits st all cfg ring a (request_narrow cfg ring a)),
         )

@@ -1,5 +1,7 @@
 -- What stands at a place, by what was found.
 use mathlib.Core.Path.{◌≡◌, refl, sym, ap, ◌∙◌}
+use Rattle.std.proofs.Common.{Result}
+use Rattle.config.specs.declared.refusal.Refusal.{Refusal}
 use mathlib.Core.Bool.{true, false}
 use mathlib.Core.List.{List}
 use Prim.Native.Nat.{ℕ, zero, suc, ◌+◌, ◌-◌, ◌*◌, ◌/◌, ◌≤◌, ◌<◌}
@@ -46,7 +48,7 @@ module _ (cfg : StreamConfig) (time : ℕ) (ring : List ℕ) (h : Header) (at n 
   unfolding whole_turn
   whole_full e = rw (le-leb (length out / 4) k e)
 
-  pub whole_answered : k < length out / 4 → (c : Command) → c ≡ parsed_of h ws → (f : Figures) (next : List ℕ) → (f, next) ≡ given_of st cfg time ring c
+  pub whole_answered : k < length out / 4 → (c : Result Command Refusal) → c ≡ parsed_of h ws → (f : Figures) (next : List ℕ) → (f, next) ≡ given_of st cfg time ring c
       → (read : ℕ) → read ≡ read_word (command_read h.len 0 0 c) → (after : List ℕ) → after ≡ answered out k at read f
       → ◌≡◌ {A = Turned} (goes_on n (k + 1), next, after) (whole_turn cfg time ring h at n ws k st out)
   unfolding whole_turn
@@ -54,7 +56,7 @@ module _ (cfg : StreamConfig) (time : ℕ) (ring : List ℕ) (h : Header) (at n 
       rw (lt-leb (length out / 4) k e)
       (ap (λ (x : List ℕ). (goes_on n (k + 1), next, x)) (ea ∙ ap (λ (x : ℕ). answered out k at x f) er)
       ∙ ap (λ (x : Figures × List ℕ). (goes_on n (k + 1), x.1, answered out k at (read_word (command_read h.len 0 0 c)) x.0)) eg
-      ∙ ap (λ (x : Command). let g = given_of st cfg time ring x in (goes_on n (k + 1), g.1, answered out k at (read_word (command_read h.len 0 0 x)) g.0)) ec)
+      ∙ ap (λ (x : Result Command Refusal). let g = given_of st cfg time ring x in (goes_on n (k + 1), g.1, answered out k at (read_word (command_read h.len 0 0 x)) g.0)) ec)
 
 -- ---- what stands at a place
 -- the bytes between a command's header and the next command

@@ -15,6 +15,7 @@ ghost use Rattle.c_hearing.specs.Figures.{read_word, number_figures, delivery_fi
 use c_answers::answers::{CDelivery, CEvent, COutcome};
 use c_state::pack;
 use command::parse::Command;
+use config::refusal::Refusal;
 
 // What was answered.
 #[derive(Clone, Copy)]
@@ -31,15 +32,15 @@ pub fn read(kind: u8, code: u8, len: u8, seq: u16, count: u16) -> u64
 }
 
 // A command of `len` words.
-pub fn of_command(len: u8, command: Command) -> u64
+pub fn of_command(len: u8, command: Result<Command, Refusal>) -> u64
     ensures { result ≡ read_word (command_read len 0 0 command) }
 {
     match command {
-        Command::UmpData(d) => read(3, 0, len, d.seq, 0),
-        Command::RetransmitRequest(r) => read(4, 0, len, r.seq, r.count),
-        Command::RetransmitError(e) => read(5, e.reason, len, e.seq, 0),
-        Command::Raw(h) => read(2, h.code, len, h.csd(), 0),
-        Command::Refused(_) => read(0, 0, len, 0, 0),
+        Ok(Command::UmpData(d)) => read(3, 0, len, d.seq, 0),
+        Ok(Command::RetransmitRequest(r)) => read(4, 0, len, r.seq, r.count),
+        Ok(Command::RetransmitError(e)) => read(5, e.reason, len, e.seq, 0),
+        Ok(Command::Raw(h)) => read(2, h.code, len, h.csd(), 0),
+        Err(_) => read(0, 0, len, 0, 0),
     }
 }
 

@@ -1,9 +1,8 @@
 // The commands of a payload, one after the other. Each has four words in `heard`: its place, the command
 // as it was read, and what was answered.
-ghost use Rattle.std.specs.Prelude.{◌≡◌, true, [], ◌∷◌, ◌+◌, ◌*◌, ◌/◌, ◌≤◌, length};
+ghost use Rattle.std.specs.Prelude.{◌≡◌, true, ◌+◌, ◌*◌, ◌/◌, ◌≤◌, length};
 ghost use Rattle.config.specs.Settings.{check_of};
-ghost use Rattle.config.specs.declared.answer.Outcome.TheVariants.{Done};
-ghost use Rattle.packet.specs.Bytes.{words_of, spliced};
+ghost use Rattle.packet.specs.Bytes.{words_of};
 ghost use Rattle.packet.specs.Read.{next_of};
 ghost use Rattle.c_state.specs.Stream.{fits};
 ghost use Rattle.c_hearing.specs.Walk.{answered, cut_turn, whole_turn, turn_at, hear_from};
@@ -29,7 +28,7 @@ pub struct CHeard {
 }
 
 // After a command: the answers, and the place of the next command. Where hearing ends, that of the first
-// that was not heard, or 0.
+// that was not heard, or 0: both are told either way, so the flag is no Option's.
 #[derive(Clone, Copy)]
 pub struct Turn {
     pub ends: bool,
@@ -79,7 +78,7 @@ fn whole(
     s: &mut [u64],
     heard: &mut [u64],
 ) -> Turn
-    requires { (fits s.old ≡ true) × (check_of cfg ≡ Done) }
+    requires { (fits s.old ≡ true) × (check_of cfg ≡ Ok tt) }
     ensures { ((result, s.new, heard.new) ≡ whole_turn cfg time ring.now header at next (words_of body.now) count s.old heard.old) × (fits s.new ≡ true) }
 {
     if heard.len() / ANSWER <= count {
@@ -116,7 +115,7 @@ fn hear_at(
     s: &mut [u64],
     heard: &mut [u64],
 ) -> Turn
-    requires { (fits s.old ≡ true) × (check_of cfg ≡ Done) }
+    requires { (fits s.old ≡ true) × (check_of cfg ≡ Ok tt) }
     ensures { ((result, s.new, heard.new) ≡ turn_at (next_of payload.now at) cfg time ring.now payload.now at count s.old heard.old) × (fits s.new ≡ true) }
 {
     let cursor = Cursor { at };
@@ -156,13 +155,12 @@ pub fn hear(
     s: &mut [u64],
     heard: &mut [u64],
 ) -> CHeard
-    requires { (fits s.old ≡ true) × (check_of cfg ≡ Done) }
+    requires { (fits s.old ≡ true) × (check_of cfg ≡ Ok tt) }
     ensures { (result, s.new, heard.new) ≡ hear_from (length payload.now / 4) cfg time ring.now payload.now from 0 s.old heard.old }
 {
     let mut at = from;
     let mut count = 0;
-    let mut turns = payload.len() / 4;
-    while 0 < turns {
+    for _ in 0..payload.len() / 4 {
         let done = hear_at(cfg, time, ring, payload, at, count, s, heard);
         if done.ends {
             return CHeard {
@@ -173,7 +171,6 @@ pub fn hear(
         }
         at = done.next;
         count = done.count;
-        turns -= 1;
     }
     CHeard {
         next: 0,

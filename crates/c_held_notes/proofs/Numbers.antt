@@ -1,17 +1,17 @@
 -- One law for each way out of a test.
 use Prim.Native.Nat.{ℕ}
+use Rattle.std.proofs.Common.{Option, Some, None, Result, Ok, Err}
+use Rattle.config.specs.declared.refusal.Refusal.{Refusal}
+use Rattle.receiver.specs.declared.receiver.Delivery.{Delivery}
+use Rattle.window.specs.declared.window.SeqRange.{SeqRange}
 use mathlib.Core.Path.{◌≡◌, ap, ap₂, ◌∙◌}
 use mathlib.Core.List.{List}
 use borrow.Author.Tests.{eq-eqb, ne_eqb}
 use Rattle.config.specs.declared.refusal.Refusal.TheVariants.{InvalidState}
 use Rattle.window.specs.declared.window.Class.{Class}
 use Rattle.window.specs.declared.window.Class.TheVariants.{New, Late, Duplicate}
-use Rattle.window.specs.declared.window.Span.{Span}
-use Rattle.window.specs.declared.window.Span.TheVariants.{Nothing, Of}
-use Rattle.receiver.specs.declared.receiver.Hearing.{Hearing}
-use Rattle.receiver.specs.declared.receiver.Hearing.TheVariants.{Delivery as Delivered, Refused as HearingRefused}
 use Rattle.receiver.specs.declared.receiver.StreamEvent.{StreamEvent}
-use Rattle.receiver.specs.declared.receiver.StreamEvent.TheVariants.{Nothing as NoEvent, DataLoss}
+use Rattle.receiver.specs.declared.receiver.StreamEvent.TheVariants.{DataLoss}
 use Rattle.held_notes.specs.Calls.{delivered, told}
 use Rattle.held_notes.specs.Answers.{answer_of}
 use Rattle.held_notes.specs.declared.held.HeldNotes.{HeldNotes}
@@ -32,41 +32,41 @@ module _ (n : ℕ) where
   unfolding class_of
   class_other a b = rw (ne_eqb n 0 a, ne_eqb n 1 b)
 
-  pub span_none : n ≡ 0 → Nothing ≡ span_of n
+  pub span_none : n ≡ 0 → None ≡ span_of n
   unfolding span_of
   span_none a = rw (eq-eqb n 0 a)
 
-  pub span_some : (n ≡ 0 → ⊥) → Of record { first = 0; count = n } ≡ span_of n
+  pub span_some : (n ≡ 0 → ⊥) → Some record { first = 0; count = n } ≡ span_of n
   unfolding span_of
   span_some a = rw (ne_eqb n 0 a)
 
-  pub event_loss_lem : n ≡ 1 → DataLoss record { first = 0; count = 1 } ≡ event_of n
+  pub event_loss_lem : n ≡ 1 → Ok (Some (DataLoss record { first = 0; count = 1 })) ≡ event_of n
   unfolding event_of
   event_loss_lem a = rw (eq-eqb n 1 a)
 
-  pub event_error_loss : (n ≡ 1 → ⊥) → n ≡ 2 → DataLoss record { first = 0; count = 1 } ≡ event_of n
+  pub event_error_loss : (n ≡ 1 → ⊥) → n ≡ 2 → Ok (Some (DataLoss record { first = 0; count = 1 })) ≡ event_of n
   unfolding event_of
   event_error_loss a b = rw (ne_eqb n 1 a, eq-eqb n 2 b)
 
-  pub event_none : (n ≡ 1 → ⊥) → (n ≡ 2 → ⊥) → NoEvent ≡ event_of n
+  pub event_none : (n ≡ 1 → ⊥) → (n ≡ 2 → ⊥) → Ok None ≡ event_of n
   unfolding event_of
   event_none a b = rw (ne_eqb n 1 a, ne_eqb n 2 b)
 
 module _ (refusal class count : ℕ) where
-  pub hearing_done : refusal ≡ 0 → (c : Class) (l : Span) → c ≡ class_of class → l ≡ span_of count
-      → Delivered record { seq = 0; class = c; gap = Nothing; lost = l } ≡ hearing_of refusal class count
+  pub hearing_done : refusal ≡ 0 → (c : Class) (l : Option SeqRange) → c ≡ class_of class → l ≡ span_of count
+      → Ok record { seq = 0; class = c; gap = None; lost = l } ≡ hearing_of refusal class count
   unfolding hearing_of
-  hearing_done a c l e f = rw (eq-eqb refusal 0 a) (ap₂ (λ (x : Class) (y : Span). Delivered record { seq = 0; class = x; gap = Nothing; lost = y }) e f)
+  hearing_done a c l e f = rw (eq-eqb refusal 0 a) (ap₂ (λ (x : Class) (y : Option SeqRange). Ok record { seq = 0; class = x; gap = None; lost = y }) e f)
 
-  pub hearing_refused_lem : (refusal ≡ 0 → ⊥) → HearingRefused InvalidState ≡ hearing_of refusal class count
+  pub hearing_refused_lem : (refusal ≡ 0 → ⊥) → Err InvalidState ≡ hearing_of refusal class count
   unfolding hearing_of
   hearing_refused_lem a = rw (ne_eqb refusal 0 a)
 
 -- ---- by what the numbers stand for
 
-pub by_hearing : (s : HeldNotes) (ws : List ℕ) (g : Left) (r : CGiven) {h k : Hearing} → h ≡ k → g ≡ answer_of s (delivered h ws) → r ≡ given_of g
+pub by_hearing : (s : HeldNotes) (ws : List ℕ) (g : Left) (r : CGiven) {h k : Result Delivery Refusal} → h ≡ k → g ≡ answer_of s (delivered h ws) → r ≡ given_of g
     → r ≡ given_of (answer_of s (delivered k ws))
-by_hearing s ws g r e a i = i ∙ ap given_of (a ∙ ap (λ (x : Hearing). answer_of s (delivered x ws)) e)
+by_hearing s ws g r e a i = i ∙ ap given_of (a ∙ ap (λ (x : Result Delivery Refusal). answer_of s (delivered x ws)) e)
 
-pub by_event : (s : HeldNotes) (g : Left) (r : CGiven) {d e : StreamEvent} → d ≡ e → g ≡ answer_of s (told d) → r ≡ given_of g → r ≡ given_of (answer_of s (told e))
-by_event s g r e a i = i ∙ ap given_of (a ∙ ap (λ (x : StreamEvent). answer_of s (told x)) e)
+pub by_event : (s : HeldNotes) (g : Left) (r : CGiven) {d e : Result (Option StreamEvent) Refusal} → d ≡ e → g ≡ answer_of s (told d) → r ≡ given_of g → r ≡ given_of (answer_of s (told e))
+by_event s g r e a i = i ∙ ap given_of (a ∙ ap (λ (x : Result (Option StreamEvent) Refusal). answer_of s (told x)) e)

@@ -9,8 +9,8 @@ use config::refusal::Refusal;
 use held_notes::held;
 use held_notes::held::{Given, HeldNotes};
 use held_notes::listing::Notes;
-use receiver::receiver::{Delivery, Hearing, StreamEvent};
-use window::window::{Class, SeqRange, Span};
+use receiver::receiver::{Delivery, StreamEvent};
+use window::window::{Class, SeqRange};
 
 // What a call leaves and gives: 0, or the number of its refusal.
 #[repr(C)]
@@ -35,43 +35,43 @@ fn class_of(class: u8) -> Class
 }
 
 // A loss of so many numbers; 0 is none.
-fn span_of(count: u16) -> Span
+fn span_of(count: u16) -> Option<SeqRange>
     ensures { result ≡ span_of count }
 {
     if count == 0 {
-        return Span::Nothing;
+        return None;
     }
-    Span::Of(SeqRange { first: 0, count })
+    Some(SeqRange { first: 0, count })
 }
 
 // A delivery that was not refused, by its class and its loss.
-fn hearing_of(refusal: u8, class: u8, lost: u16) -> Hearing
+fn hearing_of(refusal: u8, class: u8, lost: u16) -> Result<Delivery, Refusal>
     ensures { result ≡ hearing_of refusal class lost }
 {
     if refusal == 0 {
         let is = class_of(class);
         let span = span_of(lost);
-        return Hearing::Delivery(Delivery {
+        return Ok(Delivery {
             seq: 0,
             class: is,
-            gap: Span::Nothing,
+            gap: None,
             lost: span,
         });
     }
-    Hearing::Refused(Refusal::InvalidState)
+    Err(Refusal::InvalidState)
 }
 
 // An event: 1 and 2 tell a loss.
-fn event_of(kind: u8) -> StreamEvent
+fn event_of(kind: u8) -> Result<Option<StreamEvent>, Refusal>
     ensures { result ≡ event_of kind }
 {
     if kind == 1 {
-        return StreamEvent::DataLoss(SeqRange { first: 0, count: 1 });
+        return Ok(Some(StreamEvent::DataLoss(SeqRange { first: 0, count: 1 })));
     }
     if kind == 2 {
-        return StreamEvent::DataLoss(SeqRange { first: 0, count: 1 });
+        return Ok(Some(StreamEvent::DataLoss(SeqRange { first: 0, count: 1 })));
     }
-    StreamEvent::Nothing
+    Ok(None)
 }
 
 fn as_numbers(g: Given) -> CGiven
@@ -80,7 +80,7 @@ fn as_numbers(g: Given) -> CGiven
     let answer = g.answer;
     let state = g.state;
     let notes = g.notes;
-    let refusal = answer.number();
+    let refusal = config::answer::number(answer);
     CGiven {
         state,
         notes,

@@ -6,8 +6,9 @@ ghost use Rattle.std.specs.Prelude.{◌≡◌};
 ghost use Rattle.c_link.specs.Export.{report_of, refused_by, run_export};
 
 use c_words::settings;
+use config::refusal::Refusal;
 use link::link::run;
-use link_rules::run::Ran;
+use link_rules::run::Report;
 
 // What a run reports; where `refusal` is not 0, all else is.
 #[repr(C)]
@@ -30,17 +31,17 @@ fn refused(number: u8) -> CReport
     }
 }
 
-fn report(ran: Ran) -> CReport
+fn report(ran: Result<Report, Refusal>) -> CReport
     ensures { result ≡ report_of ran }
 {
     match ran {
-        Ran::Done(r) => CReport {
+        Ok(r) => CReport {
             steps: r.steps,
             handed: r.handed,
             losses: r.losses,
             refusal: 0,
         },
-        Ran::Refused(why) => refused(why.number()),
+        Err(why) => refused(why.number()),
     }
 }
 

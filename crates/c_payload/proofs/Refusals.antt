@@ -1,5 +1,7 @@
 -- A refused call hands back what it was given.
 use mathlib.Core.Path.{◌≡◌, refl}
+use Rattle.std.proofs.Common.{Result, Ok, Err}
+use Rattle.config.specs.declared.refusal.Refusal.{Refusal}
 use mathlib.Core.Bool.{not, ◌||◌}
 use mathlib.Core.List.{List}
 use Prim.Native.Nat.{ℕ}
@@ -8,8 +10,6 @@ use lib.Dec.{ltb}
 use Rattle.packet.specs.Layout.{Packet}
 use Rattle.packet.specs.Write.{WriteEnds, refused as not_put, done as put, valid_of as payload_valid, opened_of, written_of}
 use Rattle.packet.specs.declared.writer.PayloadWriter.{PayloadWriter}
-use Rattle.packet.specs.declared.writer.Opened.{Opened}
-use Rattle.packet.specs.declared.writer.Opened.TheVariants.{Payload, Refused as NotOpened}
 use Rattle.packet.specs.declared.writer.Wrote.{Wrote}
 use Rattle.packet.proofs.Outcomes.{outcome}
 use Rattle.command.specs.Messages.{whole_of}
@@ -40,9 +40,9 @@ module _ (b : List ℕ) where
         (by_test (ltb 64 (length ws) || not (whole_of ws)) _ _ (λ _. as_was (refl, refl))
         (packet_kept (data_packet seq ws)))
 
-  opened_kept : (o : Opened) (seq : ℕ) (ws : List ℕ) → MadeKept (payload_by o b seq ws)
-  opened_kept (Payload x) seq ws = record { kept = (data_kept x seq ws).kept }
-  opened_kept (NotOpened why) seq ws = as_was (refl, refl)
+  opened_kept : (o : Result PayloadWriter Refusal) (seq : ℕ) (ws : List ℕ) → MadeKept (payload_by o b seq ws)
+  opened_kept (Ok x) seq ws = record { kept = (data_kept x seq ws).kept }
+  opened_kept (Err why) seq ws = as_was (refl, refl)
 
   pub payload_keeps : (max seq : ℕ) (ws : List ℕ) → MadeKept (payload_export b max seq ws)
   unfolding payload_export

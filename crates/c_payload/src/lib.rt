@@ -8,8 +8,7 @@ ghost use Rattle.std.specs.Prelude.{◌≡◌};
 ghost use Rattle.c_payload.specs.Export.{made_of, payload_export};
 
 use command::data::UmpData;
-use config::answer::Outcome;
-use packet::writer::{Opened, PayloadWriter, Wrote};
+use packet::writer::{PayloadWriter, Wrote};
 
 pub mod theorems;
 
@@ -27,11 +26,11 @@ fn made(wrote: Wrote) -> CMade
     let payload = wrote.payload;
     let answer = wrote.answer;
     match answer {
-        Outcome::Done => CMade {
+        Ok(()) => CMade {
             len: payload.len as u64,
             refusal: 0,
         },
-        Outcome::Refused(why) => CMade {
+        Err(why) => CMade {
             len: 0,
             refusal: why.number(),
         },
@@ -49,8 +48,8 @@ pub extern "C" fn sirmjold_ump_data_payload(
     ensures { (result, buf.new) ≡ payload_export buf.old max seq words.now }
 {
     match PayloadWriter::new(max) {
-        Opened::Payload(payload) => made(UmpData::write(payload, buf, seq, words)),
-        Opened::Refused(why) => CMade {
+        Ok(payload) => made(UmpData::write(payload, buf, seq, words)),
+        Err(why) => CMade {
             len: 0,
             refusal: why.number(),
         },

@@ -1,11 +1,12 @@
 -- Words that were not queued: all that was lent is as it was.
 use mathlib.Core.Path.{◌≡◌, refl}
+use Rattle.std.proofs.Common.{Result, Ok, Err}
+use Rattle.config.specs.declared.refusal.Refusal.{Refusal}
+use Rattle.std.specs.Bool.{⊤}
 use mathlib.Core.List.{List}
 use Prim.Native.Nat.{ℕ}
 use native.Mathlib.Omega.{arith}
 use Rattle.config.specs.inner.Tests.{and_left, and_right}
-use Rattle.config.specs.declared.answer.Outcome.{Outcome}
-use Rattle.config.specs.declared.answer.Outcome.TheVariants.{Done, Refused}
 use Rattle.config.specs.declared.settings.StreamConfig.{StreamConfig}
 use Rattle.packet.specs.declared.writer.PayloadWriter.{PayloadWriter}
 use Rattle.stream.specs.Ends.{send_answer}
@@ -33,9 +34,9 @@ module _ (st ws p b ring : List ℕ) where
   sent_same : (x : PayloadWriter) → payload_words x ≡ p → (d : DataStream) (cfg : StreamConfig) (time : ℕ) → stored d ≡ st → SentSame (send_and_write_answer d cfg time ws x b ring)
   sent_same x whole d cfg time same = by (send_answer d cfg ring ws).0.answer refl
     where
-      by : (a : Outcome) → (send_answer d cfg ring ws).0.answer ≡ a → SentSame (send_and_write_answer d cfg time ws x b ring)
-      by (Refused why) e = rw (both_refused d cfg ring ws why e time x b) (λ _. (same, whole, refl, refl))
-      by Done e = rw (both_accepted d cfg ring ws e time x b) (λ (k : ◌≡◌ {A = ℕ} 1 0). absurd (let z : ⊥ = omega arith in z))
+      by : (a : Result ⊤ Refusal) → (send_answer d cfg ring ws).0.answer ≡ a → SentSame (send_and_write_answer d cfg time ws x b ring)
+      by (Err why) e = rw (both_refused d cfg ring ws why e time x b) (λ _. (same, whole, refl, refl))
+      by (Ok _) e = rw (both_accepted d cfg ring ws e time x b) (λ (k : ◌≡◌ {A = ℕ} 1 0). absurd (let z : ⊥ = omega arith in z))
 
   kept : (cfg : List ℕ) (time : ℕ) → Same (send_and_write_export st cfg time ws p b ring)
   unfolding send_and_write_export

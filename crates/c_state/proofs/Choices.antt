@@ -1,9 +1,9 @@
 -- What holds of each way out of a test holds of what is chosen.
 use mathlib.Core.Path.{◌≡◌, refl}
+use Rattle.std.proofs.Common.{Result, Ok, Err}
+use Rattle.std.specs.Bool.{⊤}
 use mathlib.Core.Bool.{Bool, true, false, cond}
 use Rattle.config.specs.Entry.{on_state, entry}
-use Rattle.config.specs.declared.answer.Outcome.{Outcome}
-use Rattle.config.specs.declared.answer.Outcome.TheVariants.{Done, Refused}
 use Rattle.config.specs.declared.refusal.Refusal.{Refusal}
 use Rattle.config.specs.declared.refusal.Refusal.TheVariants.{InvalidState}
 
@@ -16,7 +16,7 @@ module _ {A : Type 0} (P : A → Type 0) where
   by_state true refused go h g = g refl
   by_state false refused go h g = h
 
-  pub by_entry : (k : Outcome) (valid : Bool) (refused : Refusal → A) (go : A) → ((why : Refusal) → P (refused why)) → (k ≡ Done → valid ≡ true → P go) → P (entry k valid refused go)
-  by_entry (Refused why) valid refused go h g = h why
-  by_entry Done true refused go h g = g refl refl
-  by_entry Done false refused go h g = h InvalidState
+  pub by_entry : (k : Result ⊤ Refusal) (valid : Bool) (refused : Refusal → A) (go : A) → ((why : Refusal) → P (refused why)) → (k ≡ Ok tt → valid ≡ true → P go) → P (entry k valid refused go)
+  by_entry (Err why) valid refused go h g = h why
+  by_entry (Ok _) true refused go h g = g refl refl
+  by_entry (Ok _) false refused go h g = h InvalidState

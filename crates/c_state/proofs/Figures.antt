@@ -1,14 +1,12 @@
 -- Words, written out: a fresh stream's, a busy one's, and some that are no stream's.
 use mathlib.Core.Path.{◌≡◌, refl}
+use Rattle.std.proofs.Common.{Some}
 use mathlib.Core.Bool.{true, false}
 use mathlib.Core.List.{List, [], ◌∷◌}
 use Prim.Native.Nat.{ℕ}
 use lib.ListN.{set, replicate}
 use Rattle.history.specs.Queue.{blank}
 use Rattle.window.specs.Set.{set_of}
-use Rattle.receiver.specs.declared.receiver.Timer.TheVariants.{Running}
-use Rattle.receiver.specs.declared.receiver.Asked.TheVariants.{Request}
-use Rattle.idle.specs.declared.idle.IdleTimer.TheVariants.{Waiting}
 use Rattle.stream.specs.State.{fresh}
 use Rattle.stream.specs.declared.stream.DataStream.{DataStream}
 use Rattle.c_state.specs.Pack.{four_in, word, two_in, pair, flags_in, flags_number, held}
@@ -33,10 +31,10 @@ busy =
     record {
       receiver = record {
         window = record { size = 128; highest = 258; bits = record { low = 5; high = 1 } };
-        timer = Running record { due = 1000; sent = 2 };
+        timer = Some record { due = 1000; sent = 2 };
         request_due = true;
         refused = false;
-        asked = Request record { seq = 256; count = 3 };
+        asked = Some record { seq = 256; count = 3 };
       };
       sender = record {
         history = record { size = 4096; head = 10; used = 300; count = 7; oldest = 65533; last = 280 };
@@ -48,7 +46,7 @@ busy =
         };
         unsent = 2;
         unsent_words = 20;
-        idle = Waiting record { due = 2000; step = 3; interval = 200 };
+        idle = Some record { due = 2000; step = 3; interval = 200 };
       };
     }
 

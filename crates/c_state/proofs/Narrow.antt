@@ -1,5 +1,9 @@
 -- No call leaves a stream with a figure that is wider than its place.
 use mathlib.Core.Path.{◌≡◌}
+use Rattle.std.proofs.Common.{Result, Ok, Err}
+use Rattle.config.specs.declared.refusal.Refusal.{Refusal}
+use Rattle.stream.specs.declared.stream.StreamAnswer.{StreamAnswer}
+use Rattle.std.specs.Bool.{⊤}
 use mathlib.Core.Bool.{true, false, not, ◌&&◌}
 use mathlib.Core.List.{List}
 use Prim.Native.Nat.{ℕ, ◌≤◌, ◌<◌}
@@ -11,8 +15,6 @@ use borrow.Author.Tests.{leb-true, not-false}
 use Rattle.config.specs.Range.{within, outside}
 use Rattle.config.specs.Settings.{check_of}
 use Rattle.config.specs.inner.Tests.{and_left, and_right}
-use Rattle.config.specs.declared.answer.Outcome.{Outcome}
-use Rattle.config.specs.declared.answer.Outcome.TheVariants.{Done, Refused}
 use Rattle.config.specs.declared.settings.StreamConfig.{StreamConfig}
 use Rattle.packet.specs.Write.{valid_of as payload_valid}
 use Rattle.packet.specs.declared.writer.PayloadWriter.{PayloadWriter}
@@ -20,7 +22,7 @@ use Rattle.window.specs.Set.{max_window}
 use Rattle.receiver.specs.Receiver.{taken_of}
 use Rattle.receiver.specs.declared.receiver.Receiver.{Receiver}
 use Rattle.receiver.specs.declared.receiver.Request.{Request}
-use Rattle.receiver.specs.declared.receiver.Request.TheVariants.{Nothing as NotDue, Written as Taken, More as NoSpace, Refused as NotTaken}
+use Rattle.receiver.specs.declared.receiver.Request.TheVariants.{Nothing as NotDue, Written as Taken, More as NoSpace}
 use Rattle.sender.specs.State.{valid_of as sender_valid}
 use Rattle.stream.specs.State.{valid_of, fresh, with_receiver}
 use Rattle.stream.specs.Answers.{sizes_out, new_answer, reset_refused, reset_answer}
@@ -28,8 +30,6 @@ use Rattle.stream.specs.Ends.{send_answer, request_answer, data_answer, error_an
 use Rattle.stream.specs.Writing.{sent_after, after_request, data_written, write_answer}
 use Rattle.stream.specs.Sending.{after_send, send_and_write_answer}
 use Rattle.stream.specs.declared.stream.DataStream.{DataStream}
-use Rattle.stream.specs.declared.stream.Started.{Started}
-use Rattle.stream.specs.declared.stream.WasReset.{WasReset}
 use Rattle.stream.specs.declared.stream.Wrote.{Wrote}
 use Rattle.stream.proofs.Validity.{valid_sender}
 use Rattle.c_state.specs.Pack.{four_in, two_in}
@@ -63,7 +63,7 @@ fresh_narrow window words places w h q = (
 inside : (low high n : ℕ) → outside low high n ≡ false → n ≤ high
 inside low high n e = leb-true n high (and_right (leb low n) _ (not-false (within low high n) e))
 
-abbrev NarrowStarted : Started × List ℕ → Type 0
+abbrev NarrowStarted : StreamAnswer ⊤ × List ℕ → Type 0
 NarrowStarted x = NarrowStream x.0.stream
 
 pub start_narrow : (cfg : StreamConfig) (window words places : ℕ) (ring : List ℕ) → NarrowStream (new_answer cfg window words places ring).0.stream
@@ -133,7 +133,7 @@ module _ (d : DataStream) (n : NarrowStream d) (o : d.sender.history.oldest < 65
   reset_narrow : (ring : List ℕ) → NarrowStream (reset_answer d ring).0.stream
   unfolding reset_answer
   reset_narrow ring =
-      by_state (λ (x : WasReset × List ℕ). NarrowStream x.0.stream) (valid_of d ring) (reset_refused d ring) _ n
+      by_state (λ (x : StreamAnswer ⊤ × List ℕ). NarrowStream x.0.stream) (valid_of d ring) (reset_refused d ring) _ n
       (λ _. fresh_narrow d.receiver.window.size d.sender.history.size d.sender.queue.size n.0 n.1.size n.1.places)
 
   -- a write, after the request
@@ -142,11 +142,11 @@ module _ (d : DataStream) (n : NarrowStream d) (o : d.sender.history.oldest < 65
     unfolding sent_after
     sent_narrow k r m p b = (m, written_narrow d.sender cfg time p b ring (valid_within d.sender ring v o n.1.last))
 
-    after_narrow : (q : Request) (r : Receiver) → NarrowReceiver r → (p : PayloadWriter) (b : List ℕ) → NarrowStream (after_request q (with_receiver d r) cfg time p b ring).0.stream
-    after_narrow (NotTaken why) r m p b = (m, n.1)
-    after_narrow NoSpace r m p b = (m, n.1)
-    after_narrow NotDue r m p b = sent_narrow 0 r m p b
-    after_narrow Taken r m p b = sent_narrow 1 r m p b
+    after_narrow : (q : Result Request Refusal) (r : Receiver) → NarrowReceiver r → (p : PayloadWriter) (b : List ℕ) → NarrowStream (after_request q (with_receiver d r) cfg time p b ring).0.stream
+    after_narrow (Err why) r m p b = (m, n.1)
+    after_narrow (Ok NoSpace) r m p b = (m, n.1)
+    after_narrow (Ok NotDue) r m p b = sent_narrow 0 r m p b
+    after_narrow (Ok Taken) r m p b = sent_narrow 1 r m p b
 
   write_narrow : (cfg : StreamConfig) (time : ℕ) (p : PayloadWriter) (b ring : List ℕ) → NarrowStream (write_answer d cfg time p b ring).0.stream
   unfolding write_answer data_written
@@ -167,9 +167,9 @@ both_narrow : (d : DataStream) → NarrowStream d → d.sender.history.oldest < 
 unfolding send_and_write_answer
 both_narrow d n o cfg time ws p b ring = by (send_answer d cfg ring ws).0.answer
   where
-    by : (a : Outcome) → let e = send_answer d cfg ring ws in NarrowStream (after_send a e.0.stream cfg time p b e.1).0.stream
-    by (Refused why) = (sent_stream d n o cfg ring ws).0
-    by Done = let k = sent_stream d n o cfg ring ws in write_narrow _ k.0 k.1 cfg time p b _
+    by : (a : Result ⊤ Refusal) → let e = send_answer d cfg ring ws in NarrowStream (after_send a e.0.stream cfg time p b e.1).0.stream
+    by (Err why) = (sent_stream d n o cfg ring ws).0
+    by (Ok _) = let k = sent_stream d n o cfg ring ws in write_narrow _ k.0 k.1 cfg time p b _
 
 pub stays_narrow : (d : DataStream) → NarrowStream d → d.sender.history.oldest < 65536 → StaysNarrow d
 unfolding request_answer data_answer error_answer nak_answer poll_answer take_answer

@@ -97,26 +97,6 @@ pub number_small : (f : Flags) → flags_number f < 16
 unfolding flags_number
 number_small f = omega (arith, bit_small f.timer, bit_small f.request_due, bit_small f.refused, bit_small f.asked)
 
--- ---- a flag and its figures
--- the tests, one by one
-module _ (on : Bool) (x y z : ℕ) where
-  pub held_set : on ≡ true → true ≡ held on x y z
-  unfolding held
-  held_set e = rw e
-
-  module _ (unset : on ≡ false) where
-    pub held_first : (x ≡ 0 → ⊥) → false ≡ held on x y z
-    unfolding held
-    held_first h = rw (unset, ne_eqb x 0 h)
-
-    pub held_second : x ≡ 0 → (y ≡ 0 → ⊥) → false ≡ held on x y z
-    unfolding held
-    held_second e h = rw (unset, eq-eqb x 0 e, ne_eqb y 0 h)
-
-    pub held_last : x ≡ 0 → y ≡ 0 → eqb z 0 ≡ held on x y z
-    unfolding held
-    held_last e f = rw (unset, eq-eqb x 0 e, eq-eqb y 0 f)
-
 -- what holds where the flag is set, and where it is not and the figures are 0, holds of all that is taken
 pub by_flag : (P : Bool → ℕ → ℕ → ℕ → Type 0) (on : Bool) (x y z : ℕ) → held on x y z ≡ true → P true x y z → P false 0 0 0 → P on x y z
 unfolding held

@@ -1,5 +1,9 @@
 -- What a data command or an error leaves of a receiver that was loaded has words that fit.
 use mathlib.Core.Path.{◌≡◌, sym, ap, subst, ◌∙◌}
+use Rattle.std.proofs.Common.{Option, Some, None}
+use Rattle.receiver.specs.declared.receiver.Delivery.{Delivery}
+use Rattle.receiver.specs.declared.receiver.ReceiverAnswer.{ReceiverAnswer}
+use Rattle.receiver.specs.declared.receiver.StreamEvent.{StreamEvent}
 use mathlib.Core.Bool.{Bool, true, false, ◌&&◌}
 use mathlib.Core.List.{List}
 use Prim.Native.Nat.{ℕ, ◌<◌}
@@ -18,12 +22,7 @@ use Rattle.window.specs.declared.window.Class.TheVariants.{New, Late, Duplicate}
 use Rattle.receiver.specs.Receiver.{valid_of, enabled_of, nothing_missing, is_gap, restarts, settled_of, heard_of, error_to, error_of}
 use Rattle.receiver.specs.Answers.{event_refused, data_answer, error_answer}
 use Rattle.receiver.specs.declared.receiver.Receiver.{Receiver}
-use Rattle.receiver.specs.declared.receiver.Asked.{Asked}
-use Rattle.receiver.specs.declared.receiver.Asked.TheVariants.{Nothing, Request}
-use Rattle.receiver.specs.declared.receiver.Timer.{Timer}
 use Rattle.receiver.specs.declared.receiver.RequestTimer.{RequestTimer}
-use Rattle.receiver.specs.declared.receiver.Heard.{Heard}
-use Rattle.receiver.specs.declared.receiver.Told.{Told}
 use Rattle.c_state.specs.Pack.{four_in, two_in, flags_in}
 use Rattle.c_state.specs.Receiver.{NarrowReceiver, timer_in, asked_in, timer_words, asked_words, receiver_of}
 use Rattle.c_state.specs.Sender.{sender_holds}
@@ -44,10 +43,10 @@ small_of : (r : Receiver) → NarrowReceiver r → Typed r → ReceiverSmall r
 small_of r n t = (
   record {
     highest = t.highest;
-    timer = λ (x : RequestTimer) (e : r.timer ≡ _). subst (λ (y : Timer). (timer_words y).sent < 256) e t.sent;
+    timer = λ (x : RequestTimer) (e : r.timer ≡ _). subst (λ (y : Option RequestTimer). (timer_words y).sent < 256) e t.sent;
     asked = λ (x : RetransmitRequest) (e : r.asked ≡ _). (
-      subst (λ (y : Asked). (asked_words y).seq < 65536) e t.seq,
-      subst (λ (y : Asked). (asked_words y).count < 65536) e t.count,
+      subst (λ (y : Option RetransmitRequest). (asked_words y).seq < 65536) e t.seq,
+      subst (λ (y : Option RetransmitRequest). (asked_words y).count < 65536) e t.count,
     );
   },
   n,
@@ -120,19 +119,19 @@ module _ (r : Receiver) (t : Typed r) where
   data_typed : (cfg : StreamConfig) (time seq : ℕ) → seq < 65536 → Typed (data_answer r cfg time seq).receiver
   unfolding data_answer heard_of
   data_typed cfg time seq g =
-      by_entry (λ (x : Heard). Typed x.receiver) (check_of cfg) (valid_of r) _ _ (λ _. t)
+      by_entry (λ (x : ReceiverAnswer Delivery). Typed x.receiver) (check_of cfg) (valid_of r) _ _ (λ _. t)
       (λ _ _. settled_typed cfg time _ _ (accept_highest r.window seq t.highest g))
 
-  error_by_lem : (e : RetransmitError) (a : Asked) → Typed (error_to r e a).receiver
+  error_by_lem : (e : RetransmitError) (a : Option RetransmitRequest) → Typed (error_to r e a).receiver
   unfolding mark_of
-  error_by_lem e Nothing = t
-  error_by_lem e (Request q) =
+  error_by_lem e None = t
+  error_by_lem e (Some q) =
       by_test Typed (nothing_missing (mark_of r.window record { first = q.seq; count = q.count }).window) _ _ record { highest = t.highest; sent = few; seq = none; count = none }
       (λ _. record { highest = t.highest; sent = t.sent; seq = none; count = none })
 
   error_typed : (e : RetransmitError) → Typed (error_answer r e).receiver
   unfolding error_answer error_of
-  error_typed e = by_state (λ (x : Told). Typed x.receiver) (valid_of r) (event_refused r) _ t (λ _. error_by_lem e r.asked)
+  error_typed e = by_state (λ (x : ReceiverAnswer (Option StreamEvent)). Typed x.receiver) (valid_of r) (event_refused r) _ t (λ _. error_by_lem e r.asked)
 
 -- ---- the words
 module _ (st : List ℕ) (all : fits st ≡ true) (wide : Wide st) where

@@ -1,5 +1,13 @@
 -- A receiver's calls keep the window's size.
 use mathlib.Core.Path.{◌≡◌, refl}
+use Rattle.std.proofs.Common.{Option, Some, None, Result, Ok, Err}
+use Rattle.config.specs.declared.refusal.Refusal.{Refusal}
+use Rattle.receiver.specs.declared.receiver.Delivery.{Delivery}
+use Rattle.receiver.specs.declared.receiver.ReceiverAnswer.{ReceiverAnswer}
+use Rattle.receiver.specs.declared.receiver.RequestTimer.{RequestTimer}
+use Rattle.receiver.specs.declared.receiver.StreamEvent.{StreamEvent}
+use Rattle.window.specs.declared.window.SeqRange.{SeqRange}
+use Rattle.std.specs.Bool.{⊤}
 use mathlib.Core.Bool.{Bool, not, ◌&&◌}
 use mathlib.Core.List.{List}
 use Prim.Native.Nat.{ℕ}
@@ -9,8 +17,6 @@ use Rattle.config.specs.Settings.{check_of}
 use Rattle.config.specs.declared.settings.StreamConfig.{StreamConfig}
 use Rattle.packet.specs.Write.{valid_of as payload_valid, written_of}
 use Rattle.packet.specs.declared.writer.PayloadWriter.{PayloadWriter}
-use Rattle.config.specs.declared.answer.Outcome.{Outcome}
-use Rattle.config.specs.declared.answer.Outcome.TheVariants.{Done, Refused}
 use Rattle.command.specs.Write.{request_packet}
 use Rattle.command.specs.declared.retransmit.RetransmitRequest.{RetransmitRequest}
 use Rattle.command.specs.declared.retransmit.RetransmitError.{RetransmitError}
@@ -20,18 +26,10 @@ use Rattle.window.specs.Marking.{mark_of}
 use Rattle.window.specs.declared.window.ReceiveWindow.{ReceiveWindow}
 use Rattle.window.specs.declared.window.Class.{Class}
 use Rattle.window.specs.declared.window.Class.TheVariants.{New, Late, Duplicate}
-use Rattle.window.specs.declared.window.Span.{Span}
-use Rattle.window.specs.declared.window.Span.TheVariants.{Nothing as NoSpan, Of}
 use Rattle.receiver.specs.Receiver as receiver
 use Rattle.receiver.specs.Receiver.{valid_of, enabled_of, nothing_missing, is_gap, restarts, settled_of, heard_of, gave_up, polled_at, polled_of, error_to, error_of, nak_by, nak_of, taken_span, taken_of, offered_of}
 use Rattle.receiver.specs.Answers.{event_refused, data_answer, poll_answer, error_answer, nak_answer, take_answer}
 use Rattle.receiver.specs.declared.receiver.Receiver.{Receiver}
-use Rattle.receiver.specs.declared.receiver.Timer.{Timer}
-use Rattle.receiver.specs.declared.receiver.Timer.TheVariants.{Stopped, Running}
-use Rattle.receiver.specs.declared.receiver.Asked.{Asked}
-use Rattle.receiver.specs.declared.receiver.Asked.TheVariants.{Nothing as Unasked, Request as AskedFor}
-use Rattle.receiver.specs.declared.receiver.Heard.{Heard}
-use Rattle.receiver.specs.declared.receiver.Told.{Told}
 use Rattle.receiver.specs.declared.receiver.RequestWritten.{RequestWritten}
 use Rattle.c_state.proofs.Choices.{by_test, by_state, by_entry}
 
@@ -51,10 +49,10 @@ module _ (r : Receiver) where
   abbrev Same : Receiver → Type 0
   Same x = x.window.size ≡ r.window.size
 
-  abbrev SameHeard : Heard → Type 0
+  abbrev SameHeard : ReceiverAnswer Delivery → Type 0
   SameHeard x = Same x.receiver
 
-  abbrev SameTold : Told → Type 0
+  abbrev SameTold : ReceiverAnswer (Option StreamEvent) → Type 0
   SameTold x = Same x.receiver
 
   abbrev SameIn : RequestWritten × List ℕ → Type 0
@@ -74,9 +72,9 @@ module _ (r : Receiver) where
   unfolding gave_up
   gave_up_size refused = refl
 
-  polled_at_lem : (cfg : StreamConfig) (time : ℕ) (t : Timer) → Same (polled_at r cfg time t).receiver
-  polled_at_lem cfg time Stopped = refl
-  polled_at_lem cfg time (Running t) =
+  polled_at_lem : (cfg : StreamConfig) (time : ℕ) (t : Option RequestTimer) → Same (polled_at r cfg time t).receiver
+  polled_at_lem cfg time None = refl
+  polled_at_lem cfg time (Some t) =
       by_test SameTold (ltb time t.due) _ _ refl
       (λ _. by_test SameTold (nothing_missing r.window) _ _ refl
       (λ _. by_test SameTold (ltb t.sent cfg.max_requests && enabled_of r cfg) _ _ refl
@@ -86,26 +84,26 @@ module _ (r : Receiver) where
   unfolding polled_of
   polled_size cfg time = polled_at_lem cfg time r.timer
 
-  error_by_lem : (e : RetransmitError) (a : Asked) → Same (error_to r e a).receiver
+  error_by_lem : (e : RetransmitError) (a : Option RetransmitRequest) → Same (error_to r e a).receiver
   unfolding mark_of
-  error_by_lem e Unasked = refl
-  error_by_lem e (AskedFor q) = by_test Same (nothing_missing (mark_of r.window record { first = q.seq; count = q.count }).window) _ _ refl (λ _. refl)
+  error_by_lem e None = refl
+  error_by_lem e (Some q) = by_test Same (nothing_missing (mark_of r.window record { first = q.seq; count = q.count }).window) _ _ refl (λ _. refl)
 
-  nak_by_lem : (a : Asked) → Same (nak_by r a).receiver
-  nak_by_lem Unasked = refl
-  nak_by_lem (AskedFor q) = gave_up_size _
+  nak_by_lem : (a : Option RetransmitRequest) → Same (nak_by r a).receiver
+  nak_by_lem None = refl
+  nak_by_lem (Some q) = gave_up_size _
 
   offered_size : (q : RetransmitRequest) (p : PayloadWriter) (b : List ℕ) → SameIn (offered_of r q p b)
   unfolding offered_of
   offered_size q p b = by (written_of p b (request_packet q)).0.answer
     where
-      by : (a : Outcome) → Same (receiver.taken_by r q (written_of p b (request_packet q)).0.payload a).receiver
-      by Done = refl
-      by (Refused why) = refl
+      by : (a : Result ⊤ Refusal) → Same (receiver.taken_by r q (written_of p b (request_packet q)).0.payload a).receiver
+      by (Ok _) = refl
+      by (Err why) = refl
 
-  span_size : (p : PayloadWriter) (b : List ℕ) (s : Span) → SameIn (taken_span r p b s)
-  span_size p b NoSpan = refl
-  span_size p b (Of range) = offered_size record { seq = range.first; count = range.count } p b
+  span_size : (p : PayloadWriter) (b : List ℕ) (s : Option SeqRange) → SameIn (taken_span r p b s)
+  span_size p b None = refl
+  span_size p b (Some range) = offered_size record { seq = range.first; count = range.count } p b
 
   pub taken_kept : (cfg : StreamConfig) (p : PayloadWriter) (b : List ℕ) → SameIn (taken_of r cfg p b)
   unfolding taken_of

@@ -1,5 +1,6 @@
 -- A receiver and its words.
 use mathlib.Core.Path.{◌≡◌, refl, ap, sym, ◌∙◌}
+use Rattle.std.proofs.Common.{Option, Some, None}
 use mathlib.Core.Bool.{Bool, true, false, ◌&&◌}
 use mathlib.Core.Logic.{inl, inr, ◌⊎◌}
 use mathlib.Core.List.{List, [], ◌∷◌}
@@ -13,10 +14,6 @@ use Rattle.config.specs.inner.Tests.{split, and_left, and_right}
 use Rattle.window.specs.declared.window.ReceiveWindow.{ReceiveWindow}
 use Rattle.receiver.specs.declared.receiver.Receiver.{Receiver}
 use Rattle.receiver.specs.declared.receiver.RequestTimer.{RequestTimer}
-use Rattle.receiver.specs.declared.receiver.Timer.{Timer}
-use Rattle.receiver.specs.declared.receiver.Timer.TheVariants.{Stopped, Running}
-use Rattle.receiver.specs.declared.receiver.Asked.{Asked}
-use Rattle.receiver.specs.declared.receiver.Asked.TheVariants.{Nothing, Request}
 use Rattle.command.specs.declared.retransmit.RetransmitRequest.{RetransmitRequest}
 use Rattle.c_state.specs.Pack.{four_in, word, two_in, pair, flags_in, flags_number, held}
 use Rattle.c_state.specs.Receiver.{at, timer_in, asked_in, timer_words, asked_words, receiver_words, with_window, receiver_of, holds_but_timer, receiver_holds}
@@ -32,13 +29,13 @@ use Rattle.c_words.proofs.Within.{and_true, or_left, or_right}
 use Rattle.c_words.proofs.Runs.{run, run_all}
 
 -- ---- the timer and the request, by their flags
-timer_back : (t : Timer) → let w = timer_words t in timer_in w.on w.due w.sent ≡ t
-timer_back Stopped = refl
-timer_back (Running t) = refl
+timer_back : (t : Option RequestTimer) → let w = timer_words t in timer_in w.on w.due w.sent ≡ t
+timer_back None = refl
+timer_back (Some t) = refl
 
-asked_back : (a : Asked) → let w = asked_words a in asked_in w.on w.seq w.count ≡ a
-asked_back Nothing = refl
-asked_back (Request r) = refl
+asked_back : (a : Option RetransmitRequest) → let w = asked_words a in asked_in w.on w.seq w.count ≡ a
+asked_back None = refl
+asked_back (Some r) = refl
 
 timer_same : (on : Bool) (due sent : ℕ) → held on due sent 0 ≡ true → timer_words (timer_in on due sent) ≡ record { on = on; due = due; sent = sent }
 timer_same on due sent h =
@@ -48,23 +45,23 @@ asked_same : (on : Bool) (seq count : ℕ) → held on seq count 0 ≡ true → 
 asked_same on seq count h =
     by_flag (λ (o : Bool) (x y z : ℕ). ◌≡◌ {A = AskedWords} (asked_words (asked_in o x y)) record { on = o; seq = x; count = y }) on seq count 0 h refl refl
 
-timer_held : (t : Timer) → let w = timer_words t in held w.on w.due w.sent 0 ≡ true
+timer_held : (t : Option RequestTimer) → let w = timer_words t in held w.on w.due w.sent 0 ≡ true
 unfolding held
-timer_held Stopped = refl
-timer_held (Running t) = refl
+timer_held None = refl
+timer_held (Some t) = refl
 
-asked_held : (a : Asked) → let w = asked_words a in held w.on w.seq w.count 0 ≡ true
+asked_held : (a : Option RetransmitRequest) → let w = asked_words a in held w.on w.seq w.count 0 ≡ true
 unfolding held
-asked_held Nothing = refl
-asked_held (Request r) = refl
+asked_held None = refl
+asked_held (Some r) = refl
 
-sent_small : (t : Timer) → ((r : RequestTimer) → t ≡ Running r → r.sent < 256) → (timer_words t).sent < 256
-sent_small Stopped h = omega arith
-sent_small (Running r) h = h r refl
+sent_small : (t : Option RequestTimer) → ((r : RequestTimer) → t ≡ Some r → r.sent < 256) → (timer_words t).sent < 256
+sent_small None h = omega arith
+sent_small (Some r) h = h r refl
 
-asked_small : (a : Asked) → ((r : RetransmitRequest) → a ≡ Request r → (r.seq < 65536) × (r.count < 65536)) → ((asked_words a).seq < 65536) × ((asked_words a).count < 65536)
-asked_small Nothing h = (omega arith, omega arith)
-asked_small (Request r) h = h r refl
+asked_small : (a : Option RetransmitRequest) → ((r : RetransmitRequest) → a ≡ Some r → (r.seq < 65536) × (r.count < 65536)) → ((asked_words a).seq < 65536) × ((asked_words a).count < 65536)
+asked_small None h = (omega arith, omega arith)
+asked_small (Some r) h = h r refl
 
 -- ---- a receiver, stored
 module _ (r : Receiver) (small : ReceiverSmall r) where
@@ -84,7 +81,7 @@ module _ (r : Receiver) (small : ReceiverSmall r) where
   sent_and_flags = two_pair _ _ (sent_small r.timer small.0.timer)
 
   -- the receiver, from parts that are its own
-  parts : (u : Timer) (b : Asked) → u ≡ r.timer → b ≡ r.asked
+  parts : (u : Option RequestTimer) (b : Option RetransmitRequest) → u ≡ r.timer → b ≡ r.asked
       → ◌≡◌ {A = Receiver} record { window = r.window; timer = u; request_due = r.request_due; refused = r.refused; asked = b } r
   parts u b e g = rw (e, g)
 
@@ -169,7 +166,7 @@ module _ (ws : List ℕ) where
   unfolding receiver_of
   window_made p ep = rw ep
 
-  pub receiver_made : (p : Quarters) (m : Halves) (on : Flags) (w : ReceiveWindow) (t : Timer) (a : Asked) → p ≡ q → m ≡ s → on ≡ flags_in m.high → w ≡ (receiver_of ws).window
+  pub receiver_made : (p : Quarters) (m : Halves) (on : Flags) (w : ReceiveWindow) (t : Option RequestTimer) (a : Option RetransmitRequest) → p ≡ q → m ≡ s → on ≡ flags_in m.high → w ≡ (receiver_of ws).window
       → t ≡ timer_in on.timer (at ws 4) m.low → a ≡ asked_in on.asked p.c p.d
       → record { window = w; timer = t; request_due = on.request_due; refused = on.refused; asked = a } ≡ receiver_of ws
   unfolding receiver_of

@@ -1,5 +1,9 @@
 -- What a request leaves of a sender that was loaded has words that fit: its idle timer is as it was.
 use mathlib.Core.Path.{◌≡◌, refl, sym, ap, ◌∙◌}
+use Rattle.std.proofs.Common.{Option, Some, None}
+use Rattle.idle.specs.declared.idle.Idle.{Idle}
+use Rattle.sender.specs.declared.sender.RequestOutcome.{RequestOutcome}
+use Rattle.sender.specs.declared.sender.SenderAnswer.{SenderAnswer}
 use mathlib.Core.Bool.{Bool, true, false, not}
 use mathlib.Core.List.{List}
 use Prim.Native.Nat.{ℕ, ◌<◌}
@@ -11,13 +15,10 @@ use Rattle.config.specs.Settings.{check_of}
 use Rattle.config.specs.declared.settings.StreamConfig.{StreamConfig}
 use Rattle.command.specs.declared.retransmit.RetransmitRequest.{RetransmitRequest}
 use Rattle.packet.proofs.Splice.{length_spliced}
-use Rattle.idle.specs.declared.idle.IdleTimer.{IdleTimer}
-use Rattle.idle.specs.declared.idle.IdleTimer.TheVariants.{Off, Waiting}
 use Rattle.sender.specs.State.{valid_of}
 use Rattle.sender.specs.Requests.{not_written, requested_of}
 use Rattle.sender.specs.Answers.{request_answer}
 use Rattle.sender.specs.declared.sender.Sender.{Sender}
-use Rattle.sender.specs.declared.sender.RequestHeard.{RequestHeard}
 use Rattle.c_answers.specs.Answers.{bit}
 use Rattle.c_state.specs.Pack.{four_in, word, two_in, pair, held}
 use Rattle.c_state.specs.Receiver.{receiver_holds}
@@ -32,10 +33,10 @@ use Rattle.c_state.proofs.Senders.{length_sender}
 use Rattle.c_state.proofs.Streams.{sender_long, receiver_long, fits_sender}
 
 -- ---- the idle timer
-idle_held : (i : IdleTimer) → let w = idle_words i in held w.on w.due w.interval w.step ≡ true
+idle_held : (i : Option Idle) → let w = idle_words i in held w.on w.due w.interval w.step ≡ true
 unfolding held
-idle_held Off = refl
-idle_held (Waiting i) = refl
+idle_held None = refl
+idle_held (Some i) = refl
 
 idle_in_lem : (on : Bool) (due step interval : ℕ) → step < 65536 → (idle_words (idle_in on due step interval)).step < 65536
 idle_in_lem true due step interval h = h
@@ -71,9 +72,9 @@ module _ (s : Sender) (n : NarrowSender s) (step : (idle_words s.idle).step < 65
 requested_idle : (s : Sender) (ring : List ℕ) (cfg : StreamConfig) (r : RetransmitRequest) → (request_answer s cfg ring r).sender.idle ≡ s.idle
 unfolding request_answer requested_of
 requested_idle s ring cfg r =
-    by_entry (λ (x : RequestHeard). x.sender.idle ≡ s.idle) (check_of cfg) (valid_of s ring) _ _ (λ _. refl)
-    (λ _ _. by_test (λ (x : RequestHeard). x.sender.idle ≡ s.idle) (not cfg.retransmit) _ _ refl
-    (λ _. by_test (λ (x : RequestHeard). x.sender.idle ≡ s.idle) (not_written s r.seq) _ _ refl (λ _. refl)))
+    by_entry (λ (x : SenderAnswer RequestOutcome). x.sender.idle ≡ s.idle) (check_of cfg) (valid_of s ring) _ _ (λ _. refl)
+    (λ _ _. by_test (λ (x : SenderAnswer RequestOutcome). x.sender.idle ≡ s.idle) (not cfg.retransmit) _ _ refl
+    (λ _. by_test (λ (x : SenderAnswer RequestOutcome). x.sender.idle ≡ s.idle) (not_written s r.seq) _ _ refl (λ _. refl)))
 
 -- ---- the words
 module _ (st : List ℕ) (all : fits st ≡ true) where

@@ -1,6 +1,11 @@
 -- The figures of a sender that passes the state test are within its history's size and its request queue's; the place of the newest header is within the history where a
 -- command is held, and stays where none is.
 use mathlib.Core.Path.{◌≡◌, refl, ◌∙◌}
+use Rattle.std.proofs.Common.{Option, Some, None}
+use Rattle.idle.specs.declared.idle.Idle.{Idle}
+use Rattle.sender.specs.declared.sender.RequestOutcome.{RequestOutcome}
+use Rattle.sender.specs.declared.sender.SenderAnswer.{SenderAnswer}
+use Rattle.std.specs.Bool.{⊤}
 use mathlib.Core.Bool.{true, not, ◌||◌}
 use mathlib.Core.List.{List, [], ◌∷◌}
 use mathlib.Core.Logic.{◌⊎◌, inl, inr}
@@ -28,11 +33,7 @@ use Rattle.rows.specs.Rows.{row_of, fit_all}
 use Rattle.writing.specs.Writing.{answer_to, rest_of, Served, served_in, served_of, idled_by, idled_of, commands_at, written_off, new_by, new_of, written_by}
 use Rattle.sender.specs.Answers.{send_answer, request_answer}
 use Rattle.sender.specs.declared.sender.Sender.{Sender}
-use Rattle.sender.specs.declared.sender.Sent.{Sent}
-use Rattle.sender.specs.declared.sender.RequestHeard.{RequestHeard}
 use Rattle.writing.specs.declared.writing.Wrote.{Wrote}
-use Rattle.idle.specs.declared.idle.IdleTimer.{IdleTimer}
-use Rattle.idle.specs.declared.idle.IdleTimer.TheVariants.{Off, Waiting}
 use Rattle.sender.proofs.Validity.{valid_good, valid_fit, valid_unsent, valid_words, valid_few}
 use Rattle.sender.proofs.Queued.{popped_number, pushed_good, settings_few}
 use Rattle.writing.proofs.Serving.{popped_fit}
@@ -135,11 +136,11 @@ joined_number h ring [] o = o
 joined_number h ring (x ∷ xs) o = popped_number (h.count - 1) (length (x ∷ xs)) ring h o
 
 -- ---- queued words
-abbrev NarrowSent : Sent × List ℕ → Type 0
+abbrev NarrowSent : SenderAnswer ⊤ × List ℕ → Type 0
 NarrowSent x = NarrowSender x.0.sender
 
 module _ (s : Sender) (ring : List ℕ) where
-  abbrev SentPlaced : Sent × List ℕ → Type 0
+  abbrev SentPlaced : SenderAnswer ⊤ × List ℕ → Type 0
   SentPlaced x = Placed s.history x.0.sender.history
 
   queued_placed : (max : ℕ) (ws : List ℕ) → SentPlaced (queued_of s ring max ws)
@@ -157,7 +158,7 @@ module _ (s : Sender) (ring : List ℕ) where
       (λ _. queued_placed max ws)))
 
   module _ (o : s.history.oldest < turn) where
-    abbrev SentNumber : Sent × List ℕ → Type 0
+    abbrev SentNumber : SenderAnswer ⊤ × List ℕ → Type 0
     SentNumber x = x.0.sender.history.oldest < turn
 
     queued_number : (max : ℕ) (ws : List ℕ) → SentNumber (queued_of s ring max ws)
@@ -189,10 +190,10 @@ module _ (s : Sender) (ring : List ℕ) where
         valid_narrow _ _ k (placed_last s.history _ _ (valid_good _ _ k) n.last (sent_placed max ws)))
 
 -- ---- a request
-abbrev SameHistory : Sender → RequestHeard → Type 0
+abbrev SameHistory : Sender → SenderAnswer RequestOutcome → Type 0
 SameHistory s x = x.sender.history ≡ s.history
 
-abbrev NarrowRequested : RequestHeard → Type 0
+abbrev NarrowRequested : SenderAnswer RequestOutcome → Type 0
 NarrowRequested x = NarrowSender x.sender
 
 requested_history : (s : Sender) (cfg : StreamConfig) (r : RetransmitRequest) → (requested_of s cfg r).sender.history ≡ s.history
@@ -252,9 +253,9 @@ idled_within : (u : ℕ) (s : Sender) (cfg : StreamConfig) (time : ℕ) (ring : 
 unfolding idled_of
 idled_within u s cfg time ring w = by s.idle
   where
-    by : (t : IdleTimer) → Within (u + 1) (idled_by s cfg time ring t).0 (idled_by s cfg time ring t).1
-    by Off = more_within u s ring w
-    by (Waiting i) =
+    by : (t : Option Idle) → Within (u + 1) (idled_by s cfg time ring t).0 (idled_by s cfg time ring t).1
+    by None = more_within u s ring w
+    by (Some i) =
         let g = pushed_good s.history ring [] w.good w.number (omega arith) in
         by_test (λ (x : Sender × List ℕ). Within (u + 1) x.0 x.1) (ltb 0 s.unsent || ltb time i.due) _ _ (more_within u s ring w)
         (λ _. record {

@@ -1,5 +1,6 @@
 -- A sender and its words.
 use mathlib.Core.Path.{◌≡◌, refl, ap, ◌∙◌}
+use Rattle.std.proofs.Common.{Option, Some, None}
 use mathlib.Core.Bool.{Bool, true, false}
 use mathlib.Core.List.{List, [], ◌∷◌, ◌++◌}
 use Prim.Native.Nat.{ℕ, ◌≤◌, ◌<◌}
@@ -13,8 +14,6 @@ use Rattle.history.specs.declared.history.SendHistory.{SendHistory}
 use Rattle.history.specs.declared.queue.RetransmitQueue.{RetransmitQueue}
 use Rattle.sender.specs.declared.sender.Sender.{Sender}
 use Rattle.idle.specs.declared.idle.Idle.{Idle}
-use Rattle.idle.specs.declared.idle.IdleTimer.{IdleTimer}
-use Rattle.idle.specs.declared.idle.IdleTimer.TheVariants.{Off, Waiting}
 use Rattle.c_answers.specs.Answers.{bit}
 use Rattle.c_state.specs.Pack.{four_in, word, two_in, pair, held}
 use Rattle.c_state.specs.Receiver.{at}
@@ -28,23 +27,23 @@ use Rattle.c_words.proofs.Runs.{run, run_drop}
 use Rattle.c_state.proofs.Requests.{words_requests, requests_words, length_words}
 
 -- ---- the idle timer, by its flag
-idle_back : (i : IdleTimer) → let w = idle_words i in idle_in w.on w.due w.step w.interval ≡ i
-idle_back Off = refl
-idle_back (Waiting i) = refl
+idle_back : (i : Option Idle) → let w = idle_words i in idle_in w.on w.due w.step w.interval ≡ i
+idle_back None = refl
+idle_back (Some i) = refl
 
 idle_same : (on : Bool) (due interval step : ℕ) → held on due interval step ≡ true
     → idle_words (idle_in on due step interval) ≡ record { on = on; due = due; step = step; interval = interval }
 idle_same on due interval step h =
     by_flag (λ (o : Bool) (x y z : ℕ). ◌≡◌ {A = IdleWords} (idle_words (idle_in o x z y)) record { on = o; due = x; step = z; interval = y }) on due interval step h refl refl
 
-idle_held : (i : IdleTimer) → let w = idle_words i in held w.on w.due w.interval w.step ≡ true
+idle_held : (i : Option Idle) → let w = idle_words i in held w.on w.due w.interval w.step ≡ true
 unfolding held
-idle_held Off = refl
-idle_held (Waiting i) = refl
+idle_held None = refl
+idle_held (Some i) = refl
 
-step_small : (i : IdleTimer) → ((w : Idle) → i ≡ Waiting w → w.step < 65536) → (idle_words i).step < 65536
-step_small Off h = omega arith
-step_small (Waiting w) h = h w refl
+step_small : (i : Option Idle) → ((w : Idle) → i ≡ Some w → w.step < 65536) → (idle_words i).step < 65536
+step_small None h = omega arith
+step_small (Some w) h = h w refl
 
 -- ---- a sender, stored
 module _ (s : Sender) (small : SenderSmall s) where
@@ -67,7 +66,7 @@ module _ (s : Sender) (small : SenderSmall s) where
   size_and_flag = two_pair _ _ small.1.places
 
   -- the sender, from parts that are its own
-  parts : (rs : List RetransmitRequest) (j : IdleTimer) → rs ≡ s.queue.items → j ≡ s.idle
+  parts : (rs : List RetransmitRequest) (j : Option Idle) → rs ≡ s.queue.items → j ≡ s.idle
       → ◌≡◌ {A = Sender}
       record {
         history = s.history;
@@ -141,7 +140,7 @@ module _ (ws : List ℕ) where
       → record { items = rs; head = p.a; len = p.b; size = m.low } ≡ queue_in ws
   queue_made p m rs ep em er = rw (er, em, ep)
 
-  pub sender_made : (n p : Quarters) (m : Halves) (h : SendHistory) (r : RetransmitQueue) (i : IdleTimer)
+  pub sender_made : (n p : Quarters) (m : Halves) (h : SendHistory) (r : RetransmitQueue) (i : Option Idle)
       → n ≡ four_in (at ws 1) → p ≡ q → m ≡ two_in p.d → h ≡ history_in ws → r ≡ queue_in ws → i ≡ idle_in (eqb m.high 1) (at ws 3) p.c (at ws 4)
       → record { history = h; queue = r; unsent = n.c; unsent_words = n.d; idle = i } ≡ sender_of ws
   unfolding sender_of

@@ -29,10 +29,6 @@ module _ (ws : List ℕ) where
   unfolding receiver_fits
   receiver_short h = rw (ne_eqb (length ws) 20 h)
 
-  pub sender_short : (length ws ≡ 20 → ⊥) → false ≡ sender_fits ws
-  unfolding sender_fits
-  sender_short h = rw (ne_eqb (length ws) 20 h)
-
   pub receiver_long : length ws ≡ 20 → receiver_holds (receiver_part ws) ≡ receiver_fits ws
   unfolding receiver_fits
   receiver_long l = rw (eq-eqb (length ws) 20 l)
@@ -56,10 +52,6 @@ module _ (ws : List ℕ) where
   pub fits_sender : receiver_fits ws ≡ true → sender_fits ws ≡ fits ws
   unfolding fits
   fits_sender e = rw e
-
-  pub fits_not : receiver_fits ws ≡ false → false ≡ fits ws
-  unfolding fits
-  fits_not e = rw e
 
   -- ---- the parts
   pub part_lengths : length ws ≡ 20 → (length (receiver_part ws) ≡ 7) × (length (sender_part ws) ≡ 13)

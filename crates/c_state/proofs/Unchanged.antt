@@ -1,13 +1,15 @@
 -- What a call leaves as it was: queueing messages leaves the requests, and a write the receiver where no request is due.
 use mathlib.Core.Path.{◌≡◌, refl}
+use Rattle.std.proofs.Common.{Result, Ok, Err}
+use Rattle.config.specs.declared.refusal.Refusal.{Refusal}
+use Rattle.sender.specs.declared.sender.SenderAnswer.{SenderAnswer}
+use Rattle.std.specs.Bool.{⊤}
 use mathlib.Core.Bool.{false, ◌&&◌}
 use mathlib.Core.List.{List}
 use Prim.Native.Nat.{ℕ, ◌-◌}
 use lib.ListN.{length}
 use lib.Dec.{eqb, ltb}
 use Rattle.config.specs.Settings.{check_of}
-use Rattle.config.specs.declared.answer.Outcome.{Outcome}
-use Rattle.config.specs.declared.answer.Outcome.TheVariants.{Done, Refused}
 use Rattle.config.specs.declared.settings.StreamConfig.{StreamConfig}
 use Rattle.packet.specs.Write.{valid_of as payload_valid}
 use Rattle.packet.specs.declared.writer.PayloadWriter.{PayloadWriter}
@@ -16,7 +18,6 @@ use Rattle.sender.specs.State.{valid_of as sender_valid}
 use Rattle.sender.specs.Queueing.{need_of, words_check, queued_of, placed_of, sent_of}
 use Rattle.sender.specs.Answers.{send_answer}
 use Rattle.sender.specs.declared.sender.Sender.{Sender}
-use Rattle.sender.specs.declared.sender.Sent.{Sent}
 use Rattle.stream.specs.State.{valid_of}
 use Rattle.stream.specs.Ends.{send_answer as stream_send}
 use Rattle.stream.specs.Writing.{sent_after, data_written, write_answer}
@@ -27,7 +28,7 @@ use Rattle.config.specs.inner.Choices.{by_check}
 use Rattle.c_state.proofs.Choices.{by_test, by_entry}
 
 module _ (s : Sender) (ring : List ℕ) where
-  abbrev SameQueue : Sent × List ℕ → Type 0
+  abbrev SameQueue : SenderAnswer ⊤ × List ℕ → Type 0
   SameQueue x = x.0.sender.queue ≡ s.queue
 
   sent_queue : (max : ℕ) (ws : List ℕ) → SameQueue (sent_of s ring max ws)
@@ -65,6 +66,6 @@ pub both_receiver : (d : DataStream) → d.receiver.request_due ≡ false → (c
 unfolding send_and_write_answer stream_send
 both_receiver d early cfg time ws p b ring = by (stream_send d cfg ring ws).0.answer
   where
-    by : (a : Outcome) → let e = stream_send d cfg ring ws in (after_send a e.0.stream cfg time p b e.1).0.stream.receiver ≡ d.receiver
-    by (Refused why) = refl
-    by Done = write_receiver _ early cfg time p b _
+    by : (a : Result ⊤ Refusal) → let e = stream_send d cfg ring ws in (after_send a e.0.stream cfg time p b e.1).0.stream.receiver ≡ d.receiver
+    by (Err why) = refl
+    by (Ok _) = write_receiver _ early cfg time p b _

@@ -1,5 +1,8 @@
 -- A receiver that a poll leaves as it is.
 use mathlib.Core.Path.{◌≡◌, refl, sym, ap, ◌∙◌}
+use Rattle.std.proofs.Common.{Option, Some, None, Result, Ok}
+use Rattle.config.specs.declared.refusal.Refusal.{Refusal}
+use Rattle.receiver.specs.declared.receiver.RequestTimer.{RequestTimer}
 use mathlib.Core.Bool.{Bool, true, false, ◌&&◌}
 use mathlib.Core.List.{List}
 use Prim.Native.Nat.{ℕ}
@@ -7,16 +10,12 @@ use lib.ListN.{length}
 use borrow.Author.Tests.{ltb-true}
 use Rattle.config.specs.inner.Tests.{and_left, and_right}
 use Rattle.config.specs.Settings.{check_of}
-use Rattle.config.specs.declared.answer.Outcome.TheVariants.{Done}
 use Rattle.config.specs.declared.settings.StreamConfig.{StreamConfig}
 use Rattle.window.specs.Window as window
 use Rattle.window.specs.declared.window.ReceiveWindow.{ReceiveWindow}
 use Rattle.receiver.specs.Receiver.{valid_of, polled_of}
 use Rattle.receiver.specs.Answers.{poll_answer}
-use Rattle.receiver.specs.declared.receiver.Timer.{Timer}
-use Rattle.receiver.specs.declared.receiver.Timer.TheVariants.{Stopped, Running}
 use Rattle.receiver.specs.declared.receiver.StreamEvent.{StreamEvent}
-use Rattle.receiver.specs.declared.receiver.StreamEvent.TheVariants.{Nothing}
 use Rattle.c_words.proofs.Within.{and_false}
 use Rattle.c_state.specs.Receiver.{receiver_holds}
 use Rattle.c_state.specs.Stream.{receiver_part, receiver_fits, receiver_in}
@@ -63,9 +62,9 @@ module _ (time : ℕ) (ws : List ℕ) where
   waits_early e = and_right (valid_of (receiver_in ws)) _ (and_right (receiver_fits ws) _ e)
 
   -- nothing is answered, and the words stay
-  pub waits_same : waits_of time ws ≡ true → (cfg : StreamConfig) → check_of cfg ≡ Done → ◌≡◌ {A = StreamEvent × List ℕ} (Nothing, ws) (told_into ws (poll_answer (receiver_in ws) cfg time))
+  pub waits_same : waits_of time ws ≡ true → (cfg : StreamConfig) → check_of cfg ≡ Ok tt → ◌≡◌ {A = Result (Option StreamEvent) Refusal × List ℕ} (Ok None, ws) (told_into ws (poll_answer (receiver_in ws) cfg time))
   waits_same e cfg p = told_tested ws (receiver_in ws) cfg time refl p (waits_valid e) _ (by (receiver_in ws).timer refl (waits_early e))
     where
-      by : (t : Timer) → (receiver_in ws).timer ≡ t → not_due t time ≡ true → ◌≡◌ {A = StreamEvent × List ℕ} (Nothing, ws) (told_into ws (polled_of (receiver_in ws) cfg time))
-      by Stopped s n = polled_stopped ws (receiver_in ws) (waits_fit e) refl cfg time s
-      by (Running t) s n = polled_early ws (receiver_in ws) (waits_fit e) refl cfg time t s (ltb-true time t.due n)
+      by : (t : Option RequestTimer) → (receiver_in ws).timer ≡ t → not_due t time ≡ true → ◌≡◌ {A = Result (Option StreamEvent) Refusal × List ℕ} (Ok None, ws) (told_into ws (polled_of (receiver_in ws) cfg time))
+      by None s n = polled_stopped ws (receiver_in ws) (waits_fit e) refl cfg time s
+      by (Some t) s n = polled_early ws (receiver_in ws) (waits_fit e) refl cfg time t s (ltb-true time t.due n)

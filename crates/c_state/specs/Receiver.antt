@@ -1,11 +1,9 @@
 -- 01, "Position, window, loss": a receiver as seven words. Figures of 16 bits are packed, four to a word; the figures of a timer or a request that is not there are 0.
-use Rattle.std.specs.Prelude.{ℕ, ◌<◌, Bool, true, false, cond, ◌&&◌, List, [], ◌∷◌, get_or, eqb, leb}
+use Rattle.std.specs.Prelude.{ℕ, ◌<◌, Bool, true, false, cond, ◌&&◌, List, [], ◌∷◌, get_or, eqb, leb, Option, Some, None}
+use Rattle.command.specs.declared.retransmit.RetransmitRequest.{RetransmitRequest}
+use Rattle.receiver.specs.declared.receiver.RequestTimer.{RequestTimer}
 use Rattle.window.specs.declared.window.ReceiveWindow.{ReceiveWindow}
 use Rattle.receiver.specs.declared.receiver.Receiver.{Receiver}
-use Rattle.receiver.specs.declared.receiver.Timer.{Timer}
-use Rattle.receiver.specs.declared.receiver.Timer.TheVariants.{Stopped, Running}
-use Rattle.receiver.specs.declared.receiver.Asked.{Asked}
-use Rattle.receiver.specs.declared.receiver.Asked.TheVariants.{Nothing, Request}
 use Rattle.c_state.specs.Pack.{four_in, word, two_in, pair, flags_in, flags_number, held}
 use Rattle.c_state.specs.declared.receiver_part.TimerWords.{TimerWords}
 use Rattle.c_state.specs.declared.receiver_part.AskedWords.{AskedWords}
@@ -14,13 +12,13 @@ abbrev pub at : List ℕ → ℕ → ℕ
 at ws k = get_or ws k 0
 
 -- ---- into the words
-abbrev pub timer_words : Timer → TimerWords
-timer_words Stopped = record { on = false; due = 0; sent = 0 }
-timer_words (Running t) = record { on = true; due = t.due; sent = t.sent }
+abbrev pub timer_words : Option RequestTimer → TimerWords
+timer_words None = record { on = false; due = 0; sent = 0 }
+timer_words (Some t) = record { on = true; due = t.due; sent = t.sent }
 
-abbrev pub asked_words : Asked → AskedWords
-asked_words Nothing = record { on = false; seq = 0; count = 0 }
-asked_words (Request r) = record { on = true; seq = r.seq; count = r.count }
+abbrev pub asked_words : Option RetransmitRequest → AskedWords
+asked_words None = record { on = false; seq = 0; count = 0 }
+asked_words (Some r) = record { on = true; seq = r.seq; count = r.count }
 
 -- the set has two words, and room for two more
 unfoldable pub receiver_words : Receiver → List ℕ
@@ -43,11 +41,11 @@ abbrev pub NarrowReceiver : Receiver → Type 0
 NarrowReceiver r = r.window.size < 65536
 
 -- ---- from the words
-abbrev pub timer_in : Bool → ℕ → ℕ → Timer
-timer_in on due sent = cond on (Running record { due = due; sent = sent }) Stopped
+abbrev pub timer_in : Bool → ℕ → ℕ → Option RequestTimer
+timer_in on due sent = cond on (Some record { due = due; sent = sent }) None
 
-abbrev pub asked_in : Bool → ℕ → ℕ → Asked
-asked_in on seq count = cond on (Request record { seq = seq; count = count }) Nothing
+abbrev pub asked_in : Bool → ℕ → ℕ → Option RetransmitRequest
+asked_in on seq count = cond on (Some record { seq = seq; count = count }) None
 
 unfoldable pub receiver_of : List ℕ → Receiver
 receiver_of ws =

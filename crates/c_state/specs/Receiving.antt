@@ -1,16 +1,15 @@
 -- 01, "Position, window, loss": a receiver's call on its words: the answer, and the words of what the call leaves.
-use Rattle.std.specs.Prelude.{ℕ, Bool, true, cond, ◌&&◌, List, ltb}
+use Rattle.std.specs.Prelude.{ℕ, Bool, true, cond, ◌&&◌, List, ltb, Option, Some, None, Result}
+use Rattle.config.specs.declared.refusal.Refusal.{Refusal}
+use Rattle.receiver.specs.declared.receiver.Delivery.{Delivery}
+use Rattle.receiver.specs.declared.receiver.ReceiverAnswer.{ReceiverAnswer}
+use Rattle.receiver.specs.declared.receiver.RequestTimer.{RequestTimer}
 use Rattle.config.specs.declared.settings.StreamConfig.{StreamConfig}
 use Rattle.window.specs.declared.window.ReceiveWindow.{ReceiveWindow}
 use Rattle.window.specs.declared.window.Class.{Class}
 use Rattle.receiver.specs.Receiver.{valid_of, rest_of, enabled_of, nothing_missing, is_gap, restarts}
 use Rattle.receiver.specs.declared.receiver.Receiver.{Receiver}
-use Rattle.receiver.specs.declared.receiver.Timer.{Timer}
-use Rattle.receiver.specs.declared.receiver.Timer.TheVariants.{Stopped, Running}
-use Rattle.receiver.specs.declared.receiver.Hearing.{Hearing}
-use Rattle.receiver.specs.declared.receiver.Heard.{Heard}
 use Rattle.receiver.specs.declared.receiver.StreamEvent.{StreamEvent}
-use Rattle.receiver.specs.declared.receiver.Told.{Told}
 use Rattle.c_state.specs.Receiver.{with_window}
 use Rattle.c_state.specs.Stream.{receiver_fits, receiver_in, with_receiver}
 
@@ -22,16 +21,16 @@ starts_timer r cfg class = is_gap class && (enabled_of r cfg && restarts r.timer
 unfoldable pub kept_of : Receiver → ReceiveWindow → Receiver
 kept_of r w = cond (nothing_missing w) (rest_of r.refused w) (with_window r w)
 
-abbrev pub heard_into : List ℕ → Heard → Hearing × List ℕ
+abbrev pub heard_into : List ℕ → ReceiverAnswer Delivery → Result Delivery Refusal × List ℕ
 heard_into ws h = (h.answer, with_receiver ws h.receiver)
 
-abbrev pub told_into : List ℕ → Told → StreamEvent × List ℕ
-told_into ws t = (t.event, with_receiver ws t.receiver)
+abbrev pub told_into : List ℕ → ReceiverAnswer (Option StreamEvent) → Result (Option StreamEvent) Refusal × List ℕ
+told_into ws t = (t.answer, with_receiver ws t.receiver)
 
 -- a timer that a poll at this time leaves as it is
-abbrev pub not_due : Timer → ℕ → Bool
-not_due Stopped time = true
-not_due (Running t) time = ltb time t.due
+abbrev pub not_due : Option RequestTimer → ℕ → Bool
+not_due None time = true
+not_due (Some t) time = ltb time t.due
 
 -- words of a receiver that passes its test, and whose timer a poll at this time leaves as it is
 unfoldable pub waits_of : ℕ → List ℕ → Bool

@@ -1,22 +1,21 @@
 -- 01, "History, repeats, idle": a sender as thirteen words. Figures of 16 bits are packed, four to a word, and requests two to a word; the figures of an idle timer that is not
 -- there are 0.
-use Rattle.std.specs.Prelude.{ℕ, zero, suc, ◌<◌, Bool, true, false, cond, ◌&&◌, List, [], ◌∷◌, ◌++◌, get_or, drop, eqb, leb}
+use Rattle.std.specs.Prelude.{ℕ, zero, suc, ◌<◌, Bool, true, false, cond, ◌&&◌, List, [], ◌∷◌, ◌++◌, get_or, drop, eqb, leb, Option, Some, None}
+use Rattle.idle.specs.declared.idle.Idle.{Idle}
 use Rattle.command.specs.declared.retransmit.RetransmitRequest.{RetransmitRequest}
 use Rattle.history.specs.Queue.{blank}
 use Rattle.history.specs.declared.history.SendHistory.{SendHistory}
 use Rattle.history.specs.declared.queue.RetransmitQueue.{RetransmitQueue}
 use Rattle.sender.specs.declared.sender.Sender.{Sender}
-use Rattle.idle.specs.declared.idle.IdleTimer.{IdleTimer}
-use Rattle.idle.specs.declared.idle.IdleTimer.TheVariants.{Off, Waiting}
 use Rattle.c_answers.specs.Answers.{bit}
 use Rattle.c_state.specs.Pack.{four_in, word, two_in, pair, held}
 use Rattle.c_state.specs.Receiver.{at}
 use Rattle.c_state.specs.declared.sender_part.IdleWords.{IdleWords}
 
 -- ---- into the words
-abbrev pub idle_words : IdleTimer → IdleWords
-idle_words Off = record { on = false; due = 0; step = 0; interval = 0 }
-idle_words (Waiting i) = record { on = true; due = i.due; step = i.step; interval = i.interval }
+abbrev pub idle_words : Option Idle → IdleWords
+idle_words None = record { on = false; due = 0; step = 0; interval = 0 }
+idle_words (Some i) = record { on = true; due = i.due; step = i.step; interval = i.interval }
 
 unfoldable pub figure_words : Sender → List ℕ
 figure_words s =
@@ -75,8 +74,8 @@ requests_in (w ∷ ws) = first_in w ∷ second_in w ∷ requests_in ws
 abbrev pub queue_in : List ℕ → RetransmitQueue
 queue_in ws = let q = four_in (at ws 2) in record { items = requests_in (drop 5 ws); head = q.a; len = q.b; size = (two_in q.d).low }
 
-abbrev pub idle_in : Bool → ℕ → ℕ → ℕ → IdleTimer
-idle_in on due step interval = cond on (Waiting record { due = due; step = step; interval = interval }) Off
+abbrev pub idle_in : Bool → ℕ → ℕ → ℕ → Option Idle
+idle_in on due step interval = cond on (Some record { due = due; step = step; interval = interval }) None
 
 unfoldable pub sender_of : List ℕ → Sender
 sender_of ws =

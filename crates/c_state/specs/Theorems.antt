@@ -1,14 +1,11 @@
 -- Beyond the contracts of single functions: the words that are taken are those of some stream, and no others; a stream that is stored and loaded is the same, and so are words;
 -- and every stream that a call can leave has words.
-use Rattle.std.specs.Prelude.{◌≡◌, ℕ, ◌<◌, true, List, length, get_or}
+use Rattle.std.specs.Prelude.{◌≡◌, ℕ, ◌<◌, true, List, length, get_or, Some}
 use Rattle.command.specs.declared.retransmit.RetransmitRequest.{RetransmitRequest}
 use Rattle.history.specs.Queue.{blank}
 use Rattle.receiver.specs.declared.receiver.Receiver.{Receiver}
 use Rattle.receiver.specs.declared.receiver.RequestTimer.{RequestTimer}
-use Rattle.receiver.specs.declared.receiver.Timer.TheVariants.{Running}
-use Rattle.receiver.specs.declared.receiver.Asked.TheVariants.{Request}
 use Rattle.idle.specs.declared.idle.Idle.{Idle}
-use Rattle.idle.specs.declared.idle.IdleTimer.TheVariants.{Waiting}
 use Rattle.sender.specs.declared.sender.Sender.{Sender}
 use Rattle.config.specs.declared.settings.StreamConfig.{StreamConfig}
 use Rattle.packet.specs.declared.writer.PayloadWriter.{PayloadWriter}
@@ -30,13 +27,13 @@ pub record Sixteen (rs : List RetransmitRequest) : Type 0 where
 
 pub record ReceiverTyped (r : Receiver) : Type 0 where
   pub highest : r.window.highest < 65536
-  pub timer : (t : RequestTimer) → r.timer ≡ Running t → t.sent < 256
-  pub asked : (a : RetransmitRequest) → r.asked ≡ Request a → (a.seq < 65536) × (a.count < 65536)
+  pub timer : (t : RequestTimer) → r.timer ≡ Some t → t.sent < 256
+  pub asked : (a : RetransmitRequest) → r.asked ≡ Some a → (a.seq < 65536) × (a.count < 65536)
 
 pub record SenderTyped (s : Sender) : Type 0 where
   pub items : Sixteen s.queue.items
   pub oldest : s.history.oldest < 65536
-  pub idle : (i : Idle) → s.idle ≡ Waiting i → i.step < 65536
+  pub idle : (i : Idle) → s.idle ≡ Some i → i.step < 65536
 
 -- and figures in their places
 abbrev pub ReceiverSmall : Receiver → Type 0

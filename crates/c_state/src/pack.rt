@@ -86,17 +86,9 @@ pub fn number(f: Flags) -> u8
 }
 
 // Whether figures may stand beside a flag: where it is not set, they are 0.
+#[tactic(auto, unfolding(crate::specs::Pack::held))]
 pub fn held(on: bool, x: u64, y: u64, z: u64) -> bool
     ensures { result ≡ held_of on x y z }
 {
-    if on {
-        return true;
-    }
-    if x != 0 {
-        return false;
-    }
-    if y != 0 {
-        return false;
-    }
-    z == 0
+    on || (x == 0 && y == 0 && z == 0)
 }

@@ -5,7 +5,7 @@ ghost use Rattle.c_state.specs.Receiving.{not_due};
 
 use super::pack::{Flags, flags_in, four, held, number, pair, two, word};
 use command::retransmit::RetransmitRequest;
-use receiver::receiver::{Asked, Receiver, RequestTimer, Timer};
+use receiver::receiver::{Receiver, RequestTimer};
 use window::set::Bits;
 use window::window::ReceiveWindow;
 
@@ -33,6 +33,7 @@ const MOST: u64 = 0xFFF;
 const ASKED: u64 = 0x1_0000_0000;
 
 // Whether the words are some receiver's, but for the figures of the timer.
+// Test by test: the small figures are cast to 16 bits behind the test of their size.
 fn fits_but_timer(words: &[u64]) -> bool
     requires { length words.now ≡ 7 }
     ensures { result ≡ holds_but_timer words.now }
@@ -78,23 +79,17 @@ pub fn rests(time: u64, words: &[u64]) -> bool
 }
 
 // The request timer.
-fn timer_in(on: bool, due: u64, sent: u8) -> Timer
+fn timer_in(on: bool, due: u64, sent: u8) -> Option<RequestTimer>
     ensures { result ≡ timer_in on due sent }
 {
-    if on {
-        return Timer::Running(RequestTimer { due, sent });
-    }
-    Timer::Stopped
+    on.then_some(RequestTimer { due, sent })
 }
 
 // The request that has no answer yet.
-fn asked_in(on: bool, seq: u16, count: u16) -> Asked
+fn asked_in(on: bool, seq: u16, count: u16) -> Option<RetransmitRequest>
     ensures { result ≡ asked_in on seq count }
 {
-    if on {
-        return Asked::Request(RetransmitRequest { seq, count });
-    }
-    Asked::Nothing
+    on.then_some(RetransmitRequest { seq, count })
 }
 
 // The window of the words.
@@ -130,7 +125,7 @@ pub fn load(words: &[u64]) -> Receiver
     }
 }
 
-// The figures of the request timer.
+// The figures of the request timer, which are 0 where none runs: in words, the flag stands apart.
 #[derive(Clone, Copy)]
 struct TimerWords {
     on: bool,
@@ -138,16 +133,16 @@ struct TimerWords {
     sent: u8,
 }
 
-fn timer_words(timer: Timer) -> TimerWords
+fn timer_words(timer: Option<RequestTimer>) -> TimerWords
     ensures { result ≡ timer_words timer }
 {
     match timer {
-        Timer::Stopped => TimerWords {
+        None => TimerWords {
             on: false,
             due: 0,
             sent: 0,
         },
-        Timer::Running(t) => TimerWords {
+        Some(t) => TimerWords {
             on: true,
             due: t.due,
             sent: t.sent,
@@ -155,7 +150,7 @@ fn timer_words(timer: Timer) -> TimerWords
     }
 }
 
-// The figures of the request that has no answer yet.
+// The figures of the request that has no answer yet, the flag apart as above.
 #[derive(Clone, Copy)]
 struct AskedWords {
     on: bool,
@@ -163,16 +158,16 @@ struct AskedWords {
     count: u16,
 }
 
-fn asked_words(asked: Asked) -> AskedWords
+fn asked_words(asked: Option<RetransmitRequest>) -> AskedWords
     ensures { result ≡ asked_words asked }
 {
     match asked {
-        Asked::Nothing => AskedWords {
+        None => AskedWords {
             on: false,
             seq: 0,
             count: 0,
         },
-        Asked::Request(r) => AskedWords {
+        Some(r) => AskedWords {
             on: true,
             seq: r.seq,
             count: r.count,
@@ -186,11 +181,8 @@ pub fn words_of(receiver: Receiver) -> [u64; 7]
     ensures { result ≡ receiver_words receiver }
 {
     let window = receiver.window;
-    let bits = window.bits;
-    let request_timer = receiver.timer;
-    let timer = timer_words(request_timer);
-    let request = receiver.asked;
-    let asked = asked_words(request);
+    let timer = timer_words(receiver.timer);
+    let asked = asked_words(receiver.asked);
     let on = number(Flags {
         timer: timer.on,
         request_due: receiver.request_due,
@@ -198,8 +190,8 @@ pub fn words_of(receiver: Receiver) -> [u64; 7]
         asked: asked.on,
     });
     [
-        bits.low,
-        bits.high,
+        window.bits.low,
+        window.bits.high,
         0,
         0,
         timer.due,
@@ -214,10 +206,9 @@ pub fn with_window(window: ReceiveWindow, words: &[u64]) -> [u64; 7]
     ensures { result ≡ receiver_words (with_window (receiver_of words.now) window) }
 {
     let figures = four(words[FIGURES]);
-    let bits = window.bits;
     [
-        bits.low,
-        bits.high,
+        window.bits.low,
+        window.bits.high,
         words[UPPER],
         words[TOP],
         words[DUE],

@@ -6,7 +6,7 @@ use super::pack::{four, held, pair, two, word};
 use command::retransmit::RetransmitRequest;
 use history::history::SendHistory;
 use history::queue::RetransmitQueue;
-use idle::idle::{Idle, IdleTimer};
+use idle::idle::Idle;
 use sender::sender::Sender;
 
 // The places of the words; the requests' are the last.
@@ -114,17 +114,14 @@ fn queue_in(words: &[u64]) -> RetransmitQueue
 }
 
 // The idle timer.
-fn idle_in(on: bool, due: u64, step: u16, interval: u64) -> IdleTimer
+fn idle_in(on: bool, due: u64, step: u16, interval: u64) -> Option<Idle>
     ensures { result ≡ idle_in on due step interval }
 {
-    if on {
-        return IdleTimer::Waiting(Idle {
-            due,
-            step,
-            interval,
-        });
-    }
-    IdleTimer::Off
+    on.then_some(Idle {
+        due,
+        step,
+        interval,
+    })
 }
 
 // The sender of words that fit.
@@ -144,7 +141,7 @@ pub fn load(words: &[u64]) -> Sender
     }
 }
 
-// The figures of the idle timer.
+// The figures of the idle timer, which are 0 where none runs: in words, the flag stands apart.
 #[derive(Clone, Copy)]
 struct IdleWords {
     on: bool,
@@ -153,17 +150,17 @@ struct IdleWords {
     interval: u64,
 }
 
-fn idle_words(idle: IdleTimer) -> IdleWords
+fn idle_words(idle: Option<Idle>) -> IdleWords
     ensures { result ≡ idle_words idle }
 {
     match idle {
-        IdleTimer::Off => IdleWords {
+        None => IdleWords {
             on: false,
             due: 0,
             step: 0,
             interval: 0,
         },
-        IdleTimer::Waiting(i) => IdleWords {
+        Some(i) => IdleWords {
             on: true,
             due: i.due,
             step: i.step,
@@ -179,8 +176,7 @@ pub fn figures(sender: Sender) -> [u64; 5]
 {
     let history = sender.history;
     let queue = sender.queue;
-    let idle_timer = sender.idle;
-    let idle = idle_words(idle_timer);
+    let idle = idle_words(sender.idle);
     [
         word(
             history.head as u16,

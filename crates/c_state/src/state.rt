@@ -21,33 +21,27 @@ pub const WORDS: usize = 20;
 const REQUESTS: usize = RECEIVER_WORDS + sender_part::REQUESTS;
 
 // Whether there are as many words as a stream has, and the receiver's are some receiver's.
+#[tactic(auto, unfolding(crate::specs::Stream::receiver_fits))]
 pub fn receiver_fits(words: &[u64]) -> bool
     ensures { result ≡ receiver_fits words.now }
 {
-    if words.len() != WORDS {
-        return false;
-    }
-    receiver_part::fits(&words[0..RECEIVER_WORDS])
+    words.len() == WORDS && receiver_part::fits(&words[0..RECEIVER_WORDS])
 }
 
 // Whether each of the sender's words is as wide as its figure.
+#[tactic(auto, unfolding(crate::specs::Stream::sender_fits))]
 pub fn sender_fits(words: &[u64]) -> bool
     ensures { result ≡ sender_fits words.now }
 {
-    if words.len() != WORDS {
-        return false;
-    }
-    sender_part::fits(&words[RECEIVER_WORDS..])
+    words.len() == WORDS && sender_part::fits(&words[RECEIVER_WORDS..])
 }
 
 // Whether the words are some stream's.
+#[tactic(auto, unfolding(crate::specs::Stream::fits))]
 pub fn fits(words: &[u64]) -> bool
     ensures { result ≡ fits_of words.now }
 {
-    if receiver_fits(words) {
-        return sender_fits(words);
-    }
-    false
+    receiver_fits(words) && sender_fits(words)
 }
 
 // The receiver.
@@ -117,11 +111,9 @@ pub fn store_sender(sender: Sender, words: &mut [u64])
     requires { (length words.old ≡ stream_words) × NarrowSender sender }
     ensures { words.new ≡ with_sender words.old sender }
 {
-    let queue = sender.queue;
-    let items = queue.items;
     let new = sender_part::figures(sender);
     put(&new, words, RECEIVER_WORDS);
-    let waiting = sender_part::requests(items);
+    let waiting = sender_part::requests(sender.queue.items);
     put(&waiting, words, REQUESTS);
 }
 
@@ -139,10 +131,8 @@ pub fn store(s: DataStream, words: &mut [u64])
     requires { (length words.old ≡ stream_words) × (NarrowReceiver s.receiver × NarrowSender s.sender) }
     ensures { words.new ≡ stored s }
 {
-    let sender = s.sender;
-    let receiver = s.receiver;
-    store_receiver(receiver, words);
-    store_sender(sender, words);
+    store_receiver(s.receiver, words);
+    store_sender(s.sender, words);
 }
 
 // Stores a receiver that is new where `changed` is set.
@@ -160,8 +150,6 @@ pub fn store_written(changed: bool, s: DataStream, words: &mut [u64])
     requires { (fits_of words.old ≡ true) × NarrowReceiver s.receiver × NarrowSender s.sender × (changed ≡ false → s.receiver ≡ receiver_in words.old) }
     ensures { words.new ≡ stored s }
 {
-    let sender = s.sender;
-    let receiver = s.receiver;
-    store_changed(changed, receiver, words);
-    store_sender(sender, words);
+    store_changed(changed, s.receiver, words);
+    store_sender(s.sender, words);
 }

@@ -1,5 +1,8 @@
 -- The sender's part of a write is refused only where the payload is empty still, and then it is as it was.
 use mathlib.Core.Path.{◌≡◌}
+use Rattle.std.proofs.Common.{Result, Ok, Err}
+use Rattle.config.specs.declared.refusal.Refusal.{Refusal}
+use Rattle.writing.specs.declared.writing.Written.{Written}
 use mathlib.Core.Bool.{not, ◌||◌}
 use mathlib.Core.List.{List, [], ◌∷◌}
 use Prim.Native.Nat.{ℕ, zero, suc, ◌+◌, ◌*◌}
@@ -21,8 +24,6 @@ use Rattle.sender.specs.Requests.{written_count, with_queue}
 use Rattle.writing.specs.Writing.{Served, commands_at, answer_to, served_in, served_of, idled_of, new_by, new_of, written_by}
 use Rattle.sender.specs.declared.sender.Sender.{Sender}
 use Rattle.writing.specs.declared.writing.Written.{Written as Count}
-use Rattle.writing.specs.declared.writing.Writing.{Writing}
-use Rattle.writing.specs.declared.writing.Writing.TheVariants.{Written, Refused as NotWritten}
 use Rattle.writing.specs.declared.writing.Wrote.{Wrote}
 
 -- ---- a payload and its bytes since p and b: the same, or no longer empty
@@ -65,11 +66,11 @@ served_since (suc n) s ring p b =
     (λ _. row)
 
 -- ---- the sender's part: it is done, or too large for a payload that is empty
-pub data Tried (p : PayloadWriter) (b : List ℕ) : Writing → PayloadWriter → List ℕ → Type 0 where
-  wrote : (w : Count) {q : PayloadWriter} {bytes : List ℕ} → Tried p b (Written w) q bytes
-  large : p.len ≡ 0 → Tried p b (NotWritten TooLarge) p b
+pub data Tried (p : PayloadWriter) (b : List ℕ) : Result Written Refusal → PayloadWriter → List ℕ → Type 0 where
+  wrote : (w : Count) {q : PayloadWriter} {bytes : List ℕ} → Tried p b (Ok w) q bytes
+  large : p.len ≡ 0 → Tried p b (Err TooLarge) p b
 
-pub tried_since : {p q : PayloadWriter} {b c : List ℕ} {a : Writing} {r : PayloadWriter} {d : List ℕ} → Since p b q c → Tried q c a r d → Tried p b a r d
+pub tried_since : {p q : PayloadWriter} {b c : List ℕ} {a : Result Written Refusal} {r : PayloadWriter} {d : List ℕ} → Since p b q c → Tried q c a r d → Tried p b a r d
 tried_since s (wrote w) = wrote w
 tried_since as_before (large z) = large z
 tried_since (not_empty h) (large z) = absurd (h z)

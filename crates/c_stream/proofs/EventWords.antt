@@ -1,5 +1,9 @@
 -- An event in one word, and the events that a poll tells: none has a reason.
 use mathlib.Core.Path.{◌≡◌, refl, ap, sym, ◌∙◌}
+use Rattle.std.proofs.Common.{Option, Some, None, Result}
+use Rattle.receiver.specs.declared.receiver.ReceiverAnswer.{ReceiverAnswer}
+use Rattle.receiver.specs.declared.receiver.RequestTimer.{RequestTimer}
+use Rattle.window.specs.declared.window.SeqRange.{SeqRange}
 use mathlib.Core.Bool.{Bool, true, false, cond, ◌&&◌}
 use mathlib.Core.List.{List}
 use Prim.Native.Nat.{ℕ, ◌<◌}
@@ -11,15 +15,10 @@ use Rattle.config.specs.declared.settings.StreamConfig.{StreamConfig}
 use Rattle.config.specs.inner.Entries.{entry_any}
 use Rattle.window.specs.Window.{missing_span}
 use Rattle.window.specs.declared.window.ReceiveWindow.{ReceiveWindow}
-use Rattle.window.specs.declared.window.Span.{Span}
-use Rattle.window.specs.declared.window.Span.TheVariants.{Nothing as NoSpan, Of}
 use Rattle.receiver.specs.Receiver.{valid_of, enabled_of, nothing_missing, loss_of, gave_up, polled_at, polled_of}
 use Rattle.receiver.specs.Answers as receiver
 use Rattle.receiver.specs.declared.receiver.Receiver.{Receiver}
-use Rattle.receiver.specs.declared.receiver.Timer.{Timer}
-use Rattle.receiver.specs.declared.receiver.Timer.TheVariants.{Stopped, Running}
 use Rattle.receiver.specs.declared.receiver.StreamEvent.{StreamEvent}
-use Rattle.receiver.specs.declared.receiver.Told.{Told}
 use Rattle.c_answers.specs.Answers.{event_of}
 use Rattle.c_answers.specs.declared.answers.CEvent.{CEvent}
 use Rattle.c_state.specs.Pack.{four_in, word, two_in, pair}
@@ -57,25 +56,25 @@ unfolding event_in
 event_made w q s eq es = rw (es, eq)
 
 -- ---- what a poll tells
-abbrev Plain : Told → Type 0
-Plain t = (event_of t.event).reason ≡ 0
+abbrev Plain : ReceiverAnswer (Option StreamEvent) → Type 0
+Plain t = (event_of t.answer).reason ≡ 0
 
-plain_by : (b : Bool) (x y : Told) → Plain x → Plain y → Plain (cond b x y)
+plain_by : (b : Bool) (x y : ReceiverAnswer (Option StreamEvent)) → Plain x → Plain y → Plain (cond b x y)
 plain_by true x y p q = p
 plain_by false x y p q = q
 
-loss_plain : (lost : Span) → (event_of (loss_of lost)).reason ≡ 0
-loss_plain NoSpan = refl
-loss_plain (Of range) = refl
+loss_plain : (lost : Option SeqRange) → (event_of (loss_of lost)).reason ≡ 0
+loss_plain None = refl
+loss_plain (Some range) = refl
 
 gave_up_plain : (refused : Bool) (w : ReceiveWindow) → Plain (gave_up refused w)
 unfolding gave_up
 gave_up_plain refused w = loss_plain (missing_span w)
 
 module _ (r : Receiver) (s : StreamConfig) (time : ℕ) where
-  at_plain : (t : Timer) → Plain (polled_at r s time t)
-  at_plain Stopped = refl
-  at_plain (Running t) =
+  at_plain : (t : Option RequestTimer) → Plain (polled_at r s time t)
+  at_plain None = refl
+  at_plain (Some t) =
       plain_by (ltb time t.due) _ _ refl
       (plain_by (nothing_missing r.window) _ _ refl
       (plain_by (ltb t.sent s.max_requests && enabled_of r s) _ _ refl
@@ -89,8 +88,8 @@ module _ (r : Receiver) (s : StreamConfig) (time : ℕ) where
   unfolding receiver.poll_answer
   answer_plain = entry_any Plain (receiver.event_refused r) (polled_of r s time) (λ (why : Refusal). refl) (check_of s) (valid_of r) (λ c v. polled_plain)
 
-  pub no_reason : (ws : List ℕ) (t : StreamEvent) (after : List ℕ) (e : CEvent) → (t, after) ≡ told_into ws (receiver.poll_answer r s time) → e ≡ event_of t → e.reason ≡ 0
+  pub no_reason : (ws : List ℕ) (t : Result (Option StreamEvent) Refusal) (after : List ℕ) (e : CEvent) → (t, after) ≡ told_into ws (receiver.poll_answer r s time) → e ≡ event_of t → e.reason ≡ 0
   no_reason ws t after e told of =
       ap (λ (x : CEvent). x.reason) of
-      ∙ ap (λ (x : StreamEvent × List ℕ). (event_of x.0).reason) told
+      ∙ ap (λ (x : Result (Option StreamEvent) Refusal × List ℕ). (event_of x.0).reason) told
       ∙ answer_plain

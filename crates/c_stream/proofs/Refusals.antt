@@ -1,5 +1,16 @@
 -- A refused call hands back what it was given, and words that fit are stored back as they were.
 use mathlib.Core.Path.{◌≡◌, refl, ap, sym, ◌∙◌}
+use Rattle.std.proofs.Common.{Option, Some, None, Result, Ok, Err}
+use Rattle.receiver.specs.declared.receiver.Delivery.{Delivery}
+use Rattle.receiver.specs.declared.receiver.ReceiverAnswer.{ReceiverAnswer}
+use Rattle.receiver.specs.declared.receiver.RequestTimer.{RequestTimer}
+use Rattle.receiver.specs.declared.receiver.StreamEvent.{StreamEvent}
+use Rattle.sender.specs.declared.sender.RequestOutcome.{RequestOutcome}
+use Rattle.sender.specs.declared.sender.SenderAnswer.{SenderAnswer}
+use Rattle.stream.specs.declared.stream.StreamAnswer.{StreamAnswer}
+use Rattle.window.specs.declared.window.SeqRange.{SeqRange}
+use Rattle.writing.specs.declared.writing.Written.{Written}
+use Rattle.std.specs.Bool.{⊤}
 use mathlib.Core.Bool.{Bool, true, false, not, ◌&&◌}
 use mathlib.Core.List.{List}
 use Prim.Native.Nat.{ℕ, ◌-◌}
@@ -12,8 +23,6 @@ use Rattle.config.specs.Refusals.{outcome_number}
 use Rattle.config.specs.Settings.{check_of}
 use Rattle.config.specs.declared.refusal.Refusal.{Refusal}
 use Rattle.config.specs.declared.refusal.Refusal.TheVariants.{TooLarge}
-use Rattle.config.specs.declared.answer.Outcome.{Outcome}
-use Rattle.config.specs.declared.answer.Outcome.TheVariants.{Done, Refused}
 use Rattle.config.specs.declared.settings.StreamConfig.{StreamConfig}
 use Rattle.packet.specs.Write.{WriteEnds, refused as not_put, done as put, valid_of as payload_valid}
 use Rattle.packet.specs.declared.writer.PayloadWriter.{PayloadWriter}
@@ -26,34 +35,22 @@ use Rattle.history.specs.Queue.{waiting, asks, push_answer}
 use Rattle.history.specs.declared.queue.Pushed.{Pushed}
 use Rattle.window.specs.Window.{missing_span, request_of as span_request}
 use Rattle.window.specs.Marking.{mark_of}
-use Rattle.window.specs.declared.window.Span.{Span}
-use Rattle.window.specs.declared.window.Span.TheVariants.{Nothing as NoSpan, Of}
 use Rattle.receiver.specs.Receiver.{valid_of as receiver_valid, nothing_missing, heard_of, loss_of, gave_up, polled_at, polled_of, error_event, error_to, error_of, nak_by, nak_of, enabled_of, not_due, taken_by, offered_of, taken_span, taken_of}
 use Rattle.receiver.specs.Answers as receiver
-use Rattle.receiver.specs.declared.receiver.Timer.{Timer}
-use Rattle.receiver.specs.declared.receiver.Timer.TheVariants.{Stopped, Running}
-use Rattle.receiver.specs.declared.receiver.Asked.{Asked}
-use Rattle.receiver.specs.declared.receiver.Asked.TheVariants.{Nothing as Unasked, Request as AskedFor}
 use Rattle.receiver.specs.declared.receiver.Receiver.{Receiver}
-use Rattle.receiver.specs.declared.receiver.Heard.{Heard}
-use Rattle.receiver.specs.declared.receiver.Told.{Told}
 use Rattle.receiver.specs.declared.receiver.Request.{Request}
-use Rattle.receiver.specs.declared.receiver.Request.TheVariants.{Written as Taken, More, Refused as NotTaken}
+use Rattle.receiver.specs.declared.receiver.Request.TheVariants.{Written as Taken, More}
 use Rattle.receiver.specs.declared.receiver.RequestWritten.{RequestWritten as ReceiverTaken}
 use Rattle.sender.specs.State.{valid_of as sender_valid}
 use Rattle.sender.specs.Queueing.{need_of, unsent, words_check, placed_of, queued_of, sent_of}
 use Rattle.sender.specs.Requests.{not_written, with_queue, outcome_of as push_outcome, requested_of}
 use Rattle.sender.specs.Answers as sender
 use Rattle.sender.specs.declared.sender.Sender.{Sender}
-use Rattle.sender.specs.declared.sender.Sent.{Sent}
-use Rattle.sender.specs.declared.sender.RequestHeard.{RequestHeard}
-use Rattle.writing.specs.declared.writing.Writing.{Writing}
 use Rattle.stream.specs.State.{valid_of as stream_valid, with_receiver as with_receiver_of}
 use Rattle.stream.specs.Ends.{send_answer, request_answer, data_answer, error_answer, nak_answer, poll_answer, take_answer}
 use Rattle.stream.specs.Answers.{new_answer, reset_refused, reset_answer}
 use Rattle.stream.specs.Writing.{write_refused, counted_also, sent_after, after_request, data_written as stream_written, write_answer}
 use Rattle.stream.specs.declared.stream.DataStream.{DataStream}
-use Rattle.stream.specs.declared.stream.WasReset.{WasReset}
 use Rattle.stream.specs.declared.stream.Wrote.{Wrote}
 use Rattle.c_state.specs.Stream.{receiver_fits, fits, receiver_in, sender_in, loaded, stored, with_receiver, with_sender}
 use Rattle.c_words.specs.Settings.{settings_of}
@@ -73,38 +70,38 @@ use Rattle.c_state.proofs.Streams.{receiver_same, sender_same, stream_same}
 
 -- ---- the receiver's calls
 module _ (st : List ℕ) where
-  abbrev HeardKept : Heard → Type 0
-  HeardKept = Kept (λ (e : Heard). (delivery_of e.answer).refusal) (λ (e : Heard). with_receiver st e.receiver ≡ st)
+  abbrev HeardKept : ReceiverAnswer Delivery → Type 0
+  HeardKept = Kept (λ (e : ReceiverAnswer Delivery). (delivery_of e.answer).refusal) (λ (e : ReceiverAnswer Delivery). with_receiver st e.receiver ≡ st)
 
-  abbrev ToldKept : Told → Type 0
-  ToldKept = Kept (λ (e : Told). (event_of e.event).refusal) (λ (e : Told). with_receiver st e.receiver ≡ st)
+  abbrev ToldKept : ReceiverAnswer (Option StreamEvent) → Type 0
+  ToldKept = Kept (λ (e : ReceiverAnswer (Option StreamEvent)). (event_of e.answer).refusal) (λ (e : ReceiverAnswer (Option StreamEvent)). with_receiver st e.receiver ≡ st)
 
   -- an event that is told after the tests is no refusal
-  lost : (r : Receiver) (s : Span) → ToldKept record { receiver = r; event = loss_of s }
-  lost r NoSpan = done refl
-  lost r (Of range) = done refl
+  lost : (r : Receiver) (s : Option SeqRange) → ToldKept record { receiver = r; answer = loss_of s }
+  lost r None = done refl
+  lost r (Some range) = done refl
 
-  marked : (r : Receiver) (e : RetransmitError) (s : Span) → ToldKept record { receiver = r; event = error_event e s }
-  marked r e NoSpan = done refl
-  marked r e (Of range) = done refl
+  marked : (r : Receiver) (e : RetransmitError) (s : Option SeqRange) → ToldKept record { receiver = r; answer = error_event e s }
+  marked r e None = done refl
+  marked r e (Some range) = done refl
 
-  polled : (r : Receiver) (s : StreamConfig) (time : ℕ) (t : Timer) → ToldKept (polled_at r s time t)
+  polled : (r : Receiver) (s : StreamConfig) (time : ℕ) (t : Option RequestTimer) → ToldKept (polled_at r s time t)
   unfolding gave_up
-  polled r s time Stopped = done refl
-  polled r s time (Running t) =
+  polled r s time None = done refl
+  polled r s time (Some t) =
       by_test (ltb time t.due) _ _ (λ _. done refl)
       (by_test (nothing_missing r.window) _ _ (λ _. done refl)
       (by_test (ltb t.sent s.max_requests && enabled_of r s) _ _ (λ _. done refl)
       (lost _ (missing_span r.window))))
 
-  error_told : (r : Receiver) (e : RetransmitError) (a : Asked) → ToldKept (error_to r e a)
-  error_told r e Unasked = done refl
-  error_told r e (AskedFor q) = marked _ e (mark_of r.window record { first = q.seq; count = q.count }).span
+  error_told : (r : Receiver) (e : RetransmitError) (a : Option RetransmitRequest) → ToldKept (error_to r e a)
+  error_told r e None = done refl
+  error_told r e (Some q) = marked _ e (mark_of r.window record { first = q.seq; count = q.count }).span
 
-  nak_told : (r : Receiver) (a : Asked) → ToldKept (nak_by r a)
+  nak_told : (r : Receiver) (a : Option RetransmitRequest) → ToldKept (nak_by r a)
   unfolding gave_up
-  nak_told r Unasked = done refl
-  nak_told r (AskedFor q) = lost _ (missing_span r.window)
+  nak_told r None = done refl
+  nak_told r (Some q) = lost _ (missing_span r.window)
 
   module _ (r : Receiver) (same : with_receiver st r ≡ st) where
     heard_kept : (cfg : StreamConfig) (time seq : ℕ) → HeardKept (receiver.data_answer r cfg time seq)
@@ -117,20 +114,20 @@ module _ (st : List ℕ) where
 
     error_kept : (e : RetransmitError) → ToldKept (receiver.error_answer r e)
     unfolding receiver.error_answer error_of
-    error_kept e = by_entry Done (receiver_valid r) (receiver.event_refused r) _ (λ why. same) (error_told r e r.asked)
+    error_kept e = by_entry (Ok tt) (receiver_valid r) (receiver.event_refused r) _ (λ why. same) (error_told r e r.asked)
 
     nak_kept : ToldKept (receiver.nak_answer r)
     unfolding receiver.nak_answer nak_of
-    nak_kept = by_entry Done (receiver_valid r) (receiver.event_refused r) _ (λ why. same) (nak_told r r.asked)
+    nak_kept = by_entry (Ok tt) (receiver_valid r) (receiver.event_refused r) _ (λ why. same) (nak_told r r.asked)
 
   pub hear_keeps : (cfg : List ℕ) (time seq : ℕ) → KeptOne (λ (a : CDelivery). a.refusal) st (data_export st cfg time seq)
   unfolding data_export data_answer loaded
   hear_keeps cfg time seq =
-      call_keeps _ _ (λ (e : Heard). (delivery_of e.answer, with_receiver st e.receiver)) _ (receiver.data_answer (receiver_in st) (settings_of cfg) time seq) (λ n. refl)
+      call_keeps _ _ (λ (e : ReceiverAnswer Delivery). (delivery_of e.answer, with_receiver st e.receiver)) _ (receiver.data_answer (receiver_in st) (settings_of cfg) time seq) (λ n. refl)
       (λ _ f. heard_kept (receiver_in st) (receiver_same st f) (settings_of cfg) time seq)
 
-  abbrev told_of : Told → CEvent × List ℕ
-  told_of e = (event_of e.event, with_receiver st e.receiver)
+  abbrev told_of : ReceiverAnswer (Option StreamEvent) → CEvent × List ℕ
+  told_of e = (event_of e.answer, with_receiver st e.receiver)
 
   pub poll_keeps : (cfg : List ℕ) (time : ℕ) → KeptOne (λ (a : CEvent). a.refusal) st (poll_export st cfg time)
   unfolding poll_export poll_answer loaded
@@ -150,11 +147,11 @@ module _ (st : List ℕ) where
 
 -- ---- the sender's calls, and a reset
 module _ (st ring : List ℕ) where
-  abbrev SentKept : Sent × List ℕ → Type 0
-  SentKept = Kept (λ (e : Sent × List ℕ). outcome_number e.0.answer) (λ (e : Sent × List ℕ). (with_sender st e.0.sender ≡ st) × (e.1 ≡ ring))
+  abbrev SentKept : SenderAnswer ⊤ × List ℕ → Type 0
+  SentKept = Kept (λ (e : SenderAnswer ⊤ × List ℕ). outcome_number e.0.answer) (λ (e : SenderAnswer ⊤ × List ℕ). (with_sender st e.0.sender ≡ st) × (e.1 ≡ ring))
 
-  abbrev RequestedKept : RequestHeard → Type 0
-  RequestedKept = Kept (λ (e : RequestHeard). (outcome_of e.outcome).refusal) (λ (e : RequestHeard). with_sender st e.sender ≡ st)
+  abbrev RequestedKept : SenderAnswer RequestOutcome → Type 0
+  RequestedKept = Kept (λ (e : SenderAnswer RequestOutcome). (outcome_of e.answer).refusal) (λ (e : SenderAnswer RequestOutcome). with_sender st e.sender ≡ st)
 
   abbrev PushedKept : Sender → Pushed → Type 0
   PushedKept s = Kept (λ (e : Pushed). (outcome_of (push_outcome e.answer)).refusal) (λ (e : Pushed). with_sender st (with_queue s e.queue) ≡ st)
@@ -188,34 +185,34 @@ module _ (st ring : List ℕ) where
   pub send_keeps : (cfg ws : List ℕ) → KeptTwo itself st ring (send_export st cfg ring ws)
   unfolding send_export send_answer loaded
   send_keeps cfg ws =
-      call_keeps _ _ (λ (e : Sent × List ℕ). (outcome_number e.0.answer, with_sender st e.0.sender, e.1)) _ (sender.send_answer (sender_in st) (settings_of cfg) ring ws)
+      call_keeps _ _ (λ (e : SenderAnswer ⊤ × List ℕ). (outcome_number e.0.answer, with_sender st e.0.sender, e.1)) _ (sender.send_answer (sender_in st) (settings_of cfg) ring ws)
       (λ n. (refl, refl)) (λ _ f. sent_kept (sender_in st) (settings_of cfg) (sender_same st f) ws)
 
   pub request_keeps : (cfg : List ℕ) (seq count : ℕ) → KeptOne (λ (a : COutcome). a.refusal) st (request_export st cfg ring seq count)
   unfolding request_export request_answer loaded
   request_keeps cfg seq count =
-      call_keeps _ _ (λ (e : RequestHeard). (outcome_of e.outcome, with_sender st e.sender)) _
+      call_keeps _ _ (λ (e : SenderAnswer RequestOutcome). (outcome_of e.answer, with_sender st e.sender)) _
       (sender.request_answer (sender_in st) (settings_of cfg) ring record { seq = seq; count = count })
       (λ n. refl) (λ _ f. requested_kept (sender_in st) (settings_of cfg) (sender_same st f) record { seq = seq; count = count })
 
-  abbrev ResetKept : WasReset × List ℕ → Type 0
-  ResetKept = Kept (λ (e : WasReset × List ℕ). outcome_number e.0.answer) (λ (e : WasReset × List ℕ). (stored e.0.stream ≡ st) × (e.1 ≡ ring))
+  abbrev ResetKept : StreamAnswer ⊤ × List ℕ → Type 0
+  ResetKept = Kept (λ (e : StreamAnswer ⊤ × List ℕ). outcome_number e.0.answer) (λ (e : StreamAnswer ⊤ × List ℕ). (stored e.0.stream ≡ st) × (e.1 ≡ ring))
 
   was_reset_kept : stored (loaded st) ≡ st → ResetKept (reset_answer (loaded st) ring)
   unfolding reset_answer
-  was_reset_kept same = by_entry Done (stream_valid (loaded st) ring) (reset_refused (loaded st) ring) _ (λ why. (same, refl)) (done refl)
+  was_reset_kept same = by_entry (Ok tt) (stream_valid (loaded st) ring) (reset_refused (loaded st) ring) _ (λ why. (same, refl)) (done refl)
 
   pub reset_keeps : KeptTwo itself st ring (reset_export st ring)
   unfolding reset_export
   reset_keeps =
-      call_keeps _ _ (λ (e : WasReset × List ℕ). (outcome_number e.0.answer, stored e.0.stream, e.1)) _ (reset_answer (loaded st) ring)
+      call_keeps _ _ (λ (e : StreamAnswer ⊤ × List ℕ). (outcome_number e.0.answer, stored e.0.stream, e.1)) _ (reset_answer (loaded st) ring)
       (λ n. (refl, refl)) (λ _ f. was_reset_kept (stream_same st f))
 
 -- ---- a start
 module _ (st ring : List ℕ) where
-  started_kept : (a : Outcome) (stream : DataStream) (after : List ℕ) → KeptTwo itself st ring (stream_into a stream after st ring)
-  started_kept Done stream after = done refl
-  started_kept (Refused why) stream after = as_was (refl, refl)
+  started_kept : (a : Result ⊤ Refusal) (stream : DataStream) (after : List ℕ) → KeptTwo itself st ring (stream_into a stream after st ring)
+  started_kept (Ok _) stream after = done refl
+  started_kept (Err why) stream after = as_was (refl, refl)
 
   pub new_keeps : (cfg : List ℕ) (window places : ℕ) → KeptTwo itself st ring (new_export st cfg window places ring)
   unfolding new_export
@@ -226,22 +223,22 @@ module _ (st ring : List ℕ) where
 -- ---- the write of a due request
 -- what it can come to after the tests: a refusal changes nothing
 data Taking (r : Receiver) (p : PayloadWriter) (b : List ℕ) : ReceiverTaken × List ℕ → Type 0 where
-  refused : (why : Refusal) → Taking r p b (record { receiver = r; payload = p; answer = NotTaken why }, b)
+  refused : (why : Refusal) → Taking r p b (record { receiver = r; payload = p; answer = Err why }, b)
   none : (next : Receiver) → Taking r p b (not_due next p, b)
-  more : Taking r p b (record { receiver = r; payload = p; answer = More }, b)
-  taken : (next : Receiver) (after : PayloadWriter) (bytes : List ℕ) → (after.len ≡ 0 → ⊥) → Taking r p b (record { receiver = next; payload = after; answer = Taken }, bytes)
+  more : Taking r p b (record { receiver = r; payload = p; answer = Ok More }, b)
+  taken : (next : Receiver) (after : PayloadWriter) (bytes : List ℕ) → (after.len ≡ 0 → ⊥) → Taking r p b (record { receiver = next; payload = after; answer = Ok Taken }, bytes)
 
 module _ (r : Receiver) (p : PayloadWriter) (b : List ℕ) where
   offered : (q : RetransmitRequest) (w : CommandWrote × List ℕ) → WriteEnds p b (request_packet q) w
       → Taking r p b (taken_by r q w.0.payload w.0.answer, w.1)
   offered q w (not_put why) =
-      by_cond (λ (a : Request). Taking r p b (record { receiver = r; payload = p; answer = a }, b)) (eqb p.len 0) _ _ (λ _. refused TooLarge) (λ _. more)
+      by_cond (λ (a : Result Request Refusal). Taking r p b (record { receiver = r; payload = p; answer = a }, b)) (eqb p.len 0) _ _ (λ _. refused TooLarge) (λ _. more)
   offered q w (put f l) = taken _ _ _ (some_after p (request_packet q))
 
-  taken_span_lem : (s : Span) → Taking r p b (taken_span r p b s)
+  taken_span_lem : (s : Option SeqRange) → Taking r p b (taken_span r p b s)
   unfolding offered_of
-  taken_span_lem NoSpan = none _
-  taken_span_lem (Of range) =
+  taken_span_lem None = none _
+  taken_span_lem (Some range) =
       let q : RetransmitRequest = record { seq = range.first; count = range.count } in
       offered q _ (outcome p b (request_packet q))
 
@@ -304,7 +301,7 @@ module _ (st p b ring : List ℕ) where
       (λ (e : CWritten × List ℕ × List ℕ × List ℕ × List ℕ). (e.2 ≡ p) × (e.3 ≡ b) × ((e.0.refusal ≡ 3 → ⊥) → WriteSame e))
 
   module _ (x : PayloadWriter) (whole : payload_words x ≡ p) where
-    sent_kept_by : (n : ℕ) (d : DataStream) (a : Writing) (after : PayloadWriter) (bytes ring' : List ℕ) → Tried x b a after bytes
+    sent_kept_by : (n : ℕ) (d : DataStream) (a : Result Written Refusal) (after : PayloadWriter) (bytes ring' : List ℕ) → Tried x b a after bytes
         → WroteKept (record { stream = d; payload = after; answer = counted_also n a }, bytes, ring')
     sent_kept_by n d a after bytes ring' (wrote w) = done refl
     sent_kept_by n d a after bytes ring' (large z) = as_was (whole, refl, λ g. absurd (g refl))
@@ -339,15 +336,15 @@ module _ (st p b ring : List ℕ) where
           (request_kept _ (taking d.receiver x b cfg))
 
       -- the tests of the request's write are among those of the whole write
-      by_request : (c : Outcome) (r s payload : Bool) (e : ReceiverTaken × List ℕ) (f : Wrote × List ℕ × List ℕ)
+      by_request : (c : Result ⊤ Refusal) (r s payload : Bool) (e : ReceiverTaken × List ℕ) (f : Wrote × List ℕ × List ℕ)
           → (((request_of e.0.answer).refusal ≡ 0 → ⊥) → WroteSame f)
           → ((request_of (entry c (r && payload) (receiver.request_refused d.receiver x b) e).0.answer).refusal ≡ 0 → ⊥)
           → WroteSame (entry c ((r && s) && payload) (write_refused d x b ring) f)
-      by_request (Refused why) r s payload e f g n = (same, whole, refl, refl)
-      by_request Done false s payload e f g n = (same, whole, refl, refl)
-      by_request Done true false payload e f g n = (same, whole, refl, refl)
-      by_request Done true true false e f g n = (same, whole, refl, refl)
-      by_request Done true true true e f g n = g n
+      by_request (Err why) r s payload e f g n = (same, whole, refl, refl)
+      by_request (Ok _) false s payload e f g n = (same, whole, refl, refl)
+      by_request (Ok _) true false payload e f g n = (same, whole, refl, refl)
+      by_request (Ok _) true true false e f g n = (same, whole, refl, refl)
+      by_request (Ok _) true true true e f g n = g n
 
       wrote_same : ((request_of (receiver.take_answer d.receiver cfg x b).0.answer).refusal ≡ 0 → ⊥) → WroteSame (write_answer d cfg time x b ring)
       unfolding write_answer stream_written stream_valid receiver.take_answer

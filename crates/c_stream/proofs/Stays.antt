@@ -1,5 +1,11 @@
 -- What a call leaves of a stream's words as it was, and the answers of calls that are made on the words.
 use mathlib.Core.Path.{◌≡◌, ap, sym, ◌∙◌}
+use Rattle.std.proofs.Common.{Option, Result}
+use Rattle.config.specs.declared.refusal.Refusal.{Refusal}
+use Rattle.receiver.specs.declared.receiver.Delivery.{Delivery}
+use Rattle.receiver.specs.declared.receiver.ReceiverAnswer.{ReceiverAnswer}
+use Rattle.sender.specs.declared.sender.SenderAnswer.{SenderAnswer}
+use Rattle.std.specs.Bool.{⊤}
 use mathlib.Core.Bool.{false}
 use mathlib.Core.List.{List}
 use Prim.Native.Nat.{ℕ}
@@ -7,13 +13,9 @@ use Rattle.config.specs.declared.settings.StreamConfig.{StreamConfig}
 use Rattle.packet.specs.declared.writer.PayloadWriter.{PayloadWriter}
 use Rattle.history.specs.declared.queue.RetransmitQueue.{RetransmitQueue}
 use Rattle.receiver.specs.Answers as receiver
-use Rattle.receiver.specs.declared.receiver.Hearing.{Hearing}
-use Rattle.receiver.specs.declared.receiver.Heard.{Heard}
 use Rattle.receiver.specs.declared.receiver.StreamEvent.{StreamEvent}
-use Rattle.receiver.specs.declared.receiver.Told.{Told}
 use Rattle.sender.specs.Answers as sender
 use Rattle.sender.specs.declared.sender.Sender.{Sender}
-use Rattle.sender.specs.declared.sender.Sent.{Sent}
 use Rattle.stream.specs.Ends.{data_answer, poll_answer}
 use Rattle.stream.specs.Writing.{write_answer}
 use Rattle.stream.specs.declared.stream.DataStream.{DataStream}
@@ -28,10 +30,10 @@ use Rattle.c_state.proofs.Unchanged.{send_queue, write_receiver}
 
 -- ---- what stays
 module _ (st : List ℕ) where
-  pub send_items : (s : Sender) → s ≡ sender_in st → (cfg : StreamConfig) (ring ws : List ℕ) (e : Sent) (after : List ℕ) → (e, after) ≡ sender.send_answer s cfg ring ws
+  pub send_items : (s : Sender) → s ≡ sender_in st → (cfg : StreamConfig) (ring ws : List ℕ) (e : SenderAnswer ⊤) (after : List ℕ) → (e, after) ≡ sender.send_answer s cfg ring ws
       → e.sender.queue.items ≡ (sender_in st).queue.items
   send_items s from cfg ring ws e after q =
-      ap (λ (x : Sent × List ℕ). x.0.sender.queue.items) q
+      ap (λ (x : SenderAnswer ⊤ × List ℕ). x.0.sender.queue.items) q
       ∙ ap (λ (x : RetransmitQueue). x.items) (send_queue s ring cfg ws)
       ∙ ap (λ (x : Sender). x.queue.items) from
 
@@ -45,26 +47,26 @@ module _ (st : List ℕ) where
 
 -- ---- a receiver's answer on its words
 module _ (st cfg : List ℕ) (time : ℕ) (s : StreamConfig) (after : List ℕ) (es : s ≡ settings_of cfg) where
-  abbrev heard : Heard → CDelivery × List ℕ
+  abbrev heard : ReceiverAnswer Delivery → CDelivery × List ℕ
   heard e = (delivery_of e.answer, with_receiver st e.receiver)
 
-  abbrev told : Told → CEvent × List ℕ
-  told e = (event_of e.event, with_receiver st e.receiver)
+  abbrev told : ReceiverAnswer (Option StreamEvent) → CEvent × List ℕ
+  told e = (event_of e.answer, with_receiver st e.receiver)
 
-  pub heard_out : (seq : ℕ) (h : Hearing) (r : CDelivery) → (h, after) ≡ heard_into st (receiver.data_answer (receiver_in st) s time seq) → r ≡ delivery_of h
+  pub heard_out : (seq : ℕ) (h : Result Delivery Refusal) (r : CDelivery) → (h, after) ≡ heard_into st (receiver.data_answer (receiver_in st) s time seq) → r ≡ delivery_of h
       → let e = data_answer (loaded st) (settings_of cfg) time seq in ◌≡◌ {A = CDelivery × List ℕ} (r, after) (delivery_of e.answer, with_receiver st e.stream.receiver)
   unfolding data_answer loaded
   heard_out seq h r eh er =
       ap (λ (x : CDelivery). (x, after)) er
-      ∙ ap (λ (x : Hearing × List ℕ). (delivery_of x.0, x.1)) eh
+      ∙ ap (λ (x : Result Delivery Refusal × List ℕ). (delivery_of x.0, x.1)) eh
       ∙ ap (λ (x : StreamConfig). heard (receiver.data_answer (receiver_in st) x time seq)) es
 
-  pub told_out : (t : StreamEvent) (r : CEvent) → (t, after) ≡ told_into st (receiver.poll_answer (receiver_in st) s time) → r ≡ event_of t
-      → let e = poll_answer (loaded st) (settings_of cfg) time in ◌≡◌ {A = CEvent × List ℕ} (r, after) (event_of e.event, with_receiver st e.stream.receiver)
+  pub told_out : (t : Result (Option StreamEvent) Refusal) (r : CEvent) → (t, after) ≡ told_into st (receiver.poll_answer (receiver_in st) s time) → r ≡ event_of t
+      → let e = poll_answer (loaded st) (settings_of cfg) time in ◌≡◌ {A = CEvent × List ℕ} (r, after) (event_of e.answer, with_receiver st e.stream.receiver)
   unfolding poll_answer loaded
   told_out t r et er =
       ap (λ (x : CEvent). (x, after)) er
-      ∙ ap (λ (x : StreamEvent × List ℕ). (event_of x.0, x.1)) et
+      ∙ ap (λ (x : Result (Option StreamEvent) Refusal × List ℕ). (event_of x.0, x.1)) et
       ∙ ap (λ (x : StreamConfig). told (receiver.poll_answer (receiver_in st) x time)) es
 
 -- ---- an answer that is told again

@@ -1,8 +1,7 @@
 -- Beyond the contracts of single calls: a call of one end is the library's call on the whole stream, and leaves the words of the other end; and a refused call changes
 -- nothing that was lent.
-use Rattle.std.specs.Prelude.{◌≡◌, ℕ, true, List}
+use Rattle.std.specs.Prelude.{◌≡◌, ℕ, true, List, Ok}
 use Rattle.config.specs.Refusals.{outcome_number}
-use Rattle.config.specs.declared.answer.Outcome.TheVariants.{Done}
 use Rattle.stream.specs.Ends.{send_answer, request_answer, data_answer, error_answer, nak_answer, poll_answer, take_answer}
 use Rattle.c_answers.specs.Answers.{outcome_of, delivery_of, event_of, request_of}
 use Rattle.c_words.specs.Payload.{payload_fits, payload_in, payload_words}
@@ -22,18 +21,18 @@ pub record OtherEnd (st : List ℕ) : Type 0 where
 
 -- and answers as the library's call on the whole stream does, whose stream is what it stores
 pub record WholeStream (st : List ℕ) : Type 0 where
-  pub send : (cfg ring ws : List ℕ) → settings_check cfg ≡ Done → let e = send_answer (loaded st) (settings_of cfg) ring ws in
+  pub send : (cfg ring ws : List ℕ) → settings_check cfg ≡ Ok tt → let e = send_answer (loaded st) (settings_of cfg) ring ws in
       send_export st cfg ring ws ≡ (outcome_number e.0.answer, stored e.0.stream, e.1)
-  pub request : (cfg ring : List ℕ) (seq count : ℕ) → settings_check cfg ≡ Done → let e = request_answer (loaded st) (settings_of cfg) ring record { seq = seq; count = count } in
-      request_export st cfg ring seq count ≡ (outcome_of e.outcome, stored e.stream)
-  pub hear : (cfg : List ℕ) (time seq : ℕ) → settings_check cfg ≡ Done → let e = data_answer (loaded st) (settings_of cfg) time seq in
+  pub request : (cfg ring : List ℕ) (seq count : ℕ) → settings_check cfg ≡ Ok tt → let e = request_answer (loaded st) (settings_of cfg) ring record { seq = seq; count = count } in
+      request_export st cfg ring seq count ≡ (outcome_of e.answer, stored e.stream)
+  pub hear : (cfg : List ℕ) (time seq : ℕ) → settings_check cfg ≡ Ok tt → let e = data_answer (loaded st) (settings_of cfg) time seq in
       data_export st cfg time seq ≡ (delivery_of e.answer, stored e.stream)
   pub error : (reason seq : ℕ) → let e = error_answer (loaded st) record { reason = reason; seq = seq } in
-      error_export st reason seq ≡ (event_of e.event, stored e.stream)
-  pub nak : let e = nak_answer (loaded st) in nak_export st ≡ (event_of e.event, stored e.stream)
-  pub poll : (cfg : List ℕ) (time : ℕ) → settings_check cfg ≡ Done → let e = poll_answer (loaded st) (settings_of cfg) time in
-      poll_export st cfg time ≡ (event_of e.event, stored e.stream)
-  pub take : (cfg p b : List ℕ) → settings_check cfg ≡ Done → payload_fits p ≡ true → let e = take_answer (loaded st) (settings_of cfg) (payload_in p) b in
+      error_export st reason seq ≡ (event_of e.answer, stored e.stream)
+  pub nak : let e = nak_answer (loaded st) in nak_export st ≡ (event_of e.answer, stored e.stream)
+  pub poll : (cfg : List ℕ) (time : ℕ) → settings_check cfg ≡ Ok tt → let e = poll_answer (loaded st) (settings_of cfg) time in
+      poll_export st cfg time ≡ (event_of e.answer, stored e.stream)
+  pub take : (cfg p b : List ℕ) → settings_check cfg ≡ Ok tt → payload_fits p ≡ true → let e = take_answer (loaded st) (settings_of cfg) (payload_in p) b in
       take_export st cfg p b ≡ (request_of e.0.answer, stored e.0.stream, payload_words e.0.payload, e.1)
 
 pub record OneEnd : Type 0 where

@@ -11,8 +11,6 @@ use c_answers::answers::{CDeadline, CDelivery, CEvent, COutcome, CRequest, CWant
 use c_state::{receiving, state};
 use c_words::{guard, payload, settings};
 use command::retransmit::{RetransmitError, RetransmitRequest};
-use config::answer::Outcome;
-use receiver::receiver::StreamEvent;
 use stream::stream::DataStream;
 
 // A fresh stream: a receive window of `window` numbers, the lent history, which is zeroed, and a
@@ -34,11 +32,11 @@ pub extern "C" fn sirmjold_stream_new(
             let stream = started.stream;
             let answer = started.answer;
             match answer {
-                Outcome::Done => {
+                Ok(()) => {
                     state::store(stream, s);
                     return 0;
                 }
-                Outcome::Refused(why) => {
+                Err(why) => {
                     return why.number();
                 }
             }
@@ -59,7 +57,7 @@ pub extern "C" fn sirmjold_stream_reset(s: &mut [u64], ring: &mut [u32]) -> u8
         let stream = done.stream;
         let answer = done.answer;
         state::store(stream, s);
-        return answer.number();
+        return config::answer::number(answer);
     }
     guard::INVALID_STATE
 }
@@ -82,7 +80,7 @@ pub extern "C" fn sirmjold_stream_send_ump(
             let sender = done.sender;
             let answer = done.answer;
             state::store_figures(sender, s);
-            return answer.number();
+            return config::answer::number(answer);
         }
         return guard::INVALID_STATE;
     }
@@ -107,7 +105,7 @@ pub extern "C" fn sirmjold_stream_on_retransmit_request(
             let req = RetransmitRequest { seq, count };
             let done = before.on_retransmit_request(settings::load(cfg), ring, req);
             let sender = done.sender;
-            let outcome = done.outcome;
+            let outcome = done.answer;
             state::store_sender(sender, s);
             return answers::of_outcome(outcome);
         }
@@ -145,7 +143,7 @@ pub extern "C" fn sirmjold_stream_on_retransmit_error(s: &mut [u64], reason: u8,
         let before = state::receiver_in(&s[..]);
         let done = before.on_retransmit_error(RetransmitError { reason, seq });
         let receiver = done.receiver;
-        let event = done.event;
+        let event = done.answer;
         state::renew_receiver(receiver, s);
         return answers::of_event(event);
     }
@@ -161,7 +159,7 @@ pub extern "C" fn sirmjold_stream_on_retransmit_nak(s: &mut [u64]) -> CEvent
         let before = state::receiver_in(&s[..]);
         let done = before.on_retransmit_nak();
         let receiver = done.receiver;
-        let event = done.event;
+        let event = done.answer;
         state::renew_receiver(receiver, s);
         return answers::of_event(event);
     }
@@ -191,7 +189,7 @@ pub extern "C" fn sirmjold_stream_poll(s: &mut [u64], cfg: &[u32], time: u64) ->
 {
     if settings::number(cfg) == 0 {
         if receiving::waits(time, &s[..]) {
-            return answers::of_event(StreamEvent::Nothing);
+            return answers::of_event(Ok(None));
         }
         return event_word::unpacked(poll(s, cfg, time));
     }

@@ -25,7 +25,7 @@ fn numbers(step: Step) -> CStep
     CStep {
         grants,
         turn: step.turn,
-        refusal: answer.number(),
+        refusal: config::answer::number(answer),
     }
 }
 

@@ -1,5 +1,8 @@
 -- A number arrives at a window in its words.
 use mathlib.Core.Path.{◌≡◌, refl, sym, ap, ◌∙◌}
+use Rattle.std.proofs.Common.{None, Result, Ok, Err}
+use Rattle.config.specs.declared.refusal.Refusal.{Refusal}
+use Rattle.window.specs.declared.window.Taken.{Taken}
 use mathlib.Core.Bool.{true, false}
 use mathlib.Core.List.{List}
 use Prim.Native.Nat.{ℕ}
@@ -12,9 +15,6 @@ use Rattle.window.specs.Answers.{accept_answer}
 use Rattle.window.specs.declared.window.ReceiveWindow.{ReceiveWindow}
 use Rattle.window.specs.declared.window.Class.{Class}
 use Rattle.window.specs.declared.window.Class.TheVariants.{New, Late, Duplicate}
-use Rattle.window.specs.declared.window.Span.TheVariants.{Nothing}
-use Rattle.window.specs.declared.window.Acceptance.{Acceptance}
-use Rattle.window.specs.declared.window.Acceptance.TheVariants.{Heard, Refused}
 use Rattle.c_answers.specs.Answers.{acceptance_of}
 use Rattle.c_answers.specs.declared.answers.CDelivery.{CDelivery}
 use Rattle.c_words.proofs.Runs.{run_all}
@@ -29,7 +29,7 @@ module _ (w : ReceiveWindow) (seq : ℕ) where
   unfolding accept_answer
   accepted_valid v = rw v
 
-  refused : valid_of w ≡ false → ◌≡◌ {A = Acceptance × List ℕ} (Refused InvalidState, window_words w) (accepted_as (accept_answer w seq))
+  refused : valid_of w ≡ false → ◌≡◌ {A = Result Taken Refusal × List ℕ} (Err InvalidState, window_words w) (accepted_as (accept_answer w seq))
   unfolding accept_answer
   refused v = rw v
 
@@ -43,17 +43,17 @@ module _ (w : ReceiveWindow) (seq : ℕ) where
   duplicate e = duplicate_by (class_of w seq) e
 
 module _ (ws : List ℕ) (w : ReceiveWindow) (seq : ℕ) (l : length ws ≡ 4) (e : window_at ws ≡ w) where
-  pub accepted_refused : valid_of w ≡ false → ◌≡◌ {A = Acceptance × List ℕ} (Refused InvalidState, ws) (accepted_as (accept_answer w seq))
-  accepted_refused v = ap (λ (x : List ℕ). (Refused InvalidState, x)) (words_stay ws w l e) ∙ refused w seq v
+  pub accepted_refused : valid_of w ≡ false → ◌≡◌ {A = Result Taken Refusal × List ℕ} (Err InvalidState, ws) (accepted_as (accept_answer w seq))
+  accepted_refused v = ap (λ (x : List ℕ). (Err InvalidState, x)) (words_stay ws w l e) ∙ refused w seq v
 
-  pub duplicate_stays : is_duplicate (class_of w seq) ≡ true → ◌≡◌ {A = Acceptance × List ℕ} (Heard Duplicate Nothing, ws) (taken_into (accept_of w seq))
-  duplicate_stays d = ap (λ (x : List ℕ). (Heard Duplicate Nothing, x)) (words_stay ws w l e) ∙ ap taken_into (sym (duplicate w seq d))
+  pub duplicate_stays : is_duplicate (class_of w seq) ≡ true → ◌≡◌ {A = Result Taken Refusal × List ℕ} (Ok record { class = Duplicate; lost = None }, ws) (taken_into (accept_of w seq))
+  duplicate_stays d = ap (λ (x : List ℕ). (Ok record { class = Duplicate; lost = None }, x)) (words_stay ws w l e) ∙ ap taken_into (sym (duplicate w seq d))
 
 -- ---- the C function's answer
-pub accepted_out : (ws : List ℕ) (w : ReceiveWindow) (seq : ℕ) (a : Acceptance) (after : List ℕ) (r : CDelivery) → w ≡ window_at ws
+pub accepted_out : (ws : List ℕ) (w : ReceiveWindow) (seq : ℕ) (a : Result Taken Refusal) (after : List ℕ) (r : CDelivery) → w ≡ window_at ws
     → (a, after) ≡ accepted_as (accept_answer w seq) → r ≡ acceptance_of a
     → let e = accept_answer (window_at ws) seq in ◌≡◌ {A = CDelivery × List ℕ} (r, after) (acceptance_of e.answer, window_words e.window)
 accepted_out ws w seq a after r ew ea er =
     ap (λ (x : CDelivery). (x, after)) er
-    ∙ ap (λ (x : Acceptance × List ℕ). (acceptance_of x.0, x.1)) ea
+    ∙ ap (λ (x : Result Taken Refusal × List ℕ). (acceptance_of x.0, x.1)) ea
     ∙ ap (λ (x : ReceiveWindow). let e = accept_answer x seq in (acceptance_of e.answer, window_words e.window)) ew

@@ -1,5 +1,9 @@
 -- A refused call hands back what it was given.
 use mathlib.Core.Path.{◌≡◌, refl, sym}
+use Rattle.std.proofs.Common.{Result}
+use Rattle.config.specs.declared.refusal.Refusal.{Refusal}
+use Rattle.window.specs.declared.window.Taken.{Taken}
+use Rattle.window.specs.declared.window.WindowAnswer.{WindowAnswer}
 use mathlib.Core.Bool.{true}
 use mathlib.Core.List.{List}
 use Prim.Native.Nat.{ℕ}
@@ -8,8 +12,6 @@ use Rattle.window.specs.Set.{max_window}
 use Rattle.window.specs.Window.{valid_of as window_valid}
 use Rattle.window.specs.Answers.{start_answer, accept_answer}
 use Rattle.window.specs.declared.window.ReceiveWindow.{ReceiveWindow}
-use Rattle.window.specs.declared.window.Started.{Started}
-use Rattle.window.specs.declared.window.Accepted.{Accepted}
 use Rattle.c_answers.specs.Answers.{acceptance_of}
 use Rattle.c_answers.specs.declared.answers.CDelivery.{CDelivery}
 use Rattle.c_words.proofs.Runs.{run_all}
@@ -18,8 +20,8 @@ use Rattle.c_window.specs.Window.{window_fits, window_at, window_words, started_
 use Rattle.c_window.proofs.Windows.{window_known}
 
 module _ (w : List ℕ) where
-  abbrev AcceptedKept : Accepted → Type 0
-  AcceptedKept = Kept (λ (e : Accepted). (acceptance_of e.answer).refusal) (λ (e : Accepted). window_words e.window ≡ w)
+  abbrev AcceptedKept : WindowAnswer Taken → Type 0
+  AcceptedKept = Kept (λ (e : WindowAnswer Taken). (acceptance_of e.answer).refusal) (λ (e : WindowAnswer Taken). window_words e.window ≡ w)
 
   window_same : window_fits w ≡ true → window_words (window_at w) ≡ w
   window_same e = run_all w 4 (sym (window_known w e).whole)
@@ -32,10 +34,10 @@ module _ (w : List ℕ) where
   pub start_keeps : (size highest : ℕ) → KeptOne itself w (start_export w size highest)
   unfolding start_export start_answer
   start_keeps size highest =
-      call_keeps _ _ (λ (e : Started). started_into e w) _ (start_answer size highest) (λ n. refl) (λ _ _. by_test (outside 1 max_window size) _ _ (λ _. as_was refl) (done refl))
+      call_keeps _ _ (λ (e : Result ReceiveWindow Refusal). started_into e w) _ (start_answer size highest) (λ n. refl) (λ _ _. by_test (outside 1 max_window size) _ _ (λ _. as_was refl) (done refl))
 
   pub accept_keeps : (seq : ℕ) → KeptOne (λ (a : CDelivery). a.refusal) w (accept_export w seq)
   unfolding accept_export
   accept_keeps seq =
-      call_keeps _ _ (λ (e : Accepted). (acceptance_of e.answer, window_words e.window)) _ (accept_answer (window_at w) seq) (λ n. refl)
+      call_keeps _ _ (λ (e : WindowAnswer Taken). (acceptance_of e.answer, window_words e.window)) _ (accept_answer (window_at w) seq) (λ n. refl)
       (λ _ fit. accepted_kept (window_at w) (window_same fit) seq)

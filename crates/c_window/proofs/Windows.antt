@@ -1,5 +1,6 @@
 -- The words of a window.
 use mathlib.Core.Path.{◌≡◌}
+use Rattle.std.proofs.Common.{Result, Ok, Err}
 use mathlib.Core.Bool.{true, false}
 use mathlib.Core.List.{List}
 use Prim.Native.Nat.{ℕ, ◌≤◌, ◌<◌}
@@ -11,8 +12,6 @@ use Rattle.config.specs.Refusals.{number_of}
 use Rattle.config.specs.declared.refusal.Refusal.{Refusal}
 use Rattle.window.specs.Set.{max_window}
 use Rattle.window.specs.declared.window.ReceiveWindow.{ReceiveWindow}
-use Rattle.window.specs.declared.window.Started.{Started}
-use Rattle.window.specs.declared.window.Started.TheVariants.{Window, Refused}
 use Rattle.c_words.specs.Limits.{within}
 use Rattle.c_words.proofs.Within.{and_true, not_as_many, too_large, as_many, small_at}
 use Rattle.c_window.specs.Window.{window_limits, window_fits, Narrow, window_words, started_into}
@@ -41,10 +40,10 @@ module _ (ws : List ℕ) where
       record { whole = as_many ws 4 window_limits e; size = s 0 (omega arith); highest = s 1 (omega arith) }
 
 -- ---- a start, done or refused: what it stores
-pub started_window : (a : Started) (ws : List ℕ) (w : ReceiveWindow) → a ≡ Window w → (ws' : List ℕ) → ws' ≡ window_words w
+pub started_window : (a : Result ReceiveWindow Refusal) (ws : List ℕ) (w : ReceiveWindow) → a ≡ Ok w → (ws' : List ℕ) → ws' ≡ window_words w
     → ◌≡◌ {A = ℕ × List ℕ} (0, ws') (started_into a ws)
 started_window a ws w e ws' h = rw (e, h)
 
-pub started_refused : (a : Started) (ws : List ℕ) (why : Refusal) → a ≡ Refused why → (r : ℕ) → r ≡ number_of why
+pub started_refused : (a : Result ReceiveWindow Refusal) (ws : List ℕ) (why : Refusal) → a ≡ Err why → (r : ℕ) → r ≡ number_of why
     → ◌≡◌ {A = ℕ × List ℕ} (r, ws) (started_into a ws)
 started_refused a ws why e r n = rw (e, n)

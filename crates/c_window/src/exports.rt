@@ -15,7 +15,7 @@ use c_words::lent::{put, renew};
 use config::refusal::Refusal;
 use config::sequence::SeqNum;
 use window::set::Bits;
-use window::window::{Acceptance, Arrival, Class, ReceiveWindow, Span, Started};
+use window::window::{Arrival, Class, ReceiveWindow, Taken};
 
 // The largest size of a window.
 const LARGEST: u64 = 128;
@@ -86,16 +86,16 @@ fn renewed(window: ReceiveWindow, words: &mut [u64])
 }
 
 // Stores a window that was started.
-fn start(w: &mut [u64], started: Started) -> u8
+fn start(w: &mut [u64], started: Result<ReceiveWindow, Refusal>) -> u8
     requires { length w.old ≡ 4 }
     ensures { (result, w.new) ≡ started_into started w.old }
 {
     match started {
-        Started::Window(window) => {
+        Ok(window) => {
             store(window, w);
             0
         }
-        Started::Refused(why) => why.number(),
+        Err(why) => why.number(),
     }
 }
 
@@ -112,7 +112,7 @@ pub extern "C" fn sirmjold_window_starting_at(w: &mut [u64], size: u32, highest:
 }
 
 // Stores the window that has taken a number.
-fn take(taken: Arrival, w: &mut [u64]) -> Acceptance
+fn take(taken: Arrival, w: &mut [u64]) -> Result<Taken, Refusal>
     requires { length w.old ≡ 4 }
     ensures { (result, w.new) ≡ taken_into taken }
 {
@@ -120,11 +120,11 @@ fn take(taken: Arrival, w: &mut [u64]) -> Acceptance
     let class = taken.class;
     let lost = taken.lost;
     renewed(window, w);
-    Acceptance::Heard { class, lost }
+    Ok(Taken { class, lost })
 }
 
 // A number ahead arrives.
-fn take_ahead(before: ReceiveWindow, seq: SeqNum, w: &mut [u64]) -> Acceptance
+fn take_ahead(before: ReceiveWindow, seq: SeqNum, w: &mut [u64]) -> Result<Taken, Refusal>
     requires { (length w.old ≡ 4) × Valid before × (within 1 reach (ahead before.highest seq) ≡ true) }
     ensures { (result, w.new) ≡ taken_into (accept_of before seq) }
 {
@@ -152,21 +152,21 @@ fn is_duplicate(class: Class) -> bool
 }
 
 // A number that is not ahead arrives: a duplicate changes nothing, and nothing is stored.
-fn take_behind(before: ReceiveWindow, seq: SeqNum, w: &mut [u64]) -> Acceptance
+fn take_behind(before: ReceiveWindow, seq: SeqNum, w: &mut [u64]) -> Result<Taken, Refusal>
     requires { (length w.old ≡ 4) × (window_at w.old ≡ before) × Valid before × (within 1 reach (ahead before.highest seq) ≡ false) }
     ensures { (result, w.new) ≡ taken_into (accept_of before seq) }
 {
     if is_duplicate(window::arrival::classify(before, seq)) {
-        return Acceptance::Heard {
+        return Ok(Taken {
             class: Class::Duplicate,
-            lost: Span::Nothing,
-        };
+            lost: None,
+        });
     }
     take(window::arrival::accept_behind(before, seq), w)
 }
 
 // A number arrives at a window: it is processed now, unless it is a duplicate.
-fn accept(before: ReceiveWindow, seq: SeqNum, w: &mut [u64]) -> Acceptance
+fn accept(before: ReceiveWindow, seq: SeqNum, w: &mut [u64]) -> Result<Taken, Refusal>
     requires { (length w.old ≡ 4) × (window_at w.old ≡ before) }
     ensures { (result, w.new) ≡ accepted_as (accept_answer before seq) }
 {
@@ -179,7 +179,7 @@ fn accept(before: ReceiveWindow, seq: SeqNum, w: &mut [u64]) -> Acceptance
         }
         return take_behind(before, seq, w);
     }
-    Acceptance::Refused(Refusal::InvalidState)
+    Err(Refusal::InvalidState)
 }
 
 // A number arrives.

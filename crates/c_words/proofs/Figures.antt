@@ -1,5 +1,7 @@
 -- The test of eight words, by its tests.
 use mathlib.Core.Path.{◌≡◌, refl, sym, ◌∙◌}
+use Rattle.std.proofs.Common.{Result, Ok, Err}
+use Rattle.std.specs.Bool.{⊤}
 use mathlib.Core.Bool.{Bool, true, false, cond}
 use mathlib.Core.List.{List}
 use Prim.Native.Nat.{ℕ, ◌≤◌, ◌<◌}
@@ -14,8 +16,6 @@ use Rattle.config.specs.Refusals.{number_of, outcome_number}
 use Rattle.config.specs.Settings.{check_of}
 use Rattle.config.specs.declared.refusal.Refusal.{Refusal}
 use Rattle.config.specs.declared.refusal.Refusal.TheVariants.{IdleInterval, IdleGrowth, CommandWords}
-use Rattle.config.specs.declared.answer.Outcome.{Outcome}
-use Rattle.config.specs.declared.answer.Outcome.TheVariants.{Done, Refused}
 use Rattle.config.specs.declared.settings.StreamConfig.{StreamConfig}
 use Rattle.config.specs.inner.Entries.{state_any, entry_any}
 use Rattle.c_words.specs.Limits.{within}
@@ -38,8 +38,8 @@ own_test s = refl
 
 -- none of its refusals has the number 0
 none_refused : (eight size interval growth narrow : Bool)
-    → let k = on_state eight Refused (entry (cond size (Refused CommandWords) (cond interval (Refused IdleInterval) (cond growth (Refused IdleGrowth) Done))) narrow Refused Done) in
-    outcome_number k ≡ 0 → k ≡ Done
+    → let k = on_state eight Err (entry (cond size (Err CommandWords) (cond interval (Err IdleInterval) (cond growth (Err IdleGrowth) (Ok tt)))) narrow Err (Ok tt)) in
+    outcome_number k ≡ 0 → k ≡ Ok tt
 none_refused false size interval growth narrow e = absurd (let z : ⊥ = omega arith in z)
 none_refused true true interval growth narrow e = absurd (let z : ⊥ = omega arith in z)
 none_refused true false true growth narrow e = absurd (let z : ⊥ = omega arith in z)
@@ -48,7 +48,7 @@ none_refused true false false false false e = absurd (let z : ⊥ = omega arith 
 none_refused true false false false true e = refl
 
 -- the number n of settings that pass
-pub passed : (ws : List ℕ) {n : ℕ} → n ≡ outcome_number (settings_check ws) → n ≡ 0 → settings_check ws ≡ Done
+pub passed : (ws : List ℕ) {n : ℕ} → n ≡ outcome_number (settings_check ws) → n ≡ 0 → settings_check ws ≡ Ok tt
 unfolding settings_check check_of
 passed ws s z =
     let c = settings_of ws in
@@ -93,29 +93,29 @@ module _ (ws : List ℕ) where
   not_eight h = rw (ne_eqb (length ws) 8 h)
 
   module _ (l : length ws ≡ 8) where
-    pub own_refused : (why : Refusal) → Refused why ≡ check_of (settings_of ws) → number_of why ≡ outcome_number (settings_check ws)
+    pub own_refused : (why : Refusal) → Err why ≡ check_of (settings_of ws) → number_of why ≡ outcome_number (settings_check ws)
     unfolding settings_check
     own_refused why e = rw (eq-eqb (length ws) 8 l, ← e)
 
-    pub own_passed : Done ≡ check_of (settings_of ws) → outcome_number (on_state (within settings_limits ws) Refused Done) ≡ outcome_number (settings_check ws)
+    pub own_passed : Ok tt ≡ check_of (settings_of ws) → outcome_number (on_state (within settings_limits ws) Err (Ok tt)) ≡ outcome_number (settings_check ws)
     unfolding settings_check
     own_passed e = rw (eq-eqb (length ws) 8 l, ← e)
 
   -- what settings that pass are
-  are : settings_check ws ≡ Done → (eqb (length ws) 8 ≡ true) × (check_of (settings_of ws) ≡ Done) × (within settings_limits ws ≡ true)
+  are : settings_check ws ≡ Ok tt → (eqb (length ws) 8 ≡ true) × (check_of (settings_of ws) ≡ Ok tt) × (within settings_limits ws ≡ true)
   unfolding settings_check
-  are = state_any P Refused _ denied (eqb (length ws) 8) (λ l. entry_any P Refused Done denied (check_of (settings_of ws)) (within settings_limits ws) (λ c w _. (l, c, w)))
+  are = state_any P Err _ denied (eqb (length ws) 8) (λ l. entry_any P Err (Ok tt) denied (check_of (settings_of ws)) (within settings_limits ws) (λ c w _. (l, c, w)))
     where
-      P : Outcome → Type 0
-      P k = k ≡ Done → (eqb (length ws) 8 ≡ true) × (check_of (settings_of ws) ≡ Done) × (within settings_limits ws ≡ true)
+      P : Result ⊤ Refusal → Type 0
+      P k = k ≡ Ok tt → (eqb (length ws) 8 ≡ true) × (check_of (settings_of ws) ≡ Ok tt) × (within settings_limits ws ≡ true)
 
-      denied : (why : Refusal) → P (Refused why)
+      denied : (why : Refusal) → P (Err why)
       denied why e = absurd (let z : ◌≡◌ {A = ℕ} 0 1 = cc in omega arith)
 
-  pub figures_small : settings_check ws ≡ Done → Small ws
+  pub figures_small : settings_check ws ≡ Ok tt → Small ws
   figures_small e =
       let s = within_at settings_limits ws (are e).2 in
       record { whole = eqb-true (length ws) 8 (are e).0; further = s 0 (omega arith); repeats = s 1 (omega arith); requests = s 3 (omega arith) }
 
-  pub settings_passed : settings_check ws ≡ Done → check_of (settings_of ws) ≡ Done
+  pub settings_passed : settings_check ws ≡ Ok tt → check_of (settings_of ws) ≡ Ok tt
   settings_passed e = (are e).1

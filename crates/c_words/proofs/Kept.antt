@@ -1,13 +1,13 @@
 -- A call that is refused hands back what it was given.
 use mathlib.Core.Path.{◌≡◌, sym}
+use Rattle.std.proofs.Common.{Result, Ok}
+use Rattle.std.specs.Bool.{⊤}
 use mathlib.Core.Bool.{Bool, true, cond}
 use mathlib.Core.List.{List}
 use Prim.Native.Nat.{ℕ}
 use lib.ListN.{length}
 use borrow.Author.Tests.{eqb-true}
 use Rattle.config.specs.Entry.{entry}
-use Rattle.config.specs.declared.answer.Outcome.{Outcome}
-use Rattle.config.specs.declared.answer.Outcome.TheVariants.{Done}
 use Rattle.config.specs.declared.refusal.Refusal.{Refusal}
 use Rattle.config.specs.inner.Choices.{by_cond}
 use Rattle.config.specs.inner.Entries.{entry_any}
@@ -42,14 +42,14 @@ module _ {A : Type 0} {number : A → ℕ} {Same : A → Type 0} where
   by_test t x y f g = by_cond (Kept number Same) t x y f (λ _. g)
 
   -- a call of the library, refused by a test or made; one that is given no settings has `Done` in their place
-  pub by_entry : (checked : Outcome) (valid : Bool) (deny : Refusal → A) (go : A) → ((why : Refusal) → Same (deny why)) → Kept number Same go
+  pub by_entry : (checked : Result ⊤ Refusal) (valid : Bool) (deny : Refusal → A) (go : A) → ((why : Refusal) → Same (deny why)) → Kept number Same go
       → Kept number Same (entry checked valid deny go)
   by_entry checked valid deny go s g = entry_any (Kept number Same) deny go (λ why. as_was (s why)) checked valid (λ _ _. g)
 
 -- ---- a call of a C function: what a test refuses hands back what it was given, and of one that is made it holds by what the library's call leaves
 module _ {A E : Type 0} (number : A → ℕ) (Same : A → Type 0) (into : E → A) where
-  pub call_keeps : {checked : Outcome} {fit : Bool} (deny : ℕ → A) (e : E) → ((n : ℕ) → Same (deny n))
-      → (checked ≡ Done → fit ≡ true → Kept (λ (x : E). number (into x)) (λ (x : E). Same (into x)) e) → Kept number Same (words_entry checked fit deny (into e))
+  pub call_keeps : {checked : Result ⊤ Refusal} {fit : Bool} (deny : ℕ → A) (e : E) → ((n : ℕ) → Same (deny n))
+      → (checked ≡ Ok tt → fit ≡ true → Kept (λ (x : E). number (into x)) (λ (x : E). Same (into x)) e) → Kept number Same (words_entry checked fit deny (into e))
   call_keeps deny e s f = call_any (Kept number Same) deny (into e) (λ n. as_was (s n)) (λ c t. record { kept = (f c t).kept })
 
 -- ---- a payload that is stored as it was loaded

@@ -1,9 +1,8 @@
 -- 01, "Numbers of each operation", Start: the settings as eight words, T1 G K R X D M SIZE.
-use Rattle.std.specs.Prelude.{◌≡◌, ℕ, ◌≤◌, List, [], ◌∷◌, length, get_or, eqb}
+use Rattle.std.specs.Prelude.{◌≡◌, ℕ, ◌≤◌, List, [], ◌∷◌, length, get_or, eqb, Result, Ok, Err, ⊤}
+use Rattle.config.specs.declared.refusal.Refusal.{Refusal}
 use Rattle.config.specs.Entry.{on_state, entry}
 use Rattle.config.specs.Settings.{check_of}
-use Rattle.config.specs.declared.answer.Outcome.{Outcome}
-use Rattle.config.specs.declared.answer.Outcome.TheVariants.{Done, Refused}
 use Rattle.config.specs.declared.settings.StreamConfig.{StreamConfig}
 use Rattle.c_words.specs.Limits.{within}
 
@@ -28,8 +27,8 @@ abbrev pub settings_limits : List (ℕ × ℕ)
 settings_limits = (2, 255) ∷ (3, 255) ∷ (4, 1) ∷ (6, 255) ∷ []
 
 -- 13 where the words are not eight, then the settings' own 9, 7, 8, then 13 where a word is too wide
-unfoldable pub settings_check : List ℕ → Outcome
-settings_check ws = on_state (eqb (length ws) 8) Refused (entry (check_of (settings_of ws)) (within settings_limits ws) Refused Done)
+unfoldable pub settings_check : List ℕ → Result ⊤ Refusal
+settings_check ws = on_state (eqb (length ws) 8) Err (entry (check_of (settings_of ws)) (within settings_limits ws) Err (Ok tt))
 
 -- words that are settings
 pub record Small (ws : List ℕ) : Type 0 where

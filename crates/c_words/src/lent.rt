@@ -7,11 +7,7 @@ pub fn put(from: &[u64], to: &mut [u64], at: usize)
     requires { at + length from.now ≤ length to.old }
     ensures { to.new ≡ spliced to.old at from.now }
 {
-    let mut k = 0;
-    while k < from.len() {
-        to[at + k] = from[k];
-        k += 1;
-    }
+    to[at..at + from.len()].copy_from_slice(from);
 }
 
 // Whether the words stand from the place `at` on.
@@ -19,14 +15,7 @@ fn stand(from: &[u64], to: &[u64], at: usize) -> bool
     requires { at + length from.now ≤ length to.now }
     ensures { result ≡ true → to.now ≡ spliced to.now at from.now }
 {
-    let mut k = 0;
-    while k < from.len() {
-        if to[at + k] != from[k] {
-            return false;
-        }
-        k += 1;
-    }
-    true
+    &to[at..at + from.len()] == from
 }
 
 // Stores words from the place `at` on, unless they stand there: then nothing is stored.
@@ -34,8 +23,7 @@ pub fn renew(from: &[u64], to: &mut [u64], at: usize)
     requires { at + length from.now ≤ length to.old }
     ensures { to.new ≡ spliced to.old at from.now }
 {
-    if stand(from, &to[..], at) {
-        return;
+    if !stand(from, &to[..], at) {
+        put(from, to, at);
     }
-    put(from, to, at);
 }

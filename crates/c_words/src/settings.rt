@@ -5,16 +5,15 @@ ghost use Rattle.std.specs.Prelude.{◌≡◌, length};
 ghost use Rattle.config.specs.Entry.{on_state};
 ghost use Rattle.config.specs.Refusals.{outcome_number};
 ghost use Rattle.config.specs.Settings.{check_of};
-ghost use Rattle.config.specs.declared.answer.Outcome.TheVariants.{Done, Refused};
 ghost use Rattle.c_words.specs.Limits.{within};
 ghost use Rattle.c_words.specs.Settings.{Small, settings_limits, settings_check, settings_of};
 
 use super::guard;
-use config::answer::Outcome;
+use config::refusal::Refusal;
 use config::settings::StreamConfig;
 
 // The settings' own test, which looks at SIZE, T1 and G alone.
-fn check(words: &[u32]) -> Outcome
+fn check(words: &[u32]) -> Result<(), Refusal>
     requires { length words.now ≡ 8 }
     ensures { result ≡ check_of (settings_of words.now) }
 {
@@ -44,7 +43,7 @@ fn narrow(words: &[u32]) -> bool
 
 // 13 for words that are too wide.
 fn fit(fits: bool) -> u8
-    ensures { result ≡ outcome_number (on_state fits Refused Done) }
+    ensures { result ≡ outcome_number (on_state fits Err (Ok tt)) }
 {
     if fits {
         return 0;
@@ -61,8 +60,8 @@ pub fn number(words: &[u32]) -> u8
         return guard::INVALID_STATE;
     }
     match check(words) {
-        Outcome::Refused(why) => why.number(),
-        Outcome::Done => fit(narrow(words)),
+        Err(why) => why.number(),
+        Ok(()) => fit(narrow(words)),
     }
 }
 

@@ -1,5 +1,6 @@
 -- The table is computed from the definitions; the far loss of P7 and every window of P8 come from laws.
 use Prim.Native.Nat.{ℕ, ◌+◌, ◌≤◌}
+use Rattle.std.proofs.Common.{None, Ok, Option, Result}
 use mathlib.Core.Bool.{true}
 use mathlib.Core.Path.{◌≡◌, refl, sym, ap}
 use native.Mathlib.Omega.{arith}
@@ -18,11 +19,10 @@ use Rattle.window.specs.Answers.{new_answer, start_answer, accept_answer, extend
 use Rattle.window.specs.Arrival.{class_of, moved_of, lost_of, new_of, accept_of}
 use Rattle.window.specs.Set.{val, set_of, top_in, top_of, bottom_of}
 use Rattle.window.specs.Window.{valid_of, fresh, processed, missing_of, span_of, request_of}
-use Rattle.window.specs.declared.window.Acceptance.TheVariants.{Heard}
 use Rattle.window.specs.declared.window.Class.TheVariants.{New, Duplicate}
+use Rattle.window.specs.declared.window.Taken.{Taken}
+use Rattle.config.specs.declared.refusal.Refusal.{Refusal}
 use Rattle.window.specs.declared.window.SeqRange.{SeqRange}
-use Rattle.window.specs.declared.window.Span.TheVariants.{Nothing}
-use Rattle.window.specs.declared.window.Started.TheVariants.{Window}
 use Rattle.history.specs.Ring.{slot_of, ring_stored, ring_read}
 use Rattle.history.specs.Headers.{header_at, words_from, numbered}
 use Rattle.history.specs.State.{state_ok, walk_ok}
@@ -64,12 +64,15 @@ lost_far =
     all : SeqRange
     all = record { first = 0; count = 32702 }
 
-far : (accept_answer (fresh 64) 0x7FFE).answer ≡ Heard (New 32766) (range 0 32702)
+abbrev heard_far : Option SeqRange → Result Taken Refusal
+heard_far lost = Ok record { class = New 32766; lost = lost }
+
+far : (accept_answer (fresh 64) 0x7FFE).answer ≡ Ok record { class = New 32766; lost = range 0 32702 }
 unfolding accept_answer valid_of accept_of class_of new_of missing_of val set_of
-far = ap (Heard (New 32766)) lost_far
+far = ap heard_far lost_far
 
 module _ (W : ℕ) (l : 1 ≤ W) (m : W ≤ 128) where
-  starts : new_answer W ≡ Window (fresh W)
+  starts : new_answer W ≡ Ok (fresh W)
   unfolding start_answer
   starts = rw (le-leb _ _ l, le-leb _ _ m)
 
@@ -82,7 +85,7 @@ module _ (W : ℕ) (l : 1 ≤ W) (m : W ≤ 128) where
   unfolding valid_of
   valid = rw (le-leb _ _ l, le-leb _ _ m, lt-ltb _ _ (valid_fresh W 65535 l m).inside)
 
-  far_behind : (accept_answer (fresh W) 0x7FFF).answer ≡ Heard Duplicate Nothing
+  far_behind : (accept_answer (fresh W) 0x7FFF).answer ≡ Ok record { class = Duplicate; lost = None }
   unfolding accept_answer accept_of
   far_behind = rw (valid, beyond)
 

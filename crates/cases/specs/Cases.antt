@@ -1,11 +1,16 @@
 -- 01, "Session cases": those marked P, as one table of the definitions; "State test": payloads and histories that no call leaves; "Numbers of each operation": words that no command has (4), a reason that isn't defined (11), a stream's answers as numbers;
 -- reading at a payload's end, messages by their types, places of a ring past its end, what a stream hears and asks for, how a stream and a window lie in words.
-use Rattle.std.specs.Prelude.{ℕ, zero, suc, ◌+◌, ◌≤◌, true, false, List, [], ◌∷◌, ◌++◌, ◌≡◌, take, replicate, set, get_or}
+use Rattle.std.specs.Prelude.{ℕ, zero, suc, ◌+◌, ◌≤◌, true, false, List, [], ◌∷◌, ◌++◌, ◌≡◌, take, replicate, set, get_or, Option, Some, None, Result, Ok, Err, ⊤}
+use Rattle.config.specs.declared.refusal.Refusal.{Refusal}
+use Rattle.idle.specs.declared.idle.Idle.{Idle}
+use Rattle.receiver.specs.declared.receiver.Delivery.{Delivery}
+use Rattle.sender.specs.declared.sender.SenderAnswer.{SenderAnswer}
+use Rattle.stream.specs.declared.stream.StreamAnswer.{StreamAnswer}
+use Rattle.window.specs.declared.window.SeqRange.{SeqRange}
+use Rattle.writing.specs.declared.writing.Written.{Written}
 use Rattle.config.specs.Settings.{defaults}
 use Rattle.config.specs.Refusals.{number_of}
 use Rattle.config.specs.declared.refusal.Refusal.TheVariants.{TooLarge, InvalidValue, ReasonNotAllowed, InvalidState, InvalidRecord, DivisionsNotAllowed}
-use Rattle.config.specs.declared.answer.Answered.TheVariants.{Is}
-use Rattle.config.specs.declared.answer.Deadline.TheVariants.{At}
 use Rattle.packet.specs.Bytes.{bytes_of, words_of}
 use Rattle.packet.specs.Layout.{packet}
 use Rattle.packet.specs.Read.{header, next_of}
@@ -13,42 +18,27 @@ use Rattle.packet.specs.declared.cursor.PacketItem.TheVariants.{Command, Truncat
 use Rattle.packet.specs.Write.{refused_of, written_of}
 use Rattle.packet.specs.declared.writer.PayloadWriter.{PayloadWriter}
 use Rattle.packet.specs.declared.writer.Wrote.{Wrote as PayloadWrote}
-use Rattle.config.specs.declared.answer.Outcome.{Outcome}
-use Rattle.config.specs.declared.answer.Outcome.TheVariants.{Done, Refused}
 use Rattle.command.specs.Write.{request_packet, error_written}
 use Rattle.command.specs.Messages.{messages_of, walked}
 use Rattle.window.specs.Answers.{new_answer, accept_answer, missing_answer, request_answer}
 use Rattle.window.specs.Window.{fresh}
-use Rattle.window.specs.declared.window.Acceptance.TheVariants.{Heard}
 use Rattle.window.specs.declared.window.Class.{Class}
 use Rattle.window.specs.declared.window.Class.TheVariants.{New, Late, Duplicate}
-use Rattle.window.specs.declared.window.Extent.TheVariants.{Numbers}
 use Rattle.window.specs.declared.window.ReceiveWindow.{ReceiveWindow}
-use Rattle.window.specs.declared.window.Span.{Span}
-use Rattle.window.specs.declared.window.Span.TheVariants.{Nothing, Of}
-use Rattle.window.specs.declared.window.Started.TheVariants.{Window}
 use Rattle.history.specs.Ring.{slot_of, ring_stored, ring_read}
-use Rattle.idle.specs.declared.idle.IdleTimer.{IdleTimer}
-use Rattle.idle.specs.declared.idle.IdleTimer.TheVariants.{Off, Waiting}
 use Rattle.sender.specs.State.{fresh as fresh_sender}
 use Rattle.sender.specs.Answers.{send_answer}
 use Rattle.writing.specs.Answers.{write_answer}
 use Rattle.sender.specs.declared.sender.Sender.{Sender}
-use Rattle.sender.specs.declared.sender.Sent.{Sent}
 use Rattle.writing.specs.declared.writing.Wrote.{Wrote}
-use Rattle.writing.specs.declared.writing.Writing.{Writing}
-use Rattle.writing.specs.declared.writing.Writing.TheVariants.{Written, Refused as NotWritten}
 use Rattle.receiver.specs.Answers.{data_answer as receiver_data}
 use Rattle.receiver.specs.declared.receiver.Request.TheVariants.{More}
-use Rattle.receiver.specs.declared.receiver.Hearing.{Hearing}
-use Rattle.receiver.specs.declared.receiver.Hearing.TheVariants.{Delivery}
 use Rattle.stream.specs.State.{unstarted, fresh as fresh_stream}
 use Rattle.stream.specs.Ends.{data_answer, poll_answer}
 use Rattle.stream.specs.Answers.{wants_answer}
 use Rattle.stream.specs.Writing.{write_answer as stream_write}
 use Rattle.stream.specs.Sending.{send_and_write_answer}
 use Rattle.stream.specs.declared.stream.DataStream.{DataStream}
-use Rattle.stream.specs.declared.stream.Heard.{Heard as StreamHeard}
 use Rattle.stream.specs.declared.stream.Wrote.{Wrote as StreamWrote}
 use Rattle.stream.specs.declared.sending.SendAndWrite.{SendAndWrite}
 use Rattle.stream.specs.declared.sending.SendAndWrite.TheVariants.{Queued}
@@ -66,8 +56,8 @@ abbrev pub next : ReceiveWindow → ℕ → ReceiveWindow
 next w seq = (accept_answer w seq).window
 
 -- first and count
-abbrev pub range : ℕ → ℕ → Span
-range first count = Of record { first = first; count = count }
+abbrev pub range : ℕ → ℕ → Option SeqRange
+range first count = Some record { first = first; count = count }
 
 -- ---- payloads
 abbrev pub empty : ℕ → PayloadWriter
@@ -75,14 +65,14 @@ empty max = record { len = 0; max = max }
 
 -- ---- the sender: 01 names no sizes for its cases; here a history of 65 words and a request queue of 4
 -- the first word, queued, and written at 1000
-abbrev pub queued : Sent × List ℕ
+abbrev pub queued : SenderAnswer ⊤ × List ℕ
 queued = send_answer (fresh_sender 65 4) defaults (replicate 65 0) (0x20903C40 ∷ [])
 
 abbrev pub first : Wrote × List ℕ × List ℕ
 first = write_answer queued.0.sender defaults 1000 (empty 1400) (replicate 1400 0) queued.1
 
 -- the second word, queued, and written at 1050
-abbrev pub again : Sent × List ℕ
+abbrev pub again : SenderAnswer ⊤ × List ℕ
 again = send_answer first.0.sender defaults first.2 (0x20803C00 ∷ [])
 
 abbrev pub second : ℕ → Wrote × List ℕ × List ℕ
@@ -92,39 +82,39 @@ abbrev pub bytes : Wrote × List ℕ × List ℕ → List ℕ
 bytes w = take w.0.payload.len w.1
 
 -- so many commands, and no more to write
-abbrev pub commands : ℕ → Writing
-commands n = Written record { commands = n; more = false }
+abbrev pub commands : ℕ → Result Written Refusal
+commands n = Ok record { commands = n; more = false }
 
 -- ---- the table
 pub record Table : Type 0 where
   -- fresh is what starting answers
-  pub start : (W : ℕ) → 1 ≤ W → W ≤ 128 → new_answer W ≡ Window (fresh W)
+  pub start : (W : ℕ) → 1 ≤ W → W ≤ 128 → new_answer W ≡ Ok (fresh W)
   -- P1. W 64, fresh, 0: New, gap 0, no loss.
-  pub P1 : (accept_answer (fresh 64) 0).answer ≡ Heard (New 0) Nothing
+  pub P1 : (accept_answer (fresh 64) 0).answer ≡ Ok record { class = New 0; lost = None }
   -- P2. 0 again: Duplicate.
-  pub P2 : (accept_answer (next (fresh 64) 0) 0).answer ≡ Heard Duplicate Nothing
+  pub P2 : (accept_answer (next (fresh 64) 0) 0).answer ≡ Ok record { class = Duplicate; lost = None }
   -- P3. W 4, fresh, 5: gap 5, loss first 0 count 1.
-  pub P3 : (accept_answer (fresh 4) 5).answer ≡ Heard (New 5) (range 0 1)
+  pub P3 : (accept_answer (fresh 4) 5).answer ≡ Ok record { class = New 5; lost = range 0 1 }
   -- P4. W 4, fresh, 4: gap 4, no loss; request 0 count 4.
-  pub P4 : ((accept_answer (fresh 4) 4).answer ≡ Heard (New 4) Nothing) × ((request_answer (next (fresh 4) 4)).answer ≡ Numbers (range 0 4))
+  pub P4 : ((accept_answer (fresh 4) 4).answer ≡ Ok record { class = New 4; lost = None }) × ((request_answer (next (fresh 4) 4)).answer ≡ Ok (range 0 4))
   -- P5. After P4, 2: Late; missing first 0 count 4.
-  pub P5 : ((accept_answer (next (fresh 4) 4) 2).answer ≡ Heard Late Nothing) × ((missing_answer (next (next (fresh 4) 4) 2)).answer ≡ Numbers (range 0 4))
+  pub P5 : ((accept_answer (next (fresh 4) 4) 2).answer ≡ Ok record { class = Late; lost = None }) × ((missing_answer (next (next (fresh 4) 4) 2)).answer ≡ Ok (range 0 4))
   -- P6. Then 6: gap 1, loss first 0 count 2.
-  pub P6 : (accept_answer (next (next (fresh 4) 4) 2) 6).answer ≡ Heard (New 1) (range 0 2)
+  pub P6 : (accept_answer (next (next (fresh 4) 4) 2) 6).answer ≡ Ok record { class = New 1; lost = range 0 2 }
   -- P7. W 64, fresh, 0x7FFE: gap 32,766, loss first 0 count 32,702.
-  pub P7 : (accept_answer (fresh 64) 0x7FFE).answer ≡ Heard (New 32766) (range 0 32702)
+  pub P7 : (accept_answer (fresh 64) 0x7FFE).answer ≡ Ok record { class = New 32766; lost = range 0 32702 }
   -- P8. Fresh, 0x7FFF: Duplicate.
-  pub P8 : (W : ℕ) → 1 ≤ W → W ≤ 128 → (accept_answer (fresh W) 0x7FFF).answer ≡ Heard Duplicate Nothing
+  pub P8 : (W : ℕ) → 1 ≤ W → W ≤ 128 → (accept_answer (fresh W) 0x7FFF).answer ≡ Ok record { class = Duplicate; lost = None }
   -- P9. Request 0x0102 count 3, limit 12: 4D494449 80010102 00030000. Limit 11: 3, nothing written.
   pub P9 : (written_of (empty 12) (replicate 16 0xAA) (request_packet record { seq = 0x0102; count = 3 })
       ≡ (
-        record { payload = record { len = 12; max = 12 }; answer = Done },
+        record { payload = record { len = 12; max = 12 }; answer = Ok tt },
         0x4D ∷ 0x49 ∷ 0x44 ∷ 0x49 ∷ 0x80 ∷ 0x01 ∷ 0x01 ∷ 0x02 ∷ 0x00 ∷ 0x03 ∷ 0x00 ∷ 0x00 ∷ 0xAA ∷ 0xAA ∷ 0xAA ∷ 0xAA ∷ [],
       ))
       × (written_of (empty 11) (replicate 16 0xAA) (request_packet record { seq = 0x0102; count = 3 }) ≡ (refused_of (empty 11) TooLarge, replicate 16 0xAA))
   -- P10. Default settings, fresh, word 20903C40, written at 1000, limit 1,400: 4D494449 FF010000 20903C40, idle due 1100.
   pub P10 : (first.0.answer ≡ commands 1) × (bytes first ≡ bytes_of (0x4D494449 ∷ 0xFF010000 ∷ 0x20903C40 ∷ []))
-      × (first.0.sender.idle ≡ Waiting record { due = 1100; step = 0; interval = 100 })
+      × (first.0.sender.idle ≡ Some record { due = 1100; step = 0; interval = 100 })
   -- P11. Then 20803C00 at 1050, limit 1,400: the same two words after the signature, then FF010001 20803C00; two commands.
   pub P11 : ((second 1400).0.answer ≡ commands 2) × (bytes (second 1400) ≡ bytes_of (0x4D494449 ∷ 0xFF010000 ∷ 0x20903C40 ∷ 0xFF010001 ∷ 0x20803C00 ∷ []))
   -- P12. With limit 16 instead: only the second, 12 bytes.
@@ -152,7 +142,7 @@ abbrev pub wrote : ℕ → PayloadWrote × List ℕ
 wrote n = written_of (empty 1400) (replicate 1400 0) (packet 0x77 1 2 (replicate n 7))
 
 pub record WordsTest : Type 0 where
-  pub most : (wrote 255).0.answer ≡ Done
+  pub most : (wrote 255).0.answer ≡ Ok tt
   pub above : wrote 256 ≡ (refused_of (empty 1400) InvalidValue, replicate 1400 0)
 
 -- ---- reasons of a Retransmit Error: 1 is the last that is defined, 2 is refused with 11, and no byte is written
@@ -160,18 +150,18 @@ abbrev pub wrote_error : ℕ → PayloadWrote × List ℕ
 wrote_error reason = error_written record { reason = reason; seq = 7 } (empty 12) (replicate 12 0)
 
 pub record ReasonsTest : Type 0 where
-  pub last : wrote_error 1 ≡ (record { payload = record { len = 12; max = 12 }; answer = Done }, bytes_of (0x4D494449 ∷ 0x81010100 ∷ 0x00070000 ∷ []))
+  pub last : wrote_error 1 ≡ (record { payload = record { len = 12; max = 12 }; answer = Ok tt }, bytes_of (0x4D494449 ∷ 0x81010100 ∷ 0x00070000 ∷ []))
   pub above : wrote_error 2 ≡ (refused_of (empty 12) ReasonNotAllowed, replicate 12 0)
 
 -- ---- histories that no call leaves: of two commands of one word, number 0 at place 0 and number 1 at place 2, one has another number
 -- what queueing answers where the header at a place is this one
-abbrev pub queued_over : ℕ → ℕ → Outcome
+abbrev pub queued_over : ℕ → ℕ → Result ⊤ Refusal
 queued_over place header = (send_answer again.0.sender defaults (set again.1 place header) (0x20903C40 ∷ [])).0.answer
 
 pub record HistoryTest : Type 0 where
-  pub as_left : (queued_over 0 0x00000001 ≡ Done) × (queued_over 2 0x00010001 ≡ Done)
-  pub oldest : queued_over 0 0x00020001 ≡ Refused InvalidState
-  pub newest : queued_over 2 0x00020001 ≡ Refused InvalidState
+  pub as_left : (queued_over 0 0x00000001 ≡ Ok tt) × (queued_over 2 0x00010001 ≡ Ok tt)
+  pub oldest : queued_over 0 0x00020001 ≡ Err InvalidState
+  pub newest : queued_over 2 0x00020001 ≡ Err InvalidState
 
 -- ---- places of a ring: past its end they go on from its first
 pub record RingTest : Type 0 where
@@ -216,11 +206,11 @@ pub record MessagesTest : Type 0 where
 abbrev pub started : DataStream
 started = fresh_stream 64 65 4
 
-abbrev pub hears : DataStream → StreamHeard
+abbrev pub hears : DataStream → StreamAnswer Delivery
 hears s = data_answer s defaults 1000 0
 
-abbrev pub handed_on : Class → Hearing
-handed_on c = Delivery record { seq = 0; class = c; gap = Nothing; lost = Nothing }
+abbrev pub handed_on : Class → Result Delivery Refusal
+handed_on c = Ok record { seq = 0; class = c; gap = None; lost = None }
 
 abbrev pub sent_into : PayloadWriter → SendAndWrite
 sent_into p = (send_and_write_answer started defaults 1000 (0x20903C40 ∷ []) p (replicate 16 0) (replicate 65 0)).0.answer
@@ -240,7 +230,7 @@ pub record StreamTest : Type 0 where
   pub asked : asks.0.answer ≡ commands 1
   pub request : take 12 asks.1 ≡ bytes_of (0x4D494449 ∷ 0x80010000 ∷ 0x00040000 ∷ [])
   -- a payload that no call leaves is refused with 13 behind queued words too
-  pub behind : sent_into (unmade 10 1400) ≡ Queued (NotWritten InvalidState)
+  pub behind : sent_into (unmade 10 1400) ≡ Queued (Err InvalidState)
 
 -- ---- a stream's answers as numbers: 0 or the refusal's, and words that are queued are told of where the write is refused
 pub record NumbersTest : Type 0 where
@@ -249,10 +239,10 @@ pub record NumbersTest : Type 0 where
   -- of a start that was refused
   pub wants : wants_of (wants_answer unstarted [] 1000) ≡ record { refusal = 13; wants = 0 }
   -- a stream that wants to write, commands that are left, a request that does not fit, a deadline
-  pub yes : wants_of (Is true) ≡ record { refusal = 0; wants = 1 }
-  pub left : written_numbers (Written record { commands = 2; more = true }) ≡ record { commands = 2; refusal = 0; more = 1 }
-  pub asked : request_of More ≡ record { refusal = 0; kind = 2 }
-  pub due : deadline_of (At 1100) ≡ record { time = 1100; refusal = 0; kind = 1 }
+  pub yes : wants_of (Ok true) ≡ record { refusal = 0; wants = 1 }
+  pub left : written_numbers (Ok record { commands = 2; more = true }) ≡ record { commands = 2; refusal = 0; more = 1 }
+  pub asked : request_of (Ok More) ≡ record { refusal = 0; kind = 2 }
+  pub due : deadline_of (Ok (Some 1100)) ≡ record { time = 1100; refusal = 0; kind = 1 }
   -- of the products
   pub products : (number_of InvalidRecord ≡ 17) × (number_of DivisionsNotAllowed ≡ 18)
 
@@ -290,9 +280,9 @@ pub record LayoutTest : Type 0 where
 abbrev pub wrote_at : Sender × List ℕ → ℕ → Sender × List ℕ
 wrote_at s time = let w = write_answer s.0 defaults time (empty 1400) (replicate 40 0) s.1 in (w.0.sender, w.2)
 
-abbrev pub due_in : IdleTimer → ℕ
-due_in Off = 0
-due_in (Waiting i) = i.due
+abbrev pub due_in : Option Idle → ℕ
+due_in None = 0
+due_in (Some i) = i.due
 
 unfoldable pub dues_from : ℕ → Sender × List ℕ → List ℕ
 dues_from zero s = []

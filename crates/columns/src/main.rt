@@ -6,96 +6,54 @@
 // is not written, but answers `refused 16` on standard error.
 #![tactic(auto)]
 
+use sheet_blocks::columns;
 use std::io;
 use std::rt::Env;
-use text::{blocks, lines, out};
+use text::blocks;
 
 // The most bytes of an argument.
 const WORD: usize = 4096;
 
-fn same(a: &[u8], b: &[u8]) -> bool {
-    if a.len() != b.len() {
-        return false;
-    }
-    let mut i = 0;
-    while i < a.len() {
-        if a[i] != b[i] {
-            return false;
-        }
-        i += 1;
-    }
-    true
-}
-
-fn refused(rt: &impl Eprint, answer: u8) -> io::Result<()> {
-    eprintln!(rt; "refused {answer}")
-}
-
-fn stored(restore: bool, block: &[u8], to: &mut [u8]) -> u8 {
-    if restore {
-        return sheet_blocks::columns::restore(block, to);
-    }
-    sheet_blocks::columns::columns(block, to)
-}
-
-// Writes a block, or why it is refused.
-fn put(rt: &(impl Print + Eprint), restore: bool, block: &[u8], to: &mut [u8]) -> io::Result<()> {
-    let answer = stored(restore, block, to);
-    if answer == 0 {
-        return out::flush(rt, &to[..], block.len());
-    }
-    refused(rt, answer)
-}
-
-// Reads a block and writes it, and answers whether another may follow.
-fn turn(
-    rt: &(impl Print + Eprint + Input),
-    restore: bool,
-    input: &mut [u8],
+// Stores a block by `stored`, and writes it, or why it is refused.
+fn put<F: Fn(&[u8], &mut [u8]) -> u8>(
+    rt: &(impl Print + Eprint),
+    stored: &F,
+    block: &[u8],
     to: &mut [u8],
-) -> io::Result<bool> {
-    let n = blocks::full(rt, input)?;
-    let full = n == input.len();
-    put(rt, restore, &input[..n], to)?;
-    Ok(full)
+) -> io::Result<()>
+    requires { (f : F) (block : _) (to : _) → F.pre f block to }
+{
+    let answer = stored(block, to);
+    if answer != 0 {
+        return eprintln!(rt; "refused {answer}");
+    }
+    match to.get(..block.len()) {
+        Some(done) => rt.write_all(done),
+        None => Ok(()),
+    }
 }
 
-// A proved loop has to end, and nothing says that the input does: it counts down from a number that
-// no run uses up.
-fn all(
+fn all<F: Fn(&[u8], &mut [u8]) -> u8>(
     rt: &(impl Print + Eprint + Input),
-    restore: bool,
-    input: &mut [u8],
-    to: &mut [u8],
-) -> io::Result<()> {
-    let mut turns = u64::MAX;
-    while 0 < turns {
-        let more = turn(rt, restore, input, to)?;
-        turns = lines::to_go(turns, more);
-    }
-    Ok(())
-}
-
-fn run(
-    rt: &(impl Print + Eprint + Input),
-    word: &[u8],
-    input: &mut [u8],
-    to: &mut [u8],
-) -> io::Result<()> {
-    if word.len() == 0 {
-        return all(rt, false, input, to);
-    }
-    if same(word, b"restore") {
-        return all(rt, true, input, to);
-    }
-    eprintln!(rt; "columns [restore]")
+    stored: F,
+) -> io::Result<()>
+    requires { (f : F) (block : _) (to : _) → F.pre f block to }
+{
+    let mut input = [0u8; blocks::SIZE];
+    let mut to = [0u8; blocks::SIZE];
+    blocks::each(rt, &mut input, |block| {
+        put(rt, &stored, block, &mut to)?;
+        Ok(true)
+    })
 }
 
 // An argument that is missing or too long is as good as none.
 fn main(rt: HostRuntime) -> io::Result<()> {
     let mut word = [0u8; WORD];
     let k = rt.arg(1, &mut word).unwrap_or(0);
-    let mut input = [0u8; blocks::SIZE];
-    let mut to = [0u8; blocks::SIZE];
-    run(&rt, &word[..k], &mut input, &mut to)
+    match &word[..k] {
+        b"" => all(&rt, columns::columns),
+        b"restore" => all(&rt, columns::restore),
+        _ => eprintln!(rt; "columns [restore]"),
+    }
 }

@@ -1,5 +1,6 @@
 -- What the theorems are said of: every call with any arguments of its types, refused ones too, every limit, and every list of words.
 use mathlib.Core.Path.{◌≡◌}
+use Rattle.std.proofs.Common.{Ok}
 use mathlib.Core.Bool.{true, false}
 use mathlib.Core.List.{List, [], ◌∷◌}
 use Prim.Native.Nat.{ℕ, ◌+◌, ◌≤◌, ◌<◌}
@@ -10,7 +11,6 @@ use Rattle.config.specs.declared.refusal.Refusal.TheVariants.{InvalidValue, Inva
 use Rattle.packet.specs.Layout.{Packet, packet, size_of, Words32}
 use Rattle.packet.specs.Write.{limit_of, start_of, valid_of, refused_of, written_of, opened_of}
 use Rattle.packet.specs.declared.writer.PayloadWriter.{PayloadWriter}
-use Rattle.packet.specs.declared.writer.Opened.TheVariants.{Payload}
 use Rattle.command.specs.Messages.{messages_of, walked, MessagesWalk}
 use Rattle.command.specs.Write.{is_defined, error_written, data_written}
 use Rattle.command.specs.Calls.{Call, raw, ump_data, request, error, call_of, Typed, AllTyped, run, RoundTrip, RoundTrips}
@@ -29,7 +29,7 @@ pub every_limit : RoundTrips → (max : ℕ) → 8 ≤ max → max ≤ 1400 → 
 unfolding opened_of
 every_limit t max low high b calls typed = t max record { len = 0; max = max } b calls opens typed
   where
-    opens : opened_of max ≡ Payload record { len = 0; max = max }
+    opens : opened_of max ≡ Ok record { len = 0; max = max }
     opens = rw (le-leb _ _ low, le-leb _ _ high)
 
 -- A refused call stands in the list, and what follows takes the payload as it was.

@@ -1,5 +1,6 @@
 -- Reading gives back the commands of every list of write calls.
 use mathlib.Core.Path.{◌≡◌, refl, sym, ap, ◌∙◌}
+use Rattle.std.proofs.Common.{Ok, Err}
 use mathlib.Core.Bool.{true}
 use mathlib.Core.Logic.{inl, inr}
 use mathlib.Core.List.{List, [], ◌∷◌}
@@ -14,7 +15,6 @@ use Rattle.packet.specs.Layout.{Packet, packet, size_of, payload_of, Words32, Al
 use Rattle.packet.specs.Read.{items_of, placed}
 use Rattle.packet.specs.Write.{opened_of, valid_of, bytes_in, WriteEnds, refused, done}
 use Rattle.packet.specs.declared.writer.PayloadWriter.{PayloadWriter}
-use Rattle.packet.specs.declared.writer.Opened.TheVariants.{Payload, Refused as OpenRefused}
 use Rattle.packet.specs.declared.writer.Wrote.{Wrote}
 use Rattle.packet.proofs.RoundTrip.{items_payload, all_encodable_append}
 use Rattle.packet.proofs.Written.{valid_empty}
@@ -87,12 +87,12 @@ run_good (c ∷ calls) p b cs t g =
     (step c p b cs (call_of c p b) (call_outcome c p b) t.0 g)
 
 -- ---- an opened payload
-opened_good : (max : ℕ) (p : PayloadWriter) (b : List ℕ) → opened_of max ≡ Payload p → Good p b []
+opened_good : (max : ℕ) (p : PayloadWriter) (b : List ℕ) → opened_of max ≡ Ok p → Good p b []
 unfolding opened_of payload_of AllEncodable
 opened_good max p b e = elim (split (outside 8 1400 max)) [
-  | inl o ↦ absurd (let f : OpenRefused InvalidValue ≡ Payload p = rw o at e in let z : ◌≡◌ {A = ℕ} 0 1 = cc in let y : ⊥ = omega arith in y)
+  | inl o ↦ absurd (let f : Err InvalidValue ≡ Ok p = rw o at e in let z : ◌≡◌ {A = ℕ} 0 1 = cc in let y : ⊥ = omega arith in y)
   | inr o ↦
-      let f : Payload record { len = 0; max = max } ≡ Payload p = rw o at e in
+      let f : Ok record { len = 0; max = max } ≡ Ok p = rw o at e in
       let q : p ≡ record { len = 0; max = max } = cc in
       rw q record { valid = sym (valid_empty record { len = 0; max = max } (length b) o refl); holds = refl; encodable = tt }
 ]

@@ -1,12 +1,10 @@
 -- Lists of write calls into one payload, and what reading it then finds.
-use Rattle.std.specs.Prelude.{◌≡◌, List, [], ◌∷◌, ◌++◌, ℕ, ◌<◌, length, drop}
+use Rattle.std.specs.Prelude.{◌≡◌, List, [], ◌∷◌, ◌++◌, ℕ, ◌<◌, length, drop, Result, Ok, Err, ⊤}
+use Rattle.config.specs.declared.refusal.Refusal.{Refusal}
 use Rattle.packet.specs.Layout.{Packet, packet, Words32}
 use Rattle.packet.specs.Read.{items_of, placed}
 use Rattle.packet.specs.Write.{opened_of, written_of, bytes_in}
 use Rattle.packet.specs.declared.writer.PayloadWriter.{PayloadWriter}
-use Rattle.packet.specs.declared.writer.Opened.TheVariants.{Payload}
-use Rattle.config.specs.declared.answer.Outcome.{Outcome}
-use Rattle.config.specs.declared.answer.Outcome.TheVariants.{Done, Refused}
 use Rattle.packet.specs.declared.writer.Wrote.{Wrote}
 use Rattle.command.specs.Write.{data_packet, request_packet, error_packet, error_written, data_written}
 use Rattle.command.specs.declared.retransmit.RetransmitRequest.{RetransmitRequest}
@@ -50,9 +48,9 @@ pub record Run : Type 0 where
   pub buffer : List ℕ
   pub accepted : List Packet
 
-abbrev pub accepts : Outcome → List Packet → Packet → List Packet
-accepts Done cs c = cs ++ (c ∷ [])
-accepts (Refused r) cs c = cs
+abbrev pub accepts : Result ⊤ Refusal → List Packet → Packet → List Packet
+accepts (Ok _) cs c = cs ++ (c ∷ [])
+accepts (Err r) cs c = cs
 
 unfoldable pub run : List Call → PayloadWriter → List ℕ → List Packet → Run
 run [] p b cs = record { payload = p; buffer = b; accepted = cs }
@@ -68,7 +66,7 @@ pub record RoundTrip (r : Run) : Type 0 where
 abbrev pub RoundTrips : Type 0
 RoundTrips =
     (max : ℕ) (p : PayloadWriter) (b : List ℕ) (calls : List Call)
-    → opened_of max ≡ Payload p → AllTyped calls → RoundTrip (run calls p b [])
+    → opened_of max ≡ Ok p → AllTyped calls → RoundTrip (run calls p b [])
 
 -- No call, refused or not, touches a byte at or past the new length, nor one below the old length.
 -- (An empty payload's old length is 0: its signature is written with the first command.)

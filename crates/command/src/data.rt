@@ -1,10 +1,9 @@
 // UMP Data.
 ghost use Rattle.std.specs.Prelude.{◌≡◌};
-ghost use Rattle.packet.specs.Write.{refused_of};
 ghost use Rattle.command.specs.Write.{data_written};
 
 use super::message::whole_messages;
-use config::answer::Outcome;
+use super::refused::refused;
 use config::refusal::Refusal;
 use config::sequence::SeqNum;
 use config::settings::MAX_COMMAND_WORDS;
@@ -21,26 +20,13 @@ impl UmpData {
     pub fn write(p: PayloadWriter, buf: &mut [u8], seq: SeqNum, words: &[u32]) -> Wrote
         ensures { (result, buf.new) ≡ data_written p buf.old seq words.now }
     {
-        if packet::tested::is_valid(p, buf.len()) {
-            if MAX_COMMAND_WORDS < words.len() {
-                return refused(p, Refusal::InvalidUmpData);
-            }
-            if whole_messages(words) {
-                let high = (seq / 0x100) as u8;
-                let low = (seq % 0x100) as u8;
-                return packet::tested::command(p, buf, 0xFF, high, low, words);
-            }
+        if !packet::tested::is_valid(p, buf.len()) {
+            return refused(p, Refusal::InvalidState);
+        }
+        if MAX_COMMAND_WORDS < words.len() || !whole_messages(words) {
             return refused(p, Refusal::InvalidUmpData);
         }
-        refused(p, Refusal::InvalidState)
-    }
-}
-
-fn refused(p: PayloadWriter, why: Refusal) -> Wrote
-    ensures { result ≡ refused_of p why }
-{
-    Wrote {
-        payload: p,
-        answer: Outcome::Refused(why),
+        let [high, low] = seq.to_be_bytes();
+        packet::tested::command(p, buf, 0xFF, high, low, words)
     }
 }

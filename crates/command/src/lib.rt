@@ -18,6 +18,7 @@
 pub mod data;
 pub mod message;
 pub mod parse;
+mod refused;
 pub mod retransmit;
 pub mod tested;
 pub mod theorems;

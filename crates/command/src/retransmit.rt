@@ -3,8 +3,8 @@ ghost use Rattle.std.specs.Prelude.{◌≡◌};
 ghost use Rattle.command.specs.Write.{is_defined, request_packet, error_written};
 ghost use Rattle.packet.specs.Write.{written_of};
 
+use super::refused::refused;
 use super::tested;
-use config::answer::Outcome;
 use config::refusal::Refusal;
 use config::sequence::SeqNum;
 use packet::writer::{PayloadWriter, Wrote};
@@ -36,10 +36,7 @@ impl RetransmitRequest {
         if packet::tested::is_valid(p, buf.len()) {
             return tested::write_request(self, p, buf);
         }
-        Wrote {
-            payload: p,
-            answer: Outcome::Refused(Refusal::InvalidState),
-        }
+        refused(p, Refusal::InvalidState)
     }
 }
 
@@ -58,9 +55,6 @@ impl RetransmitError {
         if packet::tested::is_valid(p, buf.len()) {
             return tested::write_error(self, p, buf);
         }
-        Wrote {
-            payload: p,
-            answer: Outcome::Refused(Refusal::InvalidState),
-        }
+        refused(p, Refusal::InvalidState)
     }
 }

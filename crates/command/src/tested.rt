@@ -3,8 +3,8 @@ ghost use Rattle.std.specs.Prelude.{◌≡◌, true, length};
 ghost use Rattle.packet.specs.Write.{valid_of, written_of};
 ghost use Rattle.command.specs.Write.{request_packet, error_written};
 
+use super::refused::refused;
 use super::retransmit::{RetransmitError, RetransmitRequest};
-use config::answer::Outcome;
 use config::refusal::Refusal;
 use packet::writer::{PayloadWriter, Wrote};
 
@@ -12,17 +12,9 @@ pub fn write_request(req: RetransmitRequest, p: PayloadWriter, buf: &mut [u8]) -
     requires { valid_of p (length buf.old) ≡ true }
     ensures { (result, buf.new) ≡ written_of p buf.old (request_packet req) }
 {
-    let seq = req.seq;
-    let count = req.count;
-    let words = [(count as u32) * 0x1_0000];
-    packet::tested::command(
-        p,
-        buf,
-        0x80,
-        (seq / 0x100) as u8,
-        (seq % 0x100) as u8,
-        &words,
-    )
+    let [high, low] = req.seq.to_be_bytes();
+    let words = [u32::from(req.count) * 0x1_0000];
+    packet::tested::command(p, buf, 0x80, high, low, &words)
 }
 
 pub fn write_error(err: RetransmitError, p: PayloadWriter, buf: &mut [u8]) -> Wrote
@@ -30,13 +22,8 @@ pub fn write_error(err: RetransmitError, p: PayloadWriter, buf: &mut [u8]) -> Wr
     ensures { (result, buf.new) ≡ error_written err p buf.old }
 {
     if err.is_defined() {
-        let seq = err.seq;
-        let reason = err.reason;
-        let words = [(seq as u32) * 0x1_0000];
-        return packet::tested::command(p, buf, 0x81, reason, 0, &words);
+        let words = [u32::from(err.seq) * 0x1_0000];
+        return packet::tested::command(p, buf, 0x81, err.reason, 0, &words);
     }
-    Wrote {
-        payload: p,
-        answer: Outcome::Refused(Refusal::ReasonNotAllowed),
-    }
+    refused(p, Refusal::ReasonNotAllowed)
 }

@@ -1,6 +1,5 @@
 -- Laws that this crate's proofs and those of the crates above cite.
 pub mod Parts
 pub mod Steps
-mod Made
 pub mod Agree
 mod Covered

@@ -1,34 +1,25 @@
 -- What is unread, as parts of a slice.
 use mathlib.Core.Path.{◌≡◌, sym, ap, ◌∙◌}
-use mathlib.Core.List.{List, []}
-use Prim.Native.Nat.{ℕ, ◌-◌, ◌≤◌, ◌<◌}
-use native.Mathlib.Omega.{arith}
-use lib.ListN.{length, take, drop, length-drop, drop_of_length-le}
-use lib.Seq.{drop-length, take_all}
+use Rattle.std.proofs.Common.{Result, Ok, Err}
+use mathlib.Core.List.{List}
+use Prim.Native.Nat.{ℕ, ◌-◌}
+use lib.ListN.{length, drop}
+use lib.Seq.{drop-length}
 use Rattle.config.specs.declared.refusal.Refusal.{Refusal}
 use Rattle.packet.specs.Read.{body_of}
 use Rattle.packet.specs.declared.cursor.Cursor.{Cursor}
 use Rattle.packet.specs.declared.cursor.Header.{Header}
-use Rattle.packet.specs.declared.cursor.Packets.{Packets}
-use Rattle.packet.specs.declared.cursor.Packets.TheVariants.{At, Refused}
 use Rattle.packet.specs.declared.cursor.PacketItem.{PacketItem}
 use Rattle.packet.specs.declared.cursor.PacketItem.TheVariants.{Command, Truncated}
 use Rattle.command_packets.specs.Held.{unread_at, payload_at, after_at}
 
-module _ (b : List ℕ) (at : ℕ) where
-  pub from_inside : at ≤ length b → take (length b - at) (drop at b) ≡ drop at b
-  from_inside h = take_all (length b - at) (drop at b) (simp length-drop (omega arith))
-
-  pub from_past : length b < at → [] ≡ drop at b
-  from_past h = sym (drop_of_length-le b {i = at} (omega arith))
-
 module _ (b rest : List ℕ) where
   -- ---- after opening
-  pub unread_at_lem : (p : Packets) (c : Cursor) → p ≡ At c → rest ≡ drop c.at b → rest ≡ unread_at p b
-  unread_at_lem p c e f = f ∙ ap (λ (x : Packets). unread_at x b) (sym e)
+  pub unread_at_lem : (p : Result Cursor Refusal) (c : Cursor) → p ≡ Ok c → rest ≡ drop c.at b → rest ≡ unread_at p b
+  unread_at_lem p c e f = f ∙ ap (λ (x : Result Cursor Refusal). unread_at x b) (sym e)
 
-  pub unread_refused : (p : Packets) (r : Refusal) → p ≡ Refused r → rest ≡ drop (length b) b → rest ≡ unread_at p b
-  unread_refused p r e f = f ∙ drop-length b ∙ ap (λ (x : Packets). unread_at x b) (sym e)
+  pub unread_refused : (p : Result Cursor Refusal) (r : Refusal) → p ≡ Err r → rest ≡ drop (length b) b → rest ≡ unread_at p b
+  unread_refused p r e f = f ∙ drop-length b ∙ ap (λ (x : Result Cursor Refusal). unread_at x b) (sym e)
 
   -- ---- of an item and after it
   module _ (i : PacketItem) (h : Header) where

@@ -1,21 +1,21 @@
 -- 01, "Rust forms and their Rattle forms", `CommandPackets`: the payload reader holds the caller's unread bytes, and a raw
 -- command's payload is a part of the caller's slice. All of it is the cursor's, at the front of the unread bytes.
-use Rattle.std.specs.Prelude.{ℕ, zero, suc, ◌+◌, ◌-◌, List, [], ◌∷◌, length, drop}
+use Rattle.std.specs.Prelude.{ℕ, zero, suc, ◌+◌, ◌-◌, List, [], ◌∷◌, length, drop, Result, Ok, Err}
+use Rattle.config.specs.declared.refusal.Refusal.{Refusal}
+use Rattle.packet.specs.declared.cursor.Cursor.{Cursor}
 use Rattle.packet.specs.Bytes.{words_of}
 use Rattle.packet.specs.Layout.{packet}
 use Rattle.packet.specs.Read.{open_of, next_of, body_of, Item, whole, cut}
-use Rattle.packet.specs.declared.cursor.Packets.{Packets}
-use Rattle.packet.specs.declared.cursor.Packets.TheVariants.{At, Refused}
 use Rattle.packet.specs.declared.cursor.PacketItem.{PacketItem}
 use Rattle.packet.specs.declared.cursor.PacketItem.TheVariants.{Command, Truncated, End}
 
 -- ---- opening: what is unread of a payload, by the cursor core's answer
-abbrev pub unread_at : Packets → List ℕ → List ℕ
-unread_at (At c) b = drop c.at b
-unread_at (Refused r) b = []
+abbrev pub unread_at : Result Cursor Refusal → List ℕ → List ℕ
+unread_at (Ok c) b = drop c.at b
+unread_at (Err r) b = []
 
 -- the unread bytes and the answer
-unfoldable pub opened_of : List ℕ → List ℕ × Packets
+unfoldable pub opened_of : List ℕ → List ℕ × Result Cursor Refusal
 opened_of b = (unread_at (open_of b) b, open_of b)
 
 -- ---- one step: the bytes of a whole command's words

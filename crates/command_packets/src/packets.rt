@@ -4,7 +4,8 @@ ghost use Rattle.packet.specs.Read.{next_of};
 ghost use Rattle.command_packets.specs.Held.{opened_of, step_of};
 
 use super::unread;
-use packet::cursor::{Cursor, PacketItem, Packets};
+use config::refusal::Refusal;
+use packet::cursor::{Cursor, PacketItem};
 
 #[derive(Clone, Copy)]
 pub struct CommandPackets<'a> {
@@ -17,10 +18,10 @@ pub struct Opened<'a> {
     // A reader of all commands; one with nothing to read where opening was refused.
     pub packets: CommandPackets<'a>,
     // The place of the first command, or the refusal.
-    pub answer: Packets,
+    pub answer: Result<Cursor, Refusal>,
 }
 
-// One step. An enum cannot hold a slice, so a command's payload stands beside the item.
+// One step. A command's payload stands beside the item, as in the definition `step_of`.
 #[derive(Clone, Copy)]
 pub struct Step<'a> {
     // The reader after the step.
@@ -69,7 +70,7 @@ fn first(rest: &[u8]) -> PacketItem
 }
 
 // What a reader of the bytes from place `at` on gives first, with its places in the payload: the
-// cursor's item. Its parameters are plain, so that a caller's proof needs no walk.
+// cursor's item.
 pub fn next_at(payload: &[u8], at: usize) -> PacketItem
     ensures { result ≡ next_of payload.now at }
 {
@@ -80,13 +81,13 @@ pub fn next_at(payload: &[u8], at: usize) -> PacketItem
             next,
         } => {
             let size = next.at;
-            return PacketItem::Command {
+            PacketItem::Command {
                 header,
                 at,
                 next: Cursor { at: at + size },
-            };
+            }
         }
-        PacketItem::Truncated(header) => return PacketItem::Truncated(header),
-        PacketItem::End => return PacketItem::End,
+        PacketItem::Truncated(header) => PacketItem::Truncated(header),
+        PacketItem::End => PacketItem::End,
     }
 }

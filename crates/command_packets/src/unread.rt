@@ -4,26 +4,24 @@ ghost use Rattle.std.specs.Prelude.{◌≡◌, drop};
 ghost use Rattle.packet.specs.Read.{next_of};
 ghost use Rattle.command_packets.specs.Held.{unread_at, payload_at, after_at};
 
-use packet::cursor::{Cursor, PacketItem, Packets, body};
+use config::refusal::Refusal;
+use packet::cursor::{Cursor, PacketItem, body};
 
 // The bytes from place `at` on; none from past the end.
 pub fn from(bytes: &[u8], at: usize) -> &[u8]
     ensures { result.now ≡ drop at bytes.now }
 {
-    if at <= bytes.len() {
-        return &bytes[at..];
-    }
-    &bytes[..0]
+    bytes.get(at..).unwrap_or(&[])
 }
 
 // What is unread of a payload that was just opened.
-pub fn opened(payload: &[u8], answer: Packets) -> &[u8]
+pub fn opened(payload: &[u8], answer: Result<Cursor, Refusal>) -> &[u8]
     ensures { result.now ≡ unread_at answer payload.now }
 {
     let end = payload.len();
     match answer {
-        Packets::At(cursor) => return from(payload, cursor.at),
-        Packets::Refused(_) => return from(payload, end),
+        Ok(cursor) => from(payload, cursor.at),
+        Err(_) => from(payload, end),
     }
 }
 
@@ -43,9 +41,9 @@ pub fn payload(bytes: &[u8], item: PacketItem) -> &[u8]
             header,
             at,
             next: _,
-        } => return body(bytes, at, header),
-        PacketItem::Truncated(_) => return &bytes[..0],
-        PacketItem::End => return &bytes[..0],
+        } => body(bytes, at, header),
+        PacketItem::Truncated(_) => &bytes[..0],
+        PacketItem::End => &bytes[..0],
     }
 }
 
@@ -59,8 +57,8 @@ pub fn after(rest: &[u8], item: PacketItem) -> &[u8]
             header: _,
             at: _,
             next,
-        } => return from(rest, next.at),
-        PacketItem::Truncated(_) => return from(rest, end),
-        PacketItem::End => return rest,
+        } => from(rest, next.at),
+        PacketItem::Truncated(_) => from(rest, end),
+        PacketItem::End => rest,
     }
 }

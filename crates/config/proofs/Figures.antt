@@ -1,7 +1,6 @@
 -- Figures of paper 01, computed from the definitions: code and definition changed alike would still be caught here.
 use Rattle.std.proofs.Common.{◌≡◌, true, refl}
 use Rattle.config.specs.Settings.{defaults}
-use Rattle.config.specs.declared.settings.StreamConfig.{StreamConfig}
 
 -- "Defaults: T1 100, G 2, K 5, R 2, D 10, M 3, size 64 words, retransmits on"
 pub default_figures : (defaults.idle_interval_ms ≡ 100) × (defaults.idle_growth ≡ 2) × (defaults.idle_further ≡ 5) × (defaults.fec_repeats ≡ 2)

@@ -1,7 +1,5 @@
 -- 01, "Numbers of each operation": the number of each refusal. From 14 on the numbers are 02's.
-use Rattle.std.specs.Prelude.{ℕ}
-use Rattle.config.specs.declared.answer.Outcome.{Outcome}
-use Rattle.config.specs.declared.answer.Outcome.TheVariants.{Done, Refused}
+use Rattle.std.specs.Prelude.{ℕ, Result, Ok, Err, ⊤}
 use Rattle.config.specs.declared.refusal.Refusal.{Refusal}
 use Rattle.config.specs.declared.refusal.Refusal.TheVariants.{BadSignature, Overflow, TooLarge, InvalidValue, InvalidUmpData, Full, IdleInterval, IdleGrowth, CommandWords, Malformed, ReasonNotAllowed, SizeNotAllowed, InvalidState, InvalidBlock, InvalidRecord, DivisionsNotAllowed}
 
@@ -24,6 +22,6 @@ number_of InvalidRecord = 17
 number_of DivisionsNotAllowed = 18
 
 -- 0 for a call that was made
-abbrev pub outcome_number : Outcome → ℕ
-outcome_number Done = 0
-outcome_number (Refused why) = number_of why
+abbrev pub outcome_number : Result ⊤ Refusal → ℕ
+outcome_number (Ok _) = 0
+outcome_number (Err why) = number_of why

@@ -2,7 +2,6 @@
 ghost use Rattle.std.specs.Prelude.{◌≡◌};
 ghost use Rattle.config.specs.Settings.{check_of, defaults};
 
-use super::answer::Outcome;
 use super::range::outside;
 use super::refusal::Refusal;
 
@@ -51,18 +50,18 @@ impl StreamConfig {
     }
 
     // The command size, then the idle interval, then the growth.
-    pub fn check(self) -> Outcome
+    pub fn check(self) -> Result<(), Refusal>
         ensures { result ≡ check_of self }
     {
         if outside(1, MAX_COMMAND_WORDS, self.max_command_words) {
-            return Outcome::Refused(Refusal::CommandWords);
+            return Err(Refusal::CommandWords);
         }
         if outside(1, MAX_IDLE_INTERVAL_MS, self.idle_interval_ms as usize) {
-            return Outcome::Refused(Refusal::IdleInterval);
+            return Err(Refusal::IdleInterval);
         }
         if self.idle_growth == 0 {
-            return Outcome::Refused(Refusal::IdleGrowth);
+            return Err(Refusal::IdleGrowth);
         }
-        Outcome::Done
+        Ok(())
     }
 }

@@ -1,5 +1,8 @@
 -- A receiver with nothing missing, through every call that leaves it so.
 use Prim.Native.Nat.{ℕ, ◌-◌, ◌^◌, ◌≤◌, ◌<◌}
+use Rattle.std.proofs.Common.{Option, None, Ok}
+use Rattle.receiver.specs.declared.receiver.ReceiverAnswer.{ReceiverAnswer}
+use Rattle.receiver.specs.declared.receiver.StreamEvent.{StreamEvent}
 use mathlib.Core.Path.{◌≡◌, refl}
 use mathlib.Core.Bool.{Bool, true, false}
 use mathlib.Core.List.{List}
@@ -19,7 +22,6 @@ use Rattle.window.specs.Window.{fresh_of as all_processed, missing_of}
 use Rattle.window.specs.Arrival.{reach, in_order}
 use Rattle.window.specs.declared.window.Class.{Class}
 use Rattle.window.specs.declared.window.Class.TheVariants.{New, Duplicate}
-use Rattle.window.specs.declared.window.Span.TheVariants.{Nothing}
 use Rattle.window.proofs.Positions.{processed_fresh}
 use Rattle.window.proofs.Preserved.{valid_fresh}
 use Rattle.window.proofs.Accepts.{accept_as_duplicate}
@@ -27,9 +29,7 @@ use Rattle.window.proofs.InOrder.{accept_in_order}
 use Rattle.receiver.specs.Receiver.{valid_of, rest_of, settled_of, heard_of, polled_of, error_of, nak_of, taken_of}
 use Rattle.receiver.specs.Answers.{poll_answer, event_refused, error_answer, nak_answer, take_answer, request_refused}
 use Rattle.receiver.specs.declared.receiver.Receiver.{Receiver}
-use Rattle.receiver.specs.declared.receiver.Told.{Told}
 use Rattle.receiver.specs.declared.receiver.RequestWritten.{RequestWritten}
-use Rattle.receiver.specs.declared.receiver.Hearing.TheVariants.{Delivery as Delivered}
 use Rattle.receiver_log.specs.Log.{loss_in}
 use Rattle.config.specs.inner.Choices.{by_cond, by_check}
 use Rattle.receiver_log.proofs.Follows.{passes}
@@ -50,16 +50,16 @@ module _ (W : ℕ) (least : 1 ≤ W) (most : W ≤ max_window) (off : Bool) (h :
 
   -- ---- calls that hear nothing
 
-  pub rest_polled : (s : StreamConfig) (time : ℕ) → ((poll_answer rest s time).receiver ≡ rest) × (loss_in (poll_answer rest s time).event ≡ Nothing)
+  pub rest_polled : (s : StreamConfig) (time : ℕ) → ((poll_answer rest s time).receiver ≡ rest) × (loss_in (poll_answer rest s time).answer ≡ None)
   unfolding poll_answer polled_of
   rest_polled s time =
-      rw rest_valid (by_check (λ (x : Told). (x.receiver ≡ rest) × (loss_in x.event ≡ Nothing)) (check_of s) (event_refused rest) _ (λ why. (refl, refl)) (λ e. (refl, refl)))
+      rw rest_valid (by_check (λ (x : ReceiverAnswer (Option StreamEvent)). (x.receiver ≡ rest) × (loss_in x.answer ≡ None)) (check_of s) (event_refused rest) _ (λ why. (refl, refl)) (λ e. (refl, refl)))
 
-  pub rest_error : (e : RetransmitError) → ((error_answer rest e).receiver ≡ rest) × (loss_in (error_answer rest e).event ≡ Nothing)
+  pub rest_error : (e : RetransmitError) → ((error_answer rest e).receiver ≡ rest) × (loss_in (error_answer rest e).answer ≡ None)
   unfolding error_answer error_of
   rest_error e = rw rest_valid (refl, refl)
 
-  pub rest_nak : ((nak_answer rest).receiver ≡ rest_of true (all_processed W h)) × (loss_in (nak_answer rest).event ≡ Nothing)
+  pub rest_nak : ((nak_answer rest).receiver ≡ rest_of true (all_processed W h)) × (loss_in (nak_answer rest).answer ≡ None)
   unfolding nak_answer nak_of
   rest_nak = rw rest_valid (refl, refl)
 
@@ -85,12 +85,12 @@ module _ (W : ℕ) (least : 1 ≤ W) (most : W ≤ max_window) (off : Bool) (h :
 
   -- the next number
   pub rest_next : (s : StreamConfig) (time seq : ℕ) → ahead h seq ≡ 1
-      → heard_of rest s time seq ≡ record { receiver = rest_of off (all_processed W seq); answer = Delivered record { seq = seq; class = New 0; gap = Nothing; lost = Nothing } }
+      → heard_of rest s time seq ≡ record { receiver = rest_of off (all_processed W seq); answer = Ok record { seq = seq; class = New 0; gap = None; lost = None } }
   unfolding heard_of
   rest_next s time seq e = rw (← accept_in_order (all_processed W h) (valid_fresh W h least most) seq (next seq e) low) (rw (settled s time seq (New 0)))
 
   -- a number that is read as behind
   pub rest_behind : (s : StreamConfig) (time seq : ℕ) → within 1 reach (ahead h seq) ≡ false
-      → heard_of rest s time seq ≡ record { receiver = rest; answer = Delivered record { seq = seq; class = Duplicate; gap = Nothing; lost = Nothing } }
+      → heard_of rest s time seq ≡ record { receiver = rest; answer = Ok record { seq = seq; class = Duplicate; gap = None; lost = None } }
   unfolding heard_of
   rest_behind s time seq e = rw (accept_as_duplicate (all_processed W h) seq e (processed_fresh W h (ahead seq h)), settled s time h Duplicate)

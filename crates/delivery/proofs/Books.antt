@@ -142,14 +142,14 @@ module _ (c : ℕ) where
       → Agrees c (sent_in c b cfg ws).book (accepted ++ taken (sent_in c b cfg ws).answer ws) w
   unfolding sent_in
   sent_agrees b cfg ws accepted w i h =
-      by_check Ok (check_of cfg) _ _ (λ why. same) (λ passed.
-      by_cond Ok (eqb (length ws) 0) _ _ (λ none. rw (length_none ws (omega (arith, tests))) same) (λ some.
-      by_check Ok (words_check cfg.max_command_words ws) _ _ (λ why. same) (λ divides.
-      by_cond Ok (ltb (c - size b.unwritten) (need_in cfg.max_command_words ws b)) _ _ (λ full. same) (λ fits.
+      by_check Fine (check_of cfg) _ _ (λ why. same) (λ passed.
+      by_cond Fine (eqb (length ws) 0) _ _ (λ none. rw (length_none ws (omega (arith, tests))) same) (λ some.
+      by_check Fine (words_check cfg.max_command_words ws) _ _ (λ why. same) (λ divides.
+      by_cond Fine (ltb (c - size b.unwritten) (need_in cfg.max_command_words ws b)) _ _ (λ full. same) (λ fits.
       queued_agrees cfg.max_command_words ws b accepted w i (settings_few cfg passed) (check_divides _ ws divides) h (omega (arith, tests))))))
     where
-      Ok : QueueIn → Type 0
-      Ok q = Agrees c q.book (accepted ++ taken q.answer ws) w
+      Fine : QueueIn → Type 0
+      Fine q = Agrees c q.book (accepted ++ taken q.answer ws) w
 
       same : Agrees c b (accepted ++ []) w
       same = rw append-nil i
@@ -160,11 +160,11 @@ module _ (c : ℕ) where
       → Agrees c (requested_in q b cfg r).book accepted w
   unfolding requested_in
   requested_agrees q b cfg r accepted w i =
-      by_check Ok (check_of cfg) _ _ (λ why. i) (λ passed.
-      by_cond Ok (not cfg.retransmit) _ _ (λ off. i) (λ on.
-      by_cond Ok (absent_in b r.seq) _ _ (λ absent. i) (λ held.
-      by_cond Ok (asks b.waiting r.seq) _ _ (λ pending. i) (λ new.
-      by_cond Ok (leb q (length b.waiting)) _ _ (λ full. i) (λ room. i)))))
+      by_check Fine (check_of cfg) _ _ (λ why. i) (λ passed.
+      by_cond Fine (not cfg.retransmit) _ _ (λ off. i) (λ on.
+      by_cond Fine (absent_in b r.seq) _ _ (λ absent. i) (λ held.
+      by_cond Fine (asks b.waiting r.seq) _ _ (λ pending. i) (λ new.
+      by_cond Fine (leb q (length b.waiting)) _ _ (λ full. i) (λ room. i)))))
     where
-      Ok : RequestIn → Type 0
-      Ok a = Agrees c a.book accepted w
+      Fine : RequestIn → Type 0
+      Fine a = Agrees c a.book accepted w

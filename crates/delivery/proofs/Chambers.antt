@@ -1,5 +1,6 @@
 -- What a chamber hands on, over its log alone: nothing is handed on where nothing is heard, and places joined one after the other.
 use Prim.Native.Nat.{ℕ, zero, suc, ◌+◌, ◌*◌, ◌%◌, ◌≤◌, ◌<◌}
+use Rattle.std.proofs.Common.{Ok, Err}
 use mathlib.Core.Path.{◌≡◌, refl, ap, ap₂, sym, ◌∙◌}
 use mathlib.Core.Logic.{◌⊎◌, inl, inr}
 use mathlib.Core.Bool.{true, false}
@@ -17,7 +18,6 @@ use Rattle.window.specs.Arrival.{reach}
 use Rattle.window.specs.declared.window.Class.{Class}
 use Rattle.window.specs.declared.window.Class.TheVariants.{New, Late, Duplicate}
 use Rattle.receiver.specs.Messages.{handed_words, handed_bytes, handed_cut}
-use Rattle.receiver.specs.declared.receiver.Hearing.TheVariants.{Delivery as Delivered, Refused as HearingRefused}
 use Rattle.receiver_log.specs.Calls.{Entry, data_entry, poll_entry, error_entry, nak_entry, take_entry}
 use Rattle.receiver_log.specs.Log.{Report, report_of, origin, place, high, times, lost, Missing}
 use Rattle.receiver_log.specs.Promise.{Promise}
@@ -63,8 +63,8 @@ pub record Same (t u : List Report) : Type 0 where
   pub words : (x : ℕ) → delivered u x ≡ delivered t x
 
 pub unheard_same : (e : Entry) (t : List Report) → is_heard e ≡ false → Same t (report_of e ∷ t)
-unheard_same (data_entry s time seq ws (Delivered d)) t h = absurd (never refl h)
-unheard_same (data_entry s time seq ws (HearingRefused why)) t h = record { top = refl; count = λ x. refl; words = λ x. refl }
+unheard_same (data_entry s time seq ws (Ok d)) t h = absurd (never refl h)
+unheard_same (data_entry s time seq ws (Err why)) t h = record { top = refl; count = λ x. refl; words = λ x. refl }
 unheard_same (poll_entry s time e) t h = record { top = refl; count = λ x. refl; words = λ x. refl }
 unheard_same (error_entry q e) t h = record { top = refl; count = λ x. refl; words = λ x. refl }
 unheard_same (nak_entry e) t h = record { top = refl; count = λ x. refl; words = λ x. refl }

@@ -1,5 +1,8 @@
 -- After every list of a console's calls: what its sender holds agrees with the log, and each payload holds what the log says.
 use Prim.Native.Nat.{ℕ, ◌≤◌, ◌<◌}
+use Rattle.std.proofs.Common.{Result, Ok}
+use Rattle.config.specs.declared.refusal.Refusal.{Refusal}
+use Rattle.std.specs.Bool.{⊤}
 use mathlib.Core.Path.{◌≡◌, refl}
 use mathlib.Core.Bool.{Bool, true, false, cond, ◌&&◌}
 use mathlib.Core.List.{List, [], ◌∷◌, ◌++◌}
@@ -9,15 +12,11 @@ use borrow.Author.Tests.{leb-true, not-false}
 use lib.ListN.{length}
 use Rattle.config.specs.Range.{within, outside}
 use Rattle.config.specs.Settings.{check_of}
-use Rattle.config.specs.declared.answer.Outcome.{Outcome}
-use Rattle.config.specs.declared.answer.Outcome.TheVariants.{Done}
 use Rattle.config.specs.declared.settings.StreamConfig.{StreamConfig}
 use Rattle.config.specs.inner.Tests.{tests, and_right}
 use Rattle.packet.specs.Layout.{Words32}
 use Rattle.packet.specs.Write.{opened_of, valid_of as payload_valid}
 use Rattle.packet.specs.declared.writer.PayloadWriter.{PayloadWriter}
-use Rattle.packet.specs.declared.writer.Opened.{Opened}
-use Rattle.packet.specs.declared.writer.Opened.TheVariants.{Payload}
 use Rattle.command.specs.declared.retransmit.RetransmitRequest.{RetransmitRequest}
 use Rattle.sender.specs.State.{valid_of}
 use Rattle.sender.specs.Answers.{new_answer}
@@ -44,7 +43,7 @@ not_both true = refl
 not_both false = refl
 
 -- changes neither sender nor history
-pub astray_keeps : (s : Sender) (cfg : StreamConfig) (time : ℕ) (p : PayloadWriter) (b ring : List ℕ) → (check_of cfg ≡ Done → payload_valid p (length b) ≡ false)
+pub astray_keeps : (s : Sender) (cfg : StreamConfig) (time : ℕ) (p : PayloadWriter) (b ring : List ℕ) → (check_of cfg ≡ Ok tt → payload_valid p (length b) ≡ false)
     → ((write_answer s cfg time p b ring).0.sender ≡ s) × ((write_answer s cfg time p b ring).2 ≡ ring)
 unfolding write_answer
 astray_keeps s cfg time p b ring h = by_check Kept (check_of cfg) _ _ (λ why. (refl, refl)) (λ passed. rw (h passed, not_both (valid_of s ring)) (refl, refl))
@@ -73,7 +72,7 @@ module _ (c q : ℕ) where
   pub quiet_noted : (t : List Entry) (k : ℕ) (v : Lent) → Was (noted ∷ t) k v → Was t k v
   quiet_noted t k v (was e h) = h
 
-  pub quiet_queued : (t : List Entry) (cfg : StreamConfig) (ws : List ℕ) (a : Outcome) (k : ℕ) (v : Lent) → Was (queued cfg ws a ∷ t) k v → Was t k v
+  pub quiet_queued : (t : List Entry) (cfg : StreamConfig) (ws : List ℕ) (a : Result ⊤ Refusal) (k : ℕ) (v : Lent) → Was (queued cfg ws a ∷ t) k v → Was t k v
   quiet_queued t cfg ws a k v (was e h) = h
 
   unfoldable pub noted_good : (d : Console) (t : List Entry) → Good d t → StepGood t (noting d)
@@ -103,7 +102,7 @@ module _ (c q : ℕ) where
 
   -- ---- calls that touch one
 
-  unfoldable pub opened_good : (d : Console) (t : List Entry) → Good d t → (limit : ℕ) (buffer : List ℕ) → limit ≤ 1400 → StepGood t (open_step d buffer (Payload record { len = 0; max = limit }))
+  unfoldable pub opened_good : (d : Console) (t : List Entry) → Good d t → (limit : ℕ) (buffer : List ℕ) → limit ≤ 1400 → StepGood t (open_step d buffer (Ok record { len = 0; max = limit }))
   opened_good d t i limit buffer l =
       record {
         book = i.book;
@@ -115,7 +114,7 @@ module _ (c q : ℕ) where
   open_good : (d : Console) (t : List Entry) → Good d t → (limit : ℕ) (buffer : List ℕ) → StepGood t (open_step d buffer (opened_of limit))
   unfolding opened_of
   open_good d t i limit buffer =
-      by_cond (λ (o : Opened). StepGood t (open_step d buffer o)) (outside 8 1400 limit) _ _ (λ e. noted_good d t i) (λ e. opened_good d t i limit buffer (limit_most limit e))
+      by_cond (λ (o : Result PayloadWriter Refusal). StepGood t (open_step d buffer o)) (outside 8 1400 limit) _ _ (λ e. noted_good d t i) (λ e. opened_good d t i limit buffer (limit_most limit e))
 
   unfoldable pub put_good : (d : Console) (t : List Entry) → Good d t → (k : ℕ) → k < length d.payloads → (v : Lent) → (Reads (payload_at d k) (on k (written t)) → Reads v (on k (written t)))
       → StepGood t (put_step d k v)
@@ -170,7 +169,7 @@ module _ (c q : ℕ) where
   log_good [] d t i a = (d, i)
   log_good (call ∷ calls) d t i a = log_good calls (step_of d call).console ((step_of d call).entry ∷ t) (step_good d t i call a.0) a.1
 
-  pub console_good : (ring₀ : List ℕ) → (new_answer c q ring₀).0.answer ≡ Done → (calls : List Call) → AllAllowed calls
+  pub console_good : (ring₀ : List ℕ) → (new_answer c q ring₀).0.answer ≡ Ok tt → (calls : List Call) → AllAllowed calls
       → (e : Console) × Good e (log_from (fresh_console c q ring₀) [] calls)
   console_good ring₀ started calls a =
       log_good calls (fresh_console c q ring₀) []

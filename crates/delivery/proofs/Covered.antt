@@ -1,6 +1,7 @@
 -- What the theorems are said of: every call of a console and of a chamber with any arguments of its types, refused ones too, every size that 01 allows, and a line as
 -- wide as 01's.
 use Prim.Native.Nat.{ℕ, suc, ◌+◌, ◌-◌, ◌*◌, ◌≤◌, ◌<◌}
+use Rattle.std.proofs.Common.{Option, Result, Ok, Err}
 use mathlib.Core.Path.{◌≡◌, refl, ◌∙◌}
 use mathlib.Core.Bool.{false}
 use mathlib.Core.Logic.{◌↔◌}
@@ -9,7 +10,6 @@ use native.Mathlib.Omega.{arith}
 use lib.ListN.{length, get_or}
 use Rattle.config.specs.Settings.{check_of}
 use Rattle.config.specs.declared.refusal.Refusal.{Refusal}
-use Rattle.config.specs.declared.answer.Outcome.TheVariants.{Done}
 use Rattle.config.specs.declared.settings.StreamConfig.{StreamConfig}
 use Rattle.packet.specs.Layout.{Words32}
 use Rattle.packet.specs.Write.{valid_of as payload_valid}
@@ -20,7 +20,6 @@ use Rattle.command.specs.declared.retransmit.RetransmitError.{RetransmitError}
 use Rattle.command.specs.declared.retransmit.RetransmitRequest.{RetransmitRequest}
 use Rattle.receiver.specs.Answers.{take_answer}
 use Rattle.receiver.specs.declared.receiver.Delivery.{Delivery}
-use Rattle.receiver.specs.declared.receiver.Hearing.TheVariants.{Delivery as Delivered, Refused as HearingRefused}
 use Rattle.receiver.specs.declared.receiver.Receiver.{Receiver}
 use Rattle.receiver.specs.declared.receiver.Request.{Request}
 use Rattle.receiver.specs.declared.receiver.StreamEvent.{StreamEvent}
@@ -57,7 +56,7 @@ pub every_call : (limit k : ℕ) (buffer ws : List ℕ) (cfg : StreamConfig) (r 
 every_call limit k buffer ws cfg r time call p w f g t d e = (tt, (tt, (w, (tt, ((f, g), ((t, d), (λ passed. e, tt)))))))
 
 -- or for its settings
-pub every_refused : (p : PayloadWriter) (buffer : List ℕ) (cfg : StreamConfig) (time : ℕ) → (check_of cfg ≡ Done → ⊥) → Allowed (write_astray p buffer cfg time)
+pub every_refused : (p : PayloadWriter) (buffer : List ℕ) (cfg : StreamConfig) (time : ℕ) → (check_of cfg ≡ Ok tt → ⊥) → Allowed (write_astray p buffer cfg time)
 every_refused p buffer cfg time h passed = absurd (h passed)
 
 -- of a chamber
@@ -97,16 +96,16 @@ pub every_reach : {t : List Entry} {q : List Heard} {ps : List ℕ} → Line t q
     → (k : ℕ) (v : Lent) → Was t k v → (before behind : List Command) (c : Command) → data_of (bytes v) ≡ before ++ (c ∷ behind)
     → origin + position_of (written t) k (length before) ≤ highest ps + 32767 → highest ps ≤ origin + position_of (written t) k (length before) + 32768
     → (cfg : StreamConfig) (time : ℕ) (d : Delivery)
-    → Line t (data_entry cfg time c.number c.words (Delivered d) ∷ q) (position_of (written t) k (length before) ∷ ps)
+    → Line t (data_entry cfg time c.number c.words (Ok d) ∷ q) (position_of (written t) k (length before) ∷ ps)
 every_reach {t = t} l k v w before behind c e m n cfg time d = hear l k v w before behind c e (position_of (written t) k (length before)) refl (omega (arith, m)) (omega (arith, n)) cfg time d
 
 -- between the commands heard: each other call, and a refused data command, from wherever it came
 pub every_other : {t : List Entry} {q : List Heard} {ps : List ℕ} → Line t q ps
-    → (cfg : StreamConfig) (time seq : ℕ) (ws : List ℕ) (why : Refusal) (e : RetransmitError) (told asked denied : StreamEvent) (p r : PayloadWriter) (b d : List ℕ) (a : Request)
-    → Line t (data_entry cfg time seq ws (HearingRefused why) ∷ poll_entry cfg time told ∷ error_entry e asked ∷ nak_entry denied ∷ take_entry cfg p b a r d ∷ q) ps
+    → (cfg : StreamConfig) (time seq : ℕ) (ws : List ℕ) (why : Refusal) (e : RetransmitError) (told asked denied : Result (Option StreamEvent) Refusal) (p r : PayloadWriter) (b d : List ℕ) (a : Result Request Refusal)
+    → Line t (data_entry cfg time seq ws (Err why) ∷ poll_entry cfg time told ∷ error_entry e asked ∷ nak_entry denied ∷ take_entry cfg p b a r d ∷ q) ps
 every_other l cfg time seq ws why e told asked denied p r b d a =
     pass (pass (pass (pass (pass l (take_entry cfg p b a r d) refl) (nak_entry denied) refl) (error_entry e asked) refl) (poll_entry cfg time told) refl)
-    (data_entry cfg time seq ws (HearingRefused why)) refl
+    (data_entry cfg time seq ws (Err why)) refl
 
 -- ---- what is asked, and what follows
 
@@ -125,7 +124,7 @@ every_pair c = c.first.performances
 
 -- what is handed on is all words, for the line alone; and a take is any receiver's, of any payload
 pub every_heard : HandedWords → (u : Run) (ps : List ℕ) → Line (sent_log u) (heard_log u) ps
-    → (cfg : StreamConfig) (time seq : ℕ) (ws : List ℕ) (d : Delivery) → Memᴰ (data_entry cfg time seq ws (Delivered d)) (heard_log u) → AllHanded d.class ws
+    → (cfg : StreamConfig) (time seq : ℕ) (ws : List ℕ) (d : Delivery) → Memᴰ (data_entry cfg time seq ws (Ok d)) (heard_log u) → AllHanded d.class ws
 every_heard h = h
 
 pub every_take : Takes → (r : Receiver) (cfg : StreamConfig) (v : Lent) → TakenBy v (take_answer r cfg v.payload v.buffer)
@@ -149,8 +148,8 @@ pub every_new : (R : ℕ) (C : List (List ℕ)) (u v : Lent) (ws : List ℕ) →
 every_new R C u v ws e d = one e ws d
 
 -- each other call, and a refused data command, may stand between
-pub every_between : (q : List Heard) (cfg : StreamConfig) (time seq : ℕ) (ws : List ℕ) (why : Refusal) (e : RetransmitError) (told asked denied : StreamEvent) (p r : PayloadWriter) (b d : List ℕ) (a : Request)
-    → heard_commands (data_entry cfg time seq ws (HearingRefused why) ∷ poll_entry cfg time told ∷ error_entry e asked ∷ nak_entry denied ∷ take_entry cfg p b a r d ∷ q) ≡ heard_commands q
+pub every_between : (q : List Heard) (cfg : StreamConfig) (time seq : ℕ) (ws : List ℕ) (why : Refusal) (e : RetransmitError) (told asked denied : Result (Option StreamEvent) Refusal) (p r : PayloadWriter) (b d : List ℕ) (a : Result Request Refusal)
+    → heard_commands (data_entry cfg time seq ws (Err why) ∷ poll_entry cfg time told ∷ error_entry e asked ∷ nak_entry denied ∷ take_entry cfg p b a r d ∷ q) ≡ heard_commands q
 every_between q cfg time seq ws why e told asked denied p r b d a = refl
 
 -- a sender is paced whatever payloads are opened, lent again and put into between, and whatever writes are refused
@@ -164,7 +163,7 @@ every_pace R s n d calls (retransmit_request cfg r) x h = absurd x
 every_pace R s n d calls (write_into k cfg time) x h = absurd x
 
 -- what is asked of it, with the figures written out: of each write, and of the history
-pub every_write : (R s : ℕ) (cfg : StreamConfig) (v : Lent) → check_of cfg ≡ Done → cfg.fec_repeats ≡ R → v.payload.len ≡ 0
+pub every_write : (R s : ℕ) (cfg : StreamConfig) (v : Lent) → check_of cfg ≡ Ok tt → cfg.fec_repeats ≡ R → v.payload.len ≡ 0
     → 4 + (R + 1) * (4 + 4 * s) ≤ v.payload.max → 4 + (R + 1) * (4 + 4 * s) ≤ length v.buffer → Ready R s cfg v
 every_write R s cfg v a b c d e = record { passes = a; repeats = b; empty = c; limit = d; lent = e }
 

@@ -1,5 +1,7 @@
 -- The first sentence of demand 3, along the line between a console's log and a chamber's.
 use Prim.Native.Nat.{ℕ, zero, suc, ◌+◌, ◌-◌, ◌≤◌, ◌<◌, max}
+use Rattle.std.proofs.Common.{Option, Ok}
+use Rattle.window.specs.declared.window.SeqRange.{SeqRange}
 use mathlib.Core.Path.{◌≡◌, refl, ap, sym, ◌∙◌}
 use mathlib.Core.Logic.{◌⊎◌, inl, inr, ◌↔◌}
 use mathlib.Core.Bool.{true, ◌&&◌}
@@ -14,9 +16,7 @@ use Rattle.config.specs.declared.settings.StreamConfig.{StreamConfig}
 use Rattle.command.specs.Messages.{whole_of, words_in}
 use Rattle.window.specs.Arrival.{reach}
 use Rattle.window.specs.declared.window.Class.{Class}
-use Rattle.window.specs.declared.window.Span.{Span}
 use Rattle.receiver.specs.declared.receiver.Delivery.{Delivery}
-use Rattle.receiver.specs.declared.receiver.Hearing.TheVariants.{Delivery as Delivered}
 use Rattle.receiver_log.specs.Calls.{Entry as Heard, data_entry}
 use Rattle.receiver_log.specs.Log.{Report, heard, report_of, reports, origin, place, high, hands, times}
 use Rattle.receiver_log.specs.Promise.{Promise}
@@ -105,7 +105,7 @@ module _ (words places : ℕ) (d : Console) (t : List Entry) (i : Good words pla
       by (inr m) = old r m
 
   right_heard : (q : List Report) (ps : List ℕ) → Right q ps → (s : Command) (p : ℕ) → At (positions t) s p → origin + p ≤ highest ps + reach → highest ps ≤ origin + p + (reach + 1)
-      → (k : Class) (l : Span) → Right (heard s.number s.words k l ∷ q) (p ∷ ps)
+      → (k : Class) (l : Option SeqRange) → Right (heard s.number s.words k l ∷ q) (p ∷ ps)
   right_heard q ps r s p a m n k l =
       let here : place (high q) s.number ≡ origin + p = rw (r.top, a.is) (read_position (highest ps) p m n) in
       record {
@@ -151,18 +151,18 @@ module _ (words places : ℕ) (d : Console) (t : List Entry) (i : Good words pla
 
   -- of each command heard, the program hands on all words or none
   all_handed : {q : List Heard} {ps : List ℕ} → Line t q ps → (cfg : StreamConfig) (time seq : ℕ) (ws : List ℕ) (d : Delivery)
-      → Memᴰ (data_entry cfg time seq ws (Delivered d)) q → AllHanded d.class ws
+      → Memᴰ (data_entry cfg time seq ws (Ok d)) q → AllHanded d.class ws
   all_handed fresh cfg time seq ws d h = absurd (Memᴰ.not-nil h)
   all_handed (hear {q = q} r k v w before behind s e p at_p m n cfg₀ now₀ f) cfg time seq ws d h = by (Memᴰ.cases_cons h) (λ y. all_handed r cfg time seq ws d y)
     where
-      by : (data_entry cfg time seq ws (Delivered d) ≡ data_entry cfg₀ now₀ s.number s.words (Delivered f)) ⊎ Memᴰ (data_entry cfg time seq ws (Delivered d)) q
-          → (Memᴰ (data_entry cfg time seq ws (Delivered d)) q → AllHanded d.class ws) → AllHanded d.class ws
+      by : (data_entry cfg time seq ws (Ok d) ≡ data_entry cfg₀ now₀ s.number s.words (Ok f)) ⊎ Memᴰ (data_entry cfg time seq ws (Ok d)) q
+          → (Memᴰ (data_entry cfg time seq ws (Ok d)) q → AllHanded d.class ws) → AllHanded d.class ws
       by (inl x) rest = let same : ws ≡ s.words = cc in rw same ((copy_of k v w before behind s e).all_handed d.class)
       by (inr y) rest = rest y
   all_handed (pass {q = q} r e x) cfg time seq ws d h = by (Memᴰ.cases_cons h) (λ y. all_handed r cfg time seq ws d y)
     where
-      by : (data_entry cfg time seq ws (Delivered d) ≡ e) ⊎ Memᴰ (data_entry cfg time seq ws (Delivered d)) q
-          → (Memᴰ (data_entry cfg time seq ws (Delivered d)) q → AllHanded d.class ws) → AllHanded d.class ws
+      by : (data_entry cfg time seq ws (Ok d) ≡ e) ⊎ Memᴰ (data_entry cfg time seq ws (Ok d)) q
+          → (Memᴰ (data_entry cfg time seq ws (Ok d)) q → AllHanded d.class ws) → AllHanded d.class ws
       by (inl y) rest = absurd (never (ap is_heard (sym y)) x)
       by (inr y) rest = rest y
 

@@ -7,6 +7,10 @@
 -- Refused between them: opening with limit 7 (4), queueing half a message (5), a write whose settings have growth 0 (8), a write into a payload of 6 bytes (13), and, at
 -- the chamber, a data command of no sender (8).
 use Prim.Native.Nat.{ℕ, zero, suc, ◌+◌, ◌≤◌, ◌<◌}
+use Rattle.std.proofs.Common.{Option, Some, None, Result, Ok, Err}
+use Rattle.config.specs.declared.refusal.Refusal.{Refusal}
+use Rattle.window.specs.declared.window.SeqRange.{SeqRange}
+use Rattle.writing.specs.declared.writing.Written.{Written}
 use mathlib.Core.Path.{◌≡◌, refl, sym, ◌∙◌}
 use mathlib.Core.Logic.{inl, inr}
 use mathlib.Core.Bool.{true, false}
@@ -41,20 +45,13 @@ use Rattle.sender.specs.State.{valid_of}
 use Rattle.sender.specs.Queueing.{room_of, need_of, joined_to, pushed_all, queued_to, queued_of, words_check, placed_of, sent_of}
 use Rattle.sender.specs.Requests.{requested_of}
 use Rattle.writing.specs.Writing.{served_in, served_of, idled_of, written_off, new_of, written_by}
-use Rattle.config.specs.declared.answer.Outcome.TheVariants.{Done, Refused}
-use Rattle.writing.specs.declared.writing.Writing.{Writing}
-use Rattle.writing.specs.declared.writing.Writing.TheVariants.{Written, Refused as NotWritten}
 use Rattle.window.specs.declared.window.Class.{Class}
 use Rattle.window.specs.declared.window.Class.TheVariants.{New, Late, Duplicate}
-use Rattle.window.specs.declared.window.Span.{Span}
-use Rattle.window.specs.declared.window.Span.TheVariants.{Nothing, Of}
 use Rattle.idle.specs.Schedule.{idle_next}
 use Rattle.rows.specs.Rows.{row_of, packets_from, sizes_of, any_words}
 use Rattle.rows.specs.Choice.{repeats_of}
 use Rattle.receiver.specs.Receiver.{due_after}
 use Rattle.receiver.specs.declared.receiver.Delivery.{Delivery}
-use Rattle.receiver.specs.declared.receiver.Hearing.TheVariants.{Delivery as Delivered, Refused as NotHeard}
-use Rattle.receiver.specs.declared.receiver.StreamEvent.TheVariants.{Nothing as NoEvent}
 use Rattle.receiver.specs.declared.receiver.Request.TheVariants.{Written as Asked}
 use Rattle.receiver_log.specs.Calls.{data_command, poll, take_request, Entry as Heard, data_entry, poll_entry, take_entry, AllTyped}
 use Rattle.receiver_log.specs.Calls as Chamber
@@ -168,17 +165,17 @@ longer3 = partly 40 first3 8
 abbrev again3 : Lent
 again3 = full 48 (first3 ++ (0xFF010003 ∷ E))
 
-abbrev pub all : ℕ → Writing
-all n = Written record { commands = n; more = false }
+abbrev pub all : ℕ → Result Written Refusal
+all n = Ok record { commands = n; more = false }
 
 abbrev sent : List Entry
 sent =
-    wrote 3 longer3 again3 (all 1) ∷ queued (settings 0) E Done ∷ stood 3 longer3
-    ∷ noted ∷ wrote 3 payload3 payload3 (NotWritten IdleGrowth) ∷ queued (settings 0) half_message (Refused InvalidUmpData)
-    ∷ wrote 3 (partly 12 request3 28) payload3 (all 3) ∷ queued (settings 2) D Done ∷ stood 3 (partly 12 request3 28) ∷ stood 3 (empty 40)
+    wrote 3 longer3 again3 (all 1) ∷ queued (settings 0) E (Ok tt) ∷ stood 3 longer3
+    ∷ noted ∷ wrote 3 payload3 payload3 (Err IdleGrowth) ∷ queued (settings 0) half_message (Err InvalidUmpData)
+    ∷ wrote 3 (partly 12 request3 28) payload3 (all 3) ∷ queued (settings 2) D (Ok tt) ∷ stood 3 (partly 12 request3 28) ∷ stood 3 (empty 40)
     ∷ wrote 2 (empty 12) payload2 (all 1) ∷ stood 2 (empty 12) ∷ noted
-    ∷ wrote 1 (empty 12) payload1 (all 1) ∷ queued (settings 0) B Done ∷ stood 1 (empty 12)
-    ∷ wrote 0 (empty 12) payload0 (all 1) ∷ queued (settings 0) A Done ∷ stood 0 (empty 12)
+    ∷ wrote 1 (empty 12) payload1 (all 1) ∷ queued (settings 0) B (Ok tt) ∷ stood 1 (empty 12)
+    ∷ wrote 0 (empty 12) payload0 (all 1) ∷ queued (settings 0) A (Ok tt) ∷ stood 0 (empty 12)
     ∷ noted
     ∷ []
 
@@ -198,21 +195,21 @@ arrivals =
     ∷ data_command (settings 0) 41 3 E ∷ data_command (settings 0) 41 2 D
     ∷ []
 
-abbrev pub delivery : ℕ → Class → Span → Delivery
-delivery seq class gap = record { seq = seq; class = class; gap = gap; lost = Nothing }
+abbrev pub delivery : ℕ → Class → Option SeqRange → Delivery
+delivery seq class gap = record { seq = seq; class = class; gap = gap; lost = None }
 
 abbrev arrived : List Heard
 arrived =
-    data_entry (settings 0) 41 2 D (Delivered (delivery 2 Duplicate Nothing))
-    ∷ data_entry (settings 0) 41 3 E (Delivered (delivery 3 (New 0) Nothing))
-    ∷ data_entry bad_settings 32 9 B (NotHeard IdleGrowth)
-    ∷ data_entry (settings 2) 31 0 A (Delivered (delivery 0 Duplicate Nothing))
-    ∷ data_entry (settings 2) 31 2 D (Delivered (delivery 2 (New 0) Nothing))
-    ∷ data_entry (settings 0) 21 0 A (Delivered (delivery 0 Late Nothing))
-    ∷ take_entry (settings 0) (record { len = 0; max = 1400 }) (zeros 12) Asked (record { len = 12; max = 1400 }) (bytes_of (0x4D494449 ∷ 0x80010000 ∷ 0x00010000 ∷ []))
-    ∷ poll_entry (settings 0) 16 NoEvent
-    ∷ data_entry (settings 0) 7 1 B (Delivered (delivery 1 Duplicate Nothing))
-    ∷ data_entry (settings 0) 6 1 B (Delivered (delivery 1 (New 1) (Of record { first = 0; count = 1 })))
+    data_entry (settings 0) 41 2 D (Ok (delivery 2 Duplicate None))
+    ∷ data_entry (settings 0) 41 3 E (Ok (delivery 3 (New 0) None))
+    ∷ data_entry bad_settings 32 9 B (Err IdleGrowth)
+    ∷ data_entry (settings 2) 31 0 A (Ok (delivery 0 Duplicate None))
+    ∷ data_entry (settings 2) 31 2 D (Ok (delivery 2 (New 0) None))
+    ∷ data_entry (settings 0) 21 0 A (Ok (delivery 0 Late None))
+    ∷ take_entry (settings 0) (record { len = 0; max = 1400 }) (zeros 12) (Ok Asked) (record { len = 12; max = 1400 }) (bytes_of (0x4D494449 ∷ 0x80010000 ∷ 0x00010000 ∷ []))
+    ∷ poll_entry (settings 0) 16 (Ok None)
+    ∷ data_entry (settings 0) 7 1 B (Ok (delivery 1 Duplicate None))
+    ∷ data_entry (settings 0) 6 1 B (Ok (delivery 1 (New 1) (Some record { first = 0; count = 1 })))
     ∷ []
 
 typed : AllTyped arrivals
@@ -340,7 +337,7 @@ allowed =
     (both_allowed fourth (turned_away ++ late) fourth_allowed
     (both_allowed turned_away late turned_away_allowed (omega arith)))
 
-started : (new_answer 65 4 (zeros 65)).0.answer ≡ Done
+started : (new_answer 65 4 (zeros 65)).0.answer ≡ Ok tt
 unfolding new_answer
 started = refl
 

@@ -1,5 +1,9 @@
 -- The payloads of a console: each holds the commands written into it, and what any of them ever held is the beginning of what it holds now.
 use Prim.Native.Nat.{ℕ, ◌≤◌, ◌<◌}
+use Rattle.std.proofs.Common.{Result, Ok, Err}
+use Rattle.config.specs.declared.refusal.Refusal.{Refusal}
+use Rattle.writing.specs.declared.writing.Written.{Written}
+use Rattle.std.specs.Bool.{⊤}
 use mathlib.Core.Path.{◌≡◌, refl, ap, sym, ◌∙◌}
 use mathlib.Core.Logic.{◌⊎◌, inl, inr, ◌≢◌}
 use mathlib.Core.Bool.{false, cond}
@@ -10,11 +14,8 @@ use lib.ListN.{length, get_or, set, length-append, length-set, get_or-append}
 use lib.Seq.{get_or_at, get_or-set_same, get_or-set_other, take_at, length-take-le, drop-append_seam}
 use Rattle.config.specs.inner.Tests.{split, tests, lifts}
 use Rattle.packet.specs.Layout.{Packet, payload_of}
-use Rattle.config.specs.declared.answer.Outcome.{Outcome}
-use Rattle.config.specs.declared.answer.Outcome.TheVariants.{Done, Refused}
 use Rattle.command.specs.Calls.{Call, call_of, command_of, Typed, accepts}
 use Rattle.command.proofs.RoundTrip.{call_outcome, typed_words}
-use Rattle.writing.specs.declared.writing.Writing.{Writing}
 use Rattle.delivery.specs.Commands.{Command, is_data, data_in, data_of}
 use Rattle.delivery.specs.Console.{Lent, bytes, no_payload, lent_again, put_into, Entry, queued, wrote, stood, noted, Tag, held, added, tagged, Was, was_wrote, was_stood, was}
 use Rattle.delivery.proofs.Lists.{length_none}
@@ -63,12 +64,12 @@ reads_put call v cs typed other r =
       data_are = no_data a ∙ r.data_are;
     }
   where
-    a : Outcome
+    a : (Result ⊤ Refusal)
     a = (call_of call v.payload v.buffer).0.answer
 
-    no_data : (a : Outcome) → data_in (accepts a r.packets (command_of call)) ≡ data_in r.packets
-    no_data Done = data_append r.packets (command_of call ∷ []) ∙ rw (other, append-nil)
-    no_data (Refused why) = refl
+    no_data : (a : Result ⊤ Refusal) → data_in (accepts a r.packets (command_of call)) ≡ data_in r.packets
+    no_data (Ok _) = data_append r.packets (command_of call ∷ []) ∙ rw (other, append-nil)
+    no_data (Err why) = refl
 
 -- packets of a write
 pub reads_more : (u v : Lent) (cs : List Command) (r : Reads u cs) (more : List Packet) → Holds v.payload v.buffer (r.packets ++ more) → Reads v (cs ++ data_in more)
@@ -135,7 +136,7 @@ past_stood : (t : List Entry) (j : ℕ) (u : Lent) (P : ℕ → Lent → Type 0)
 past_stood t j u P here before k v (was_stood s i x) = here
 past_stood t j u P here before k v (was e h) = before k v h
 
-past_wrote : (t : List Entry) (j : ℕ) (o u : Lent) (a : Writing) (P : ℕ → Lent → Type 0) → P j u → ((k : ℕ) (v : Lent) → Was t k v → P k v)
+past_wrote : (t : List Entry) (j : ℕ) (o u : Lent) (a : Result Written Refusal) (P : ℕ → Lent → Type 0) → P j u → ((k : ℕ) (v : Lent) → Was t k v → P k v)
     → (k : ℕ) (v : Lent) → Was (wrote j o u a ∷ t) k v → P k v
 past_wrote t j o u a P here before k v (was_wrote s i x y z) = here
 past_wrote t j o u a P here before k v (was e h) = before k v h
@@ -190,7 +191,7 @@ module _ (vs : List Lent) (w : List Tag) (t : List Entry) (i : Payloads vs w t) 
       }
 
   -- as a write left it
-  pub payloads_wrote : (u : Lent) (a : Writing) (more : List Command) → Reads u (on k w) → Reads v (on k w ++ more)
+  pub payloads_wrote : (u : Lent) (a : Result Written Refusal) (more : List Command) → Reads u (on k w) → Reads v (on k w ++ more)
       → Payloads (set vs k v) (tagged k (held u) (added u v) w) (wrote k u v a ∷ t)
   payloads_wrote u a more before after =
       let s : List Tag = tagged k (held u) (added u v) w in

@@ -1,5 +1,8 @@
 -- A console that is given at most s words between two writes, and no request, keeps one command at most unwritten; so each payload brings it behind the last R.
 use Prim.Native.Nat.{ℕ, suc, ◌+◌, ◌*◌, ◌≤◌, ◌<◌}
+use Rattle.std.proofs.Common.{Result}
+use Rattle.config.specs.declared.refusal.Refusal.{Refusal}
+use Rattle.packet.specs.declared.writer.PayloadWriter.{PayloadWriter}
 use mathlib.Core.Path.{◌≡◌, refl, ◌∙◌}
 use mathlib.Core.Logic.{inl, inr}
 use mathlib.Core.Bool.{true, false, cond}
@@ -15,7 +18,6 @@ use Rattle.config.specs.declared.settings.StreamConfig.{StreamConfig}
 use Rattle.config.specs.inner.Tests.{split, tests}
 use Rattle.packet.specs.Layout.{Words32}
 use Rattle.packet.specs.Write.{opened_of}
-use Rattle.packet.specs.declared.writer.Opened.{Opened}
 use Rattle.sender_log.specs.Book.{nothing}
 use Rattle.sender_log.specs.Calls.{TypedConfig}
 use Rattle.sender_log.proofs.Follows.{start_follows, write_follows}
@@ -52,7 +54,7 @@ module _ (R s c q : ℕ) (history : (R + 1) * (1 + s) ≤ c) where
   open_pace : (n : ℕ) (d : Console) (t : List Entry) → Pace n d t → (limit : ℕ) (buffer : List ℕ) → StepPace n t (open_step d buffer (opened_of limit))
   unfolding opened_of opened_good
   open_pace n d t i limit buffer =
-      by_cond (λ (o : Opened). StepPace n t (open_step d buffer o)) (outside 8 1400 limit) _ _ (λ e. noted_pace n d t i)
+      by_cond (λ (o : Result PayloadWriter Refusal). StepPace n t (open_step d buffer o)) (outside 8 1400 limit) _ _ (λ e. noted_pace n d t i)
       (λ e. record { good = opened_good c q d t i.good limit buffer (limit_most limit e); kept = i.kept; few = i.few; brings = i.brings })
 
   put_pace : (n : ℕ) (d : Console) (t : List Entry) → Pace n d t → (k : ℕ) (f : Lent → Lent) → ((v : Lent) (cs : List Command) → Reads v cs → Reads (f v) cs)

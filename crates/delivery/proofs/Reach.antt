@@ -1,13 +1,13 @@
 -- Why the line asks for reach: of 32,768 one-word commands only the last is heard, number 7FFF at position 32,767, which is 32,768 ahead of position -1.
 -- A fresh receiver reads it as 32,768 behind: a Duplicate. No loss is reported, nothing is missing, the newest position is heard, and nothing is handed on.
 use Prim.Native.Nat.{ℕ, suc, ◌+◌, ◌-◌}
+use Rattle.std.proofs.Common.{None}
 use mathlib.Core.Path.{◌≡◌, refl, ◌∙◌, ap}
 use mathlib.Core.List.{List, [], ◌∷◌}
 use native.Mathlib.Omega.{arith}
 use Rattle.config.specs.Settings.{check_of}
 use Rattle.window.specs.Arrival.{reach}
 use Rattle.window.specs.declared.window.Class.TheVariants.{Duplicate}
-use Rattle.window.specs.declared.window.Span.TheVariants.{Nothing}
 use Rattle.receiver_log.specs.Calls.{Call, data_command}
 use Rattle.receiver_log.specs.Log.{Report, heard, reports, origin, is_ahead, place, start, high, unprocessed, Missing}
 use Rattle.receiver_log.specs.Spans.{ends_of, class_in, lost_at, lost_in}
@@ -23,7 +23,7 @@ abbrev arrival : List Call
 arrival = data_command (settings 2) 0 0x7FFF A ∷ []
 
 abbrev arrived : List Report
-arrived = heard 0x7FFF A Duplicate Nothing ∷ []
+arrived = heard 0x7FFF A Duplicate None ∷ []
 
 arrived_is : reports (log_of 64 arrival) ≡ arrived
 unfolding said_of answer_of check_of class_in is_ahead place lost_in lost_at ends_of unprocessed start

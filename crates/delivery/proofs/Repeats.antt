@@ -1,5 +1,8 @@
 -- What repeats alone guarantee: the receiver hears in step, so it is always at rest, and hands each command on as the next.
 use Prim.Native.Nat.{ℕ, suc, ◌+◌, ◌-◌, ◌%◌, ◌≤◌, ◌<◌, min, max}
+use Rattle.std.proofs.Common.{None}
+use Rattle.receiver.specs.declared.receiver.Delivery.{Delivery}
+use Rattle.receiver.specs.declared.receiver.ReceiverAnswer.{ReceiverAnswer}
 use mathlib.Core.Path.{◌≡◌, refl, ap, ap₂, ◌∙◌}
 use mathlib.Core.Logic.{inl, inr}
 use mathlib.Core.Bool.{Bool, true, false}
@@ -17,13 +20,11 @@ use Rattle.window.specs.Set.{max_window}
 use Rattle.window.specs.Window.{fresh_of as all_processed}
 use Rattle.window.specs.Arrival.{reach}
 use Rattle.window.specs.declared.window.Class.TheVariants.{New}
-use Rattle.window.specs.declared.window.Span.TheVariants.{Nothing}
 use Rattle.config.specs.inner.Ranges.{within_below, within_above}
 use Rattle.config.specs.inner.Choices.{by_check}
 use Rattle.receiver.specs.Receiver.{fresh_of, rest_of, heard_of}
 use Rattle.receiver.specs.Answers.{data_answer, hearing_refused, poll_answer, error_answer, nak_answer, take_answer}
 use Rattle.receiver.specs.declared.receiver.Receiver.{Receiver}
-use Rattle.receiver.specs.declared.receiver.Heard.{Heard}
 use Rattle.receiver_log.specs.Calls.{Call, data_command, poll, retransmit_error, nak, take_request, Entry, data_entry, step_of, run_from, run, AllTyped}
 use Rattle.receiver_log.specs.Log.{told, report_of, reports, origin, place, high}
 use Rattle.receiver_log.proofs.Follows.{Follows, passes}
@@ -71,12 +72,12 @@ module _ (W : ℕ) (least : 1 ≤ W) (most : W ≤ max_window) (C : List (List �
 
   -- a call that reports nothing
   rest_quiet : (n : ℕ) (r x : Receiver) (t : List Entry) (e : Entry) → AtRest n r t
-      → (off : Bool) → x ≡ rest_of off (all_processed W ((origin - 1 + n) % turn)) → report_of e ≡ told Nothing → AtRest n x (e ∷ t)
+      → (off : Bool) → x ≡ rest_of off (all_processed W ((origin - 1 + n) % turn)) → report_of e ≡ told None → AtRest n x (e ∷ t)
   rest_quiet n r x t e a off is q = record { off = off; is = is; top = rw q a.top; all = rw q a.all; no_loss = rw q (refl, a.no_loss) }
 
   -- a data command that isn't refused
   module _ (r : Receiver) (t : List Entry) (s : StreamConfig) (time seq : ℕ) (ws : List ℕ) where
-    abbrev Next : ℕ → Heard → Type 0
+    abbrev Next : ℕ → ReceiverAnswer Delivery → Type 0
     Next n x = AtRest n x.receiver (data_entry s time seq ws x.answer ∷ t)
 
     rest_up : (n : ℕ) → AtRest n r t → n < length C → seq ≡ n % turn → ws ≡ get_or C n [] → Next (suc n) (heard_of r s time seq)
@@ -117,7 +118,7 @@ module _ (W : ℕ) (least : 1 ≤ W) (most : W ≤ max_window) (C : List (List �
       → Keeps (data_answer r s time seq).receiver (data_entry s time seq ws (data_answer r s time seq).answer ∷ t)
   unfolding data_answer
   data_kept r t s time seq ws i k =
-      rw (passes r i.held.valid) (by_check (λ (x : Heard). Keeps x.receiver (data_entry s time seq ws x.answer ∷ t)) (check_of s) (hearing_refused r) (heard_of r s time seq)
+      rw (passes r i.held.valid) (by_check (λ (x : ReceiverAnswer Delivery). Keeps x.receiver (data_entry s time seq ws x.answer ∷ t)) (check_of s) (hearing_refused r) (heard_of r s time seq)
       (λ why n st. let a = k n st in rest_quiet n r r t _ a a.off a.is refl)
       (λ e. heard_kept r t s time seq ws k))
 

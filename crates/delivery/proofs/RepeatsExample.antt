@@ -1,6 +1,7 @@
 -- A run without a return cable, R 2. The console sends six payloads, each with one new command of one word and the last two before it. Payloads 0 and 1 are lost, 2 arrives twice,
 -- 3 and 4 are lost, and 5, the last, arrives. The chamber's window is the smallest, and it is polled between.
 use Prim.Native.Nat.{ℕ, zero, suc, ◌+◌, ◌*◌}
+use Rattle.std.proofs.Common.{None, Ok}
 use mathlib.Core.Path.{◌≡◌, refl, ap, ◌∙◌}
 use mathlib.Core.List.{List, [], ◌∷◌, ◌++◌}
 use native.Mathlib.Omega.{arith}
@@ -24,16 +25,12 @@ use Rattle.sender.specs.State.{valid_of}
 use Rattle.sender.specs.Queueing.{room_of, need_of, joined_to, pushed_all, queued_to, queued_of, words_check, placed_of, sent_of}
 use Rattle.sender.specs.Requests.{requested_of}
 use Rattle.writing.specs.Writing.{served_in, served_of, idled_of, written_off, new_of, written_by}
-use Rattle.config.specs.declared.answer.Outcome.TheVariants.{Done}
 use Rattle.window.specs.declared.window.Class.{Class}
 use Rattle.window.specs.declared.window.Class.TheVariants.{New, Duplicate}
-use Rattle.window.specs.declared.window.Span.TheVariants.{Nothing}
 use Rattle.idle.specs.Schedule.{idle_next}
 use Rattle.rows.specs.Rows.{row_of, packets_from, sizes_of, any_words}
 use Rattle.rows.specs.Choice.{repeats_of}
 use Rattle.receiver.specs.Receiver.{due_after}
-use Rattle.receiver.specs.declared.receiver.Hearing.TheVariants.{Delivery as Delivered}
-use Rattle.receiver.specs.declared.receiver.StreamEvent.TheVariants.{Nothing as NoEvent}
 use Rattle.receiver_log.specs.Calls.{data_command, poll, Entry as Heard, data_entry, poll_entry, AllTyped}
 use Rattle.receiver_log.specs.Calls as Chamber
 use Rattle.receiver_log.specs.Log.{heard, reports, is_ahead, place, start, unprocessed}
@@ -78,12 +75,12 @@ payload (suc (suc i)) = full 28 (0x4D494449 ∷ command i ++ (command (1 + i) ++
 
 abbrev sent : List Entry
 sent =
-    wrote 5 (empty 28) (payload 5) (all 3) ∷ queued (settings 2) (note 5) Done ∷ stood 5 (empty 28)
-    ∷ wrote 4 (empty 28) (payload 4) (all 3) ∷ queued (settings 2) (note 4) Done ∷ stood 4 (empty 28)
-    ∷ wrote 3 (empty 28) (payload 3) (all 3) ∷ queued (settings 2) (note 3) Done ∷ stood 3 (empty 28)
-    ∷ wrote 2 (empty 28) (payload 2) (all 3) ∷ queued (settings 2) (note 2) Done ∷ stood 2 (empty 28)
-    ∷ wrote 1 (empty 28) (payload 1) (all 2) ∷ queued (settings 2) (note 1) Done ∷ stood 1 (empty 28)
-    ∷ wrote 0 (empty 28) (payload 0) (all 1) ∷ queued (settings 2) (note 0) Done ∷ stood 0 (empty 28)
+    wrote 5 (empty 28) (payload 5) (all 3) ∷ queued (settings 2) (note 5) (Ok tt) ∷ stood 5 (empty 28)
+    ∷ wrote 4 (empty 28) (payload 4) (all 3) ∷ queued (settings 2) (note 4) (Ok tt) ∷ stood 4 (empty 28)
+    ∷ wrote 3 (empty 28) (payload 3) (all 3) ∷ queued (settings 2) (note 3) (Ok tt) ∷ stood 3 (empty 28)
+    ∷ wrote 2 (empty 28) (payload 2) (all 3) ∷ queued (settings 2) (note 2) (Ok tt) ∷ stood 2 (empty 28)
+    ∷ wrote 1 (empty 28) (payload 1) (all 2) ∷ queued (settings 2) (note 1) (Ok tt) ∷ stood 1 (empty 28)
+    ∷ wrote 0 (empty 28) (payload 0) (all 1) ∷ queued (settings 2) (note 0) (Ok tt) ∷ stood 0 (empty 28)
     ∷ []
 
 sent_is : log_from (fresh_console 65 1 (zeros 65)) [] calls ≡ sent
@@ -103,13 +100,13 @@ arrivals =
     ∷ []
 
 abbrev answer : ℕ → ℕ → Class → Heard
-answer time i class = data_entry (settings 2) time i (note i) (Delivered (delivery i class Nothing))
+answer time i class = data_entry (settings 2) time i (note i) (Ok (delivery i class None))
 
 abbrev arrived : List Heard
 arrived =
     answer 50 5 (New 0) ∷ answer 50 4 (New 0) ∷ answer 50 3 (New 0)
     ∷ answer 23 2 Duplicate ∷ answer 23 1 Duplicate ∷ answer 23 0 Duplicate
-    ∷ answer 22 2 (New 0) ∷ poll_entry (settings 2) 21 NoEvent ∷ answer 20 1 (New 0) ∷ answer 20 0 (New 0)
+    ∷ answer 22 2 (New 0) ∷ poll_entry (settings 2) 21 (Ok None) ∷ answer 20 1 (New 0) ∷ answer 20 0 (New 0)
     ∷ []
 
 typed : AllTyped arrivals
@@ -151,7 +148,7 @@ allowed : AllAllowed calls
 unfolding Words32
 allowed = omega arith
 
-started : (new_answer 65 1 (zeros 65)).0.answer ≡ Done
+started : (new_answer 65 1 (zeros 65)).0.answer ≡ Ok tt
 unfolding new_answer
 started = refl
 
@@ -199,6 +196,6 @@ example_keeps = record { history = omega arith; paced = paced_sender.rounds 2 1 
 
 -- ---- why no more than R: were payload 2 lost too, 3 would be the first to arrive, and its oldest command has a gap
 
-one_more_lost : reports (log_of 1 (hears 30 1 ∷ [])) ≡ heard 1 (note 1) (New 1) Nothing ∷ []
+one_more_lost : reports (log_of 1 (hears 30 1 ∷ [])) ≡ heard 1 (note 1) (New 1) None ∷ []
 unfolding said_of answer_of check_of class_in is_ahead place lost_in lost_at ends_of unprocessed start
 one_more_lost = ap reports (run_said 1 (omega arith) (omega arith) (hears 30 1 ∷ []) (omega arith)) ∙ refl

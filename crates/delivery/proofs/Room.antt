@@ -1,5 +1,7 @@
 -- A sender that is given at most s words between two writes: one command at most is unwritten, and the last R written ones stay in a history with room for R + 1.
 use Prim.Native.Nat.{ℕ, ◌+◌, ◌-◌, ◌*◌, ◌≤◌, ◌<◌, min}
+use Rattle.std.proofs.Common.{Option, Some, None}
+use Rattle.idle.specs.declared.idle.Idle.{Idle}
 use mathlib.Core.Path.{◌≡◌, refl, ap, ◌∙◌}
 use mathlib.Core.Logic.{inl, inr}
 use mathlib.Core.Bool.{true, false, not, ◌||◌}
@@ -17,8 +19,6 @@ use Rattle.command.specs.Messages.{whole_of}
 use Rattle.command.specs.declared.retransmit.RetransmitRequest.{RetransmitRequest}
 use Rattle.history.specs.Entries.{size, kept}
 use Rattle.history.proofs.Flat.{size_one}
-use Rattle.idle.specs.declared.idle.IdleTimer.{IdleTimer}
-use Rattle.idle.specs.declared.idle.IdleTimer.TheVariants.{Off, Waiting}
 use Rattle.fronts.specs.Commands.{front, behind, commands_of}
 use Rattle.sender.specs.Queueing.{words_check}
 use Rattle.fronts.proofs.Fronts.{Divides, part_of, commands_nil, commands_cons}
@@ -167,14 +167,14 @@ module _ (R s c : ℕ) (history : (R + 1) * (1 + s) ≤ c) where
   pub sent_kept : (n : ℕ) (b : Book) (cfg : StreamConfig) (ws : List ℕ) → Kept n b → n + length ws ≤ s → s ≤ cfg.max_command_words → Kept (n + length ws) (sent_in c b cfg ws).book
   unfolding sent_in
   sent_kept n b cfg ws k l m =
-      by_check Ok (check_of cfg) _ _ (λ why. same) (λ passed.
-      by_cond Ok (eqb (length ws) 0) _ _ (λ none. same) (λ some.
-      by_check Ok (words_check cfg.max_command_words ws) _ _ (λ why. same) (λ divides.
-      by_cond Ok (ltb (c - size b.unwritten) (need_in cfg.max_command_words ws b)) _ _ (λ full. same) (λ fits.
+      by_check Fine (check_of cfg) _ _ (λ why. same) (λ passed.
+      by_cond Fine (eqb (length ws) 0) _ _ (λ none. same) (λ some.
+      by_check Fine (words_check cfg.max_command_words ws) _ _ (λ why. same) (λ divides.
+      by_cond Fine (ltb (c - size b.unwritten) (need_in cfg.max_command_words ws b)) _ _ (λ full. same) (λ fits.
       queued_kept n cfg.max_command_words ws b k (check_divides _ ws divides) (omega (arith, tests)) l m))))
     where
-      Ok : QueueIn → Type 0
-      Ok q = Kept (n + length ws) q.book
+      Fine : QueueIn → Type 0
+      Fine q = Kept (n + length ws) q.book
 
       same : Kept (n + length ws) b
       same = record { holding = k.holding; unwritten = open_more n (n + length ws) b.unwritten (omega arith) k.unwritten }
@@ -189,9 +189,9 @@ module _ (R s c : ℕ) (history : (R + 1) * (1 + s) ≤ c) where
       empty [] e = refl
       empty (u ∷ us) e = absurd (let z : ◌≡◌ {A = ℕ} 0 1 = cc in omega arith)
 
-      by : (t : IdleTimer) → Kept n (idled_by c cfg time b t)
-      by Off = k
-      by (Waiting t) =
+      by : (t : Option Idle) → Kept n (idled_by c cfg time b t)
+      by None = k
+      by (Some t) =
           by_cond (Kept n) (not (is_empty b.unwritten) || ltb time t.due) _ _ (λ e. k)
           (λ e.
           let p = pushed_kept n [] b k.holding (empty b.unwritten (not-false _ (or_left (not (is_empty b.unwritten)) _ e))) (omega arith) l in

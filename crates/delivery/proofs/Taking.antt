@@ -1,5 +1,7 @@
 -- Taking a due request writes it into the payload, or leaves the payload alone.
 use Prim.Native.Nat.{ℕ}
+use Rattle.std.proofs.Common.{Option, Some, None, Ok}
+use Rattle.window.specs.declared.window.SeqRange.{SeqRange}
 use mathlib.Core.Path.{◌≡◌, refl, ap}
 use mathlib.Core.Bool.{not, ◌&&◌}
 use mathlib.Core.Logic.{inl, inr}
@@ -16,11 +18,8 @@ use Rattle.packet.proofs.Outcomes.{outcome}
 use Rattle.command.specs.Write.{request_packet}
 use Rattle.command.specs.declared.retransmit.RetransmitRequest.{RetransmitRequest}
 use Rattle.window.specs.Window.{request_of}
-use Rattle.window.specs.declared.window.Span.{Span}
-use Rattle.window.specs.declared.window.Span.TheVariants.{Nothing as NoSpan, Of}
 use Rattle.receiver.specs.Receiver.{valid_of, enabled_of, taken_by, offered_of, taken_span, taken_of}
 use Rattle.receiver.specs.Answers.{take_answer}
-use Rattle.receiver.specs.declared.receiver.Asked.TheVariants.{Request as AskedFor}
 use Rattle.receiver.specs.declared.receiver.Receiver.{Receiver}
 use Rattle.receiver.specs.declared.receiver.Request.TheVariants.{Written}
 use Rattle.config.specs.inner.Choices.{by_cond}
@@ -38,13 +37,13 @@ module _ (r : Receiver) (cfg : StreamConfig) (v : Lent) where
     where
       go : (w : Wrote × List ℕ) → asking q ≡ w → WriteEnds v.payload v.buffer (request_packet q) w → TakenBy v (taken_by r q w.0.payload w.0.answer, w.1)
       go w e (done f l) =
-          let x : Taken v Written record { payload = (asking q).0.payload; buffer = (asking q).1 } (AskedFor q) = written q (ap (λ (y : Wrote × List ℕ). y.0.answer) e) in
+          let x : Taken v (Ok Written) record { payload = (asking q).0.payload; buffer = (asking q).1 } (Some q) = written q (ap (λ (y : Wrote × List ℕ). y.0.answer) e) in
           rw e at x
       go w e (cut why) = elim (split (eqb v.payload.len 0)) [ inl z ↦ rw z (refused r.asked TooLarge) | inr z ↦ rw z (more r.asked) ]
 
-  span_taken : (s : Span) → TakenBy v (taken_span r v.payload v.buffer s)
-  span_taken NoSpan = none_due r.asked
-  span_taken (Of range) = offered_taken record { seq = range.first; count = range.count }
+  span_taken : (s : Option SeqRange) → TakenBy v (taken_span r v.payload v.buffer s)
+  span_taken None = none_due r.asked
+  span_taken (Some range) = offered_taken record { seq = range.first; count = range.count }
 
   due_taken_lem : TakenBy v (taken_of r cfg v.payload v.buffer)
   unfolding taken_of

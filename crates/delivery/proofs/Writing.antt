@@ -1,5 +1,7 @@
 -- A write adds packets to the payload's bytes, refused writes too: the data commands among them are copies of positions, then new ones in order.
 use Prim.Native.Nat.{ℕ, ◌+◌, ◌-◌, ◌%◌, ◌≤◌, min}
+use Rattle.std.proofs.Common.{Option, Some, None}
+use Rattle.idle.specs.declared.idle.Idle.{Idle}
 use mathlib.Core.Path.{◌≡◌, refl, ap, sym, ◌∙◌}
 use mathlib.Core.Bool.{true, not, ◌||◌}
 use mathlib.Core.List.{List, [], ◌∷◌, ◌++◌, append_assoc, append-nil}
@@ -20,8 +22,6 @@ use Rattle.history.specs.Entries.{size}
 use Rattle.history.proofs.Flat.{size_append}
 use Rattle.command.specs.Messages.{words_in}
 use Rattle.command.specs.inner.Messages.{words_append}
-use Rattle.idle.specs.declared.idle.IdleTimer.{IdleTimer}
-use Rattle.idle.specs.declared.idle.IdleTimer.TheVariants.{Off, Waiting}
 use Rattle.rows.specs.Rows.{row_of, fit_all}
 use Rattle.rows.specs.Choice.{repeats_of}
 use Rattle.sender_log.specs.Book.{Book, oldest_in, index_in, absent_in, with_waiting}
@@ -142,9 +142,9 @@ module _ (c : ℕ) (most : c ≤ 32768) (b : Book) (accepted : List ℕ) (w : Li
   unfolding idled_in Words32
   idled_agrees cfg time l = by b.idle
     where
-      by : (t : IdleTimer) → Agrees c (idled_by c cfg time b t) accepted w
-      by Off = i
-      by (Waiting t) =
+      by : (t : Option Idle) → Agrees c (idled_by c cfg time b t) accepted w
+      by None = i
+      by (Some t) =
           by_cond (λ (d : Book). Agrees c d accepted w) (not (is_empty b.unwritten) || ltb time t.due) _ _ (λ e. i)
           (λ e.
           let none : size b.unwritten ≡ 0 = empty_none b.unwritten (not-false _ (or_left (not (is_empty b.unwritten)) _ e)) in

@@ -1,16 +1,15 @@
 -- 01, "The runs of demand 3": what a chamber's receiver heard and handed on, over its log alone (crate receiver_log). A place is a position plus 65,536.
-use Rattle.std.specs.Prelude.{ℕ, zero, suc, ◌-◌, ◌*◌, ◌≡◌, Bool, true, false, cond, List, [], ◌∷◌, ◌++◌, length}
+use Rattle.std.specs.Prelude.{ℕ, zero, suc, ◌-◌, ◌*◌, ◌≡◌, Bool, true, false, cond, List, [], ◌∷◌, ◌++◌, length, Ok, Err}
 use Rattle.packet.specs.Bytes.{words_of}
 use Rattle.window.specs.declared.window.Class.{Class}
 use Rattle.receiver.specs.Messages.{handed_words, handed_bytes, handed_cut}
-use Rattle.receiver.specs.declared.receiver.Hearing.TheVariants.{Delivery as Delivered, Refused as HearingRefused}
 use Rattle.receiver_log.specs.Calls.{Entry, data_entry, poll_entry, error_entry, nak_entry, take_entry}
 use Rattle.receiver_log.specs.Log.{Report, heard, told, origin, high, hands, hands_on}
 
 -- heard: a data command that a call takes without refusing
 abbrev pub is_heard : Entry → Bool
-is_heard (data_entry s time seq ws (Delivered d)) = true
-is_heard (data_entry s time seq ws (HearingRefused why)) = false
+is_heard (data_entry s time seq ws (Ok d)) = true
+is_heard (data_entry s time seq ws (Err why)) = false
 is_heard (poll_entry s time e) = false
 is_heard (error_entry q e) = false
 is_heard (nak_entry e) = false

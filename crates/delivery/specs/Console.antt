@@ -1,22 +1,19 @@
 -- 01, "The runs of demand 3": a console's end of the line. A fresh sender with its history, and the payloads that are opened, lent, written and sent: the calls, the log that
 -- a list of calls leaves, and what was accepted and written, over that log alone.
-use Rattle.std.specs.Prelude.{ℕ, suc, ◌≡◌, false, cond, ◌&&◌, List, [], ◌∷◌, ◌++◌, eqb, ltb, length, get_or, drop, set}
+use Rattle.std.specs.Prelude.{ℕ, suc, ◌≡◌, false, cond, ◌&&◌, List, [], ◌∷◌, ◌++◌, eqb, ltb, length, get_or, drop, set, Result, Ok, Err, ⊤}
+use Rattle.config.specs.declared.refusal.Refusal.{Refusal}
+use Rattle.writing.specs.declared.writing.Written.{Written}
 use Rattle.config.specs.Settings.{check_of}
-use Rattle.config.specs.declared.answer.Outcome.{Outcome}
-use Rattle.config.specs.declared.answer.Outcome.TheVariants.{Done, Refused}
 use Rattle.config.specs.declared.settings.StreamConfig.{StreamConfig}
 use Rattle.packet.specs.Layout.{Words32}
 use Rattle.packet.specs.Write.{opened_of, bytes_in, valid_of as payload_valid}
 use Rattle.packet.specs.declared.writer.PayloadWriter.{PayloadWriter}
-use Rattle.packet.specs.declared.writer.Opened.{Opened}
-use Rattle.packet.specs.declared.writer.Opened.TheVariants.{Payload, Refused as OpenRefused}
 use Rattle.command.specs.Calls.{call_of, command_of, Typed as WriteTyped}
 use Rattle.command.specs.Calls as Writes
 use Rattle.command.specs.declared.retransmit.RetransmitRequest.{RetransmitRequest}
 use Rattle.sender.specs.Answers.{new_answer, send_answer, request_answer}
 use Rattle.writing.specs.Answers.{write_answer}
 use Rattle.sender.specs.declared.sender.Sender.{Sender}
-use Rattle.writing.specs.declared.writing.Writing.{Writing}
 use Rattle.sender_log.specs.Calls.{TypedConfig}
 use Rattle.delivery.specs.Commands.{Command, is_data, data_of}
 use Rattle.delivery.specs.Positions.{contents, position}
@@ -56,9 +53,9 @@ pub data Call : Type 0 where
 
 -- the log: calls with what they were given, answered and left
 pub data Entry : Type 0 where
-  queued : StreamConfig → List ℕ → Outcome → Entry
+  queued : StreamConfig → List ℕ → Result ⊤ Refusal → Entry
   -- payload, as the write found it, as the write left it
-  wrote : ℕ → Lent → Lent → Writing → Entry
+  wrote : ℕ → Lent → Lent → Result Written Refusal → Entry
   -- payload, as another call left it
   stood : ℕ → Lent → Entry
   -- a call that touches no payload
@@ -83,9 +80,9 @@ payload_at c k = get_or c.payloads k no_payload
 abbrev pub with_payload : Console → ℕ → Lent → Console
 with_payload c k v = record { sender = c.sender; ring = c.ring; payloads = set c.payloads k v }
 
-abbrev pub open_step : Console → List ℕ → Opened → Step
-open_step c buffer (OpenRefused why) = noting c
-open_step c buffer (Payload p) =
+abbrev pub open_step : Console → List ℕ → Result PayloadWriter Refusal → Step
+open_step c buffer (Err why) = noting c
+open_step c buffer (Ok p) =
     let v : Lent = record { payload = p; buffer = buffer } in
     record { console = record { sender = c.sender; ring = c.ring; payloads = c.payloads ++ (v ∷ []) }; entry = stood (length c.payloads) v }
 
@@ -139,7 +136,7 @@ Allowed (queue_words cfg ws) = Words32 ws
 Allowed (retransmit_request cfg r) = Unit {0}
 Allowed (write_into k cfg time) = TypedConfig cfg
 Allowed (put_in k call) = WriteTyped call × (is_data (command_of call) ≡ false)
-Allowed (write_astray p b cfg time) = check_of cfg ≡ Done → payload_valid p (length b) ≡ false
+Allowed (write_astray p b cfg time) = check_of cfg ≡ Ok tt → payload_valid p (length b) ≡ false
 
 abbrev pub AllAllowed : List Call → Type 0
 AllAllowed [] = Unit {0}
@@ -148,9 +145,9 @@ AllAllowed (call ∷ calls) = Allowed call × AllAllowed calls
 -- ---- over the log
 
 -- accepted: the words of unrefused queue calls, joined in order
-abbrev pub taken : Outcome → List ℕ → List ℕ
-taken Done ws = ws
-taken (Refused why) ws = []
+abbrev pub taken : Result ⊤ Refusal → List ℕ → List ℕ
+taken (Ok _) ws = ws
+taken (Err why) ws = []
 
 abbrev pub accepted : List Entry → List ℕ
 accepted [] = []
@@ -199,6 +196,6 @@ position_of (g ∷ w) k i = cond (eqb k g.payload && eqb i g.index) (position (c
 
 -- payload k was v at some moment: the bytes that a sending at that moment puts on the line
 pub data Was : List Entry → ℕ → Lent → Type 0 where
-  was_wrote : (t : List Entry) (k : ℕ) (u v : Lent) (a : Writing) → Was (wrote k u v a ∷ t) k v
+  was_wrote : (t : List Entry) (k : ℕ) (u v : Lent) (a : Result Written Refusal) → Was (wrote k u v a ∷ t) k v
   was_stood : (t : List Entry) (k : ℕ) (v : Lent) → Was (stood k v ∷ t) k v
   was : {t : List Entry} {k : ℕ} {v : Lent} (e : Entry) → Was t k v → Was (e ∷ t) k v

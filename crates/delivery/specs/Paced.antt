@@ -1,8 +1,7 @@
 -- 02, 14/14: the calls of a console with which its sender brings what `Brings` asks. One command of at most s words for each write, no requests, and room for R + 1 such
 -- commands in each payload and in the history. Without that room repeats are dropped or have left (proofs/PacedExample.antt).
-use Rattle.std.specs.Prelude.{ℕ, suc, ◌+◌, ◌*◌, ◌≤◌, ◌≡◌, List, [], ◌∷◌, length}
+use Rattle.std.specs.Prelude.{ℕ, suc, ◌+◌, ◌*◌, ◌≤◌, ◌≡◌, List, [], ◌∷◌, length, Ok}
 use Rattle.config.specs.Settings.{check_of}
-use Rattle.config.specs.declared.answer.Outcome.TheVariants.{Done}
 use Rattle.config.specs.declared.settings.StreamConfig.{StreamConfig}
 use Rattle.delivery.specs.Console.{Lent, Call, open_payload, lend_again, queue_words, retransmit_request, write_into, put_in, write_astray, Console, payload_at, step_of, fresh_console, positions}
 use Rattle.delivery.specs.Repeats.{Brings, Arrives, heard_commands, written_payloads, AllHandedOn}
@@ -18,7 +17,7 @@ history_need R s = (R + 1) * (1 + s)
 
 -- a write with settings that pass and R repeats, into a payload that is empty and has the room
 pub record Ready (R s : ℕ) (cfg : StreamConfig) (v : Lent) : Type 0 where
-  pub passes : check_of cfg ≡ Done
+  pub passes : check_of cfg ≡ Ok tt
   pub repeats : cfg.fec_repeats ≡ R
   pub empty : v.payload.len ≡ 0
   pub limit : payload_need R s ≤ v.payload.max
@@ -53,7 +52,7 @@ rounds_from k (r ∷ rs) =
     open_payload r.limit r.buffer ∷ queue_words r.settings r.words ∷ write_into k r.settings r.time ∷ rounds_from (suc k) rs
 
 pub record Fits (R s : ℕ) (r : Round) : Type 0 where
-  pub passes : check_of r.settings ≡ Done
+  pub passes : check_of r.settings ≡ Ok tt
   pub repeats : r.settings.fec_repeats ≡ R
   pub size : s ≤ r.settings.max_command_words
   pub few : length r.words ≤ s

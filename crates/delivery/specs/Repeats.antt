@@ -1,8 +1,7 @@
 -- 02, 14/14: what repeats alone guarantee, to houses without a return cable. Both ends start fresh and no history is shared, as in demand 3 (`Run`).
-use Rattle.std.specs.Prelude.{ℕ, zero, suc, ◌+◌, ◌-◌, ◌≤◌, ◌<◌, min, ◌≡◌, cond, List, [], ◌∷◌, ◌++◌, eqb, length, get_or}
+use Rattle.std.specs.Prelude.{ℕ, zero, suc, ◌+◌, ◌-◌, ◌≤◌, ◌<◌, min, ◌≡◌, cond, List, [], ◌∷◌, ◌++◌, eqb, length, get_or, Ok, Err}
 use Rattle.window.specs.declared.window.Class.{Class}
 use Rattle.window.specs.declared.window.Class.TheVariants.{New}
-use Rattle.receiver.specs.declared.receiver.Hearing.TheVariants.{Delivery as Delivered, Refused as HearingRefused}
 use Rattle.receiver_log.specs.Calls.{Entry as Heard, data_entry, poll_entry, error_entry, nak_entry, take_entry}
 use Rattle.receiver_log.specs.Log.{Report, heard, told, origin, place, high, hands}
 use Rattle.delivery.specs.Commands.{Command, data_of}
@@ -68,8 +67,8 @@ pub data Arrives (R : ℕ) (t : List Entry) : ℕ → List Command → Type 0 wh
 -- the data commands that the receiver is given and does not refuse, in order
 abbrev pub heard_commands : List Heard → List Command
 heard_commands [] = []
-heard_commands (data_entry s time seq ws (Delivered d) ∷ q) = heard_commands q ++ (record { number = seq; words = ws } ∷ [])
-heard_commands (data_entry s time seq ws (HearingRefused why) ∷ q) = heard_commands q
+heard_commands (data_entry s time seq ws (Ok d) ∷ q) = heard_commands q ++ (record { number = seq; words = ws } ∷ [])
+heard_commands (data_entry s time seq ws (Err why) ∷ q) = heard_commands q
 heard_commands (poll_entry s time e ∷ q) = heard_commands q
 heard_commands (error_entry r e ∷ q) = heard_commands q
 heard_commands (nak_entry e ∷ q) = heard_commands q

@@ -1,22 +1,19 @@
 -- Demand 3. First sentence: if all that was accepted is written, the sender's newest position, if any, is heard, no loss is reported and nothing is missing, then what
 -- is handed on, joined in order of command position, is the accepted message list. Second sentence: crate receiver_log.
-use Rattle.std.specs.Prelude.{ℕ, ◌+◌, ◌-◌, ◌%◌, ◌≤◌, ◌<◌, max, ◌≡◌, false, ◌⊎◌, ◌↔◌, length, get_or}
+use Rattle.std.specs.Prelude.{ℕ, ◌+◌, ◌-◌, ◌%◌, ◌≤◌, ◌<◌, max, ◌≡◌, false, ◌⊎◌, ◌↔◌, length, get_or, None, Ok}
 use mathlib.Core.List.{List, [], ◌∷◌, ◌++◌, Memᴰ}
 use Rattle.config.specs.Sequence.{turn}
 use Rattle.config.specs.declared.settings.StreamConfig.{StreamConfig}
 use Rattle.window.specs.Set.{max_window}
 use Rattle.window.specs.Arrival.{reach}
 use Rattle.window.specs.declared.window.Class.{Class}
-use Rattle.window.specs.declared.window.Span.TheVariants.{Nothing}
 use Rattle.receiver.specs.declared.receiver.Delivery.{Delivery}
-use Rattle.receiver.specs.declared.receiver.Hearing.TheVariants.{Delivery as Delivered}
 use Rattle.receiver_log.specs.Calls.{Entry as Heard, data_entry, AllTyped}
 use Rattle.receiver_log.specs.Calls as Chamber
 use Rattle.receiver_log.specs.Log.{Report, reports, loss_of, origin, high, times, Missing}
 use Rattle.receiver_log.specs.Promise.{log_of, ReceiverPromise}
 use Rattle.sender.specs.Answers.{new_answer}
 use Rattle.command.specs.Messages.{words_in}
-use Rattle.config.specs.declared.answer.Outcome.TheVariants.{Done}
 use Rattle.delivery.specs.Commands.{Command, data_of}
 use Rattle.delivery.specs.Console.{Lent, bytes, Call, Entry, log_from, fresh_console, AllAllowed, accepted, written, positions, position_of, Was}
 use Rattle.delivery.specs.Performance.{SamePerformance}
@@ -40,7 +37,7 @@ pub data Line (t : List Entry) : List Heard → List ℕ → Type 0 where
       → (p : ℕ) → p ≡ position_of (written t) k (length before)
       → origin + p ≤ highest ps + reach → highest ps ≤ origin + p + (reach + 1)
       → (cfg : StreamConfig) (time : ℕ) (d : Delivery)
-      → Line t (data_entry cfg time c.number c.words (Delivered d) ∷ q) (p ∷ ps)
+      → Line t (data_entry cfg time c.number c.words (Ok d) ∷ q) (p ∷ ps)
   -- any other call, and a data command that is refused, from wherever it came
   pass : {q : List Heard} {ps : List ℕ} → Line t q ps → (e : Heard) → is_heard e ≡ false → Line t (e ∷ q) ps
 
@@ -49,7 +46,7 @@ pub data Line (t : List Entry) : List Heard → List ℕ → Type 0 where
 -- no answer reports a loss
 abbrev pub NoLoss : List Report → Type 0
 NoLoss [] = Unit {0}
-NoLoss (r ∷ t) = (loss_of r ≡ Nothing) × NoLoss t
+NoLoss (r ∷ t) = (loss_of r ≡ None) × NoLoss t
 
 pub record Premises (W : ℕ) (t : List Entry) (q : List Heard) (ps : List ℕ) : Type 0 where
   pub line : Line t q ps
@@ -85,7 +82,7 @@ pub record Run : Type 0 where
   pub words : ℕ
   pub places : ℕ
   pub ring₀ : List ℕ
-  pub started : (new_answer words places ring₀).0.answer ≡ Done
+  pub started : (new_answer words places ring₀).0.answer ≡ Ok tt
   pub calls : List Call
   pub allowed : AllAllowed calls
   pub window : ℕ
@@ -143,4 +140,4 @@ pub record Contract : Type 0 where
 abbrev pub HandedWords : Type 0
 HandedWords =
     (u : Run) (ps : List ℕ) → Line (sent_log u) (heard_log u) ps
-    → (cfg : StreamConfig) (time seq : ℕ) (ws : List ℕ) (d : Delivery) → Memᴰ (data_entry cfg time seq ws (Delivered d)) (heard_log u) → AllHanded d.class ws
+    → (cfg : StreamConfig) (time seq : ℕ) (ws : List ℕ) (d : Delivery) → Memᴰ (data_entry cfg time seq ws (Ok d)) (heard_log u) → AllHanded d.class ws

@@ -9,97 +9,47 @@
 
 use load::load::{Jump, Load};
 use std::io;
-use text::lines::Input;
-use text::{blocks, fields, lines, out};
+use text::fields::Fields;
+use text::lines::Lines;
+use text::out::Output;
+use text::{blocks, lines};
 
-// A figure, and the byte after it.
-fn figure(rt: &impl Print, to: &mut [u8], used: usize, n: u64, then: u8) -> io::Result<usize> {
-    let o = out::decimal(rt, to, used, n)?;
-    out::byte(rt, to, o, then)
+// A draw, as its value, the words that it asks to send, and the rounds of the jump to it.
+fn drawn(out: &mut Output<'_, impl Print>, jump: Jump) -> io::Result<()> {
+    out.hex(&jump.load.last.to_be_bytes())?;
+    out.byte(b' ')?;
+    out.decimal(jump.load.words().count as u64)?;
+    out.byte(b' ')?;
+    out.decimal(u64::from(jump.rounds))
 }
 
-fn jumped(rt: &impl Print, to: &mut [u8], used: usize, jump: Jump) -> io::Result<usize> {
-    let load = jump.load;
-    let asked = load.words();
-    let o = out::hex(rt, to, used, load.last as u64, out::WORD)?;
-    let o = out::byte(rt, to, o, b' ')?;
-    let o = figure(rt, to, o, asked.count as u64, b' ')?;
-    figure(rt, to, o, jump.rounds as u64, b'\n')
+// The draw that a line asks for.
+fn asked(line: &[u8]) -> Option<Jump> {
+    if lines::LIMIT < line.len() {
+        return None;
+    }
+    let mut fields = Fields::new(line);
+    let last = fields.figure(0xFFFF_FFFF)? as u32;
+    let n = fields.figure(0xFFFF)? as u16;
+    fields.is_done().then_some(Load { last }.jump(n))
 }
 
-fn bad(rt: &impl Print, to: &mut [u8], used: usize) -> io::Result<usize> {
-    let o = out::byte(rt, to, used, b'b')?;
-    let o = out::byte(rt, to, o, b'a')?;
-    let o = out::byte(rt, to, o, b'd')?;
-    out::byte(rt, to, o, b'\n')
-}
-
-// The answer to a line. A blank stands before it, so that each of its fields follows one.
-fn answered(rt: &impl Print, to: &mut [u8], used: usize, line: &[u8]) -> io::Result<usize> {
-    if line.len() == 0 {
-        return Ok(used);
+// The answer to a line.
+fn answer(out: &mut Output<'_, impl Print>, line: &[u8]) -> io::Result<()> {
+    match asked(line) {
+        Some(jump) => drawn(out, jump)?,
+        None => out.text(b"bad")?,
     }
-    if lines::skipped(&line[1..]) {
-        return Ok(used);
-    }
-    if lines::LIMIT < line.len() - 1 {
-        return bad(rt, to, used);
-    }
-    let seed = fields::figure(line, 0, 0xFFFF_FFFF);
-    let n = fields::figure(line, seed.next, 0xFFFF);
-    if n.next == line.len() {
-        let load = Load {
-            last: seed.n as u32,
-        };
-        return jumped(rt, to, used, load.jump(n.n as u16));
-    }
-    bad(rt, to, used)
-}
-
-// The answer to the line of `n` bytes behind the blank; none where fewer are there.
-fn whole(rt: &impl Print, to: &mut [u8], used: usize, line: &[u8], n: usize) -> io::Result<usize> {
-    if line.len() <= n {
-        return Ok(used);
-    }
-    let m = lines::lent(line, n + 1);
-    answered(rt, to, used, &line[..m])
-}
-
-// Gathers the next line after the blank.
-fn next(
-    rt: &(impl Print + io::Input),
-    from: Input,
-    input: &mut [u8],
-    line: &mut [u8],
-    to: &[u8],
-) -> io::Result<Input> {
-    if line.len() == 0 {
-        return Ok(from);
-    }
-    lines::next(rt, from, from.waits, input, &mut line[1..], to)
-}
-
-// Line after line. A proved loop has to end, and nothing says that the input does: it counts down from a
-// number that no run uses up.
-fn all(
-    rt: &(impl Print + io::Input),
-    input: &mut [u8],
-    line: &mut [u8],
-    to: &mut [u8],
-) -> io::Result<()> {
-    let mut from = Input::new();
-    let mut turns = u64::MAX;
-    while 0 < turns {
-        from = next(rt, from, input, line, &to[..])?;
-        from.waits = whole(rt, to, from.waits, &line[..], from.line)?;
-        turns = lines::to_go(turns, from.more);
-    }
-    out::flush(rt, &to[..], from.waits)
+    out.byte(b'\n')
 }
 
 fn main(rt: HostRuntime) -> io::Result<()> {
     let mut input = [0u8; blocks::SIZE];
     let mut to = [0u8; blocks::SIZE];
-    let mut line = [b' '; 4099];
-    all(&rt, &mut input, &mut line, &mut to)
+    let mut line = [0u8; 4098];
+    let mut lines = Lines::new(&rt, &mut input, &mut line);
+    lines.each(
+        &mut Output::new(&rt, &mut to),
+        |out, line| answer(out, line),
+    )
 }

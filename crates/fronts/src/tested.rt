@@ -31,6 +31,7 @@ pub fn fit(words: &[u32], max: usize) -> bool
         return true;
     }
     let mut at = 0;
+    // A `while`: the next index depends on the word that was read.
     while at < words.len() {
         let m = message_words(words[at]);
         if max < m {
@@ -48,6 +49,7 @@ pub fn commands(words: &[u32], max: usize) -> usize
 {
     let mut at = 0;
     let mut count = 0;
+    // A `while`: the next index depends on the words of the front.
     while at < words.len() {
         at += front_words(&words[at..], max);
         count += 1;

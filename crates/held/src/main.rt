@@ -16,332 +16,208 @@
 // `bad`.
 #![tactic(auto)]
 
+ghost use Rattle.std.specs.Prelude.{IfSome};
+ghost use Rattle.text.specs.Counts.{IsPrefixLen};
+
 use command::retransmit::RetransmitError;
-use config::answer::Outcome;
 use held_notes::held::{Given, HeldNotes};
 use held_notes::listing::Notes;
 use held_notes::{held, listing};
-use receiver::receiver::{Delivery, Hearing, StreamEvent};
+use receiver::receiver::{Delivery, StreamEvent};
 use std::io;
-use text::forms::Answer;
-use text::lines::Input;
-use text::{blocks, forms, lines, out};
-use window::window::{Class, SeqRange, Span};
-
-// The entries of the table in `line_of`, in its order; 0 is no call, and the others are deliveries.
-const GROUP: usize = 1;
-
-const LATE: usize = 3;
-
-const DUP: usize = 4;
-
-const NEWLOSS: usize = 5;
-
-const LOSS: usize = 6;
-
-const ERROR: usize = 7;
-
-const RESTART: usize = 8;
-
-const HELD: usize = 9;
-
-// The entries of the table in `say`, in its order.
-const BAD: usize = 0;
-
-const GIVES: usize = 1;
-
-const HOLDS: usize = 2;
-
-const REFUSES: usize = 3;
-
-const NOTE: usize = 4;
+use std::io::Write;
+use text::forms::{Call, Form};
+use text::lines::Lines;
+use text::out::Output;
+use text::{blocks, forms, lines};
+use window::window::{Class, SeqRange};
 
 #[derive(Clone, Copy)]
-struct Session {
-    state: HeldNotes,
-    // A `group` came.
-    started: bool,
-    // The bytes of output that wait to be written.
-    waits: usize,
+enum Kind {
+    Group,
+    New,
+    Late,
+    Dup,
+    NewLoss,
+    Loss,
+    Error,
+    Restart,
+    Held,
 }
+
+const CALLS: [Form<Kind>; 9] = [
+    Form {
+        kind: Kind::Group,
+        name: "group",
+        fields: "8",
+    },
+    Form {
+        kind: Kind::New,
+        name: "new",
+        fields: "*",
+    },
+    Form {
+        kind: Kind::Late,
+        name: "late",
+        fields: "*",
+    },
+    Form {
+        kind: Kind::Dup,
+        name: "dup",
+        fields: "*",
+    },
+    Form {
+        kind: Kind::NewLoss,
+        name: "newloss",
+        fields: "*",
+    },
+    Form {
+        kind: Kind::Loss,
+        name: "loss",
+        fields: "",
+    },
+    Form {
+        kind: Kind::Error,
+        name: "error",
+        fields: "",
+    },
+    Form {
+        kind: Kind::Restart,
+        name: "restart",
+        fields: "",
+    },
+    Form {
+        kind: Kind::Held,
+        name: "held",
+        fields: "",
+    },
+];
 
 // ---- printing
 
-fn say(
-    rt: &impl Print,
-    to: &mut [u8],
-    used: usize,
-    form: usize,
-    a: u64,
-    b: u64,
-) -> io::Result<usize> {
-    let said = Answer {
-        form,
-        a,
-        b,
-        c: 0,
-        d: 0,
-    };
-    forms::say(rt, to, used, b"bad|given|held|refused #| #:#|", said)
-}
-
-// An answer that is its line.
-fn say_line(rt: &impl Print, to: &mut [u8], used: usize, form: usize, a: u64) -> io::Result<usize> {
-    let o = say(rt, to, used, form, a, 0)?;
-    out::byte(rt, to, o, b'\n')
-}
-
-// A note, if it is one of those to be shown.
-fn one(rt: &impl Print, to: &mut [u8], used: usize, note: u16, shown: bool) -> io::Result<usize> {
-    if shown {
-        return say(rt, to, used, NOTE, (note / 128) as u64, (note % 128) as u64);
-    }
-    Ok(used)
-}
-
-// The first `count` notes.
-fn several(
-    rt: &impl Print,
-    to: &mut [u8],
-    used: usize,
-    items: &[u16],
-    count: usize,
-) -> io::Result<usize> {
-    let mut o = used;
-    let mut i = 0;
-    while i < items.len() {
-        o = one(rt, to, o, items[i], i < count)?;
-        i += 1;
-    }
-    Ok(o)
-}
-
-// An answer and its notes.
-fn printed(
-    rt: &impl Print,
-    to: &mut [u8],
-    used: usize,
-    form: usize,
-    notes: Notes,
-) -> io::Result<usize> {
+fn listed(out: &mut impl Write, notes: Notes) -> io::Result<()> {
     let items = notes.items;
-    let o = say(rt, to, used, form, 0, 0)?;
-    let o = several(rt, to, o, &items[..], notes.count)?;
-    out::byte(rt, to, o, b'\n')
+    let n = notes.count.min(items.len());
+    for &note in &items[..n] {
+        write!(out, " {}:{}", note / 128, note % 128)?;
+    }
+    writeln!(out)
 }
 
 // What a call gave.
-fn shown(rt: &impl Print, to: &mut [u8], used: usize, given: Given) -> io::Result<usize> {
-    let answer = given.answer;
-    let notes = given.notes;
-    match answer {
-        Outcome::Done => printed(rt, to, used, GIVES, notes),
-        Outcome::Refused(why) => { say_line(rt, to, used, REFUSES, why.number() as u64) }
+fn shown(out: &mut impl Write, given: Given) -> io::Result<()> {
+    match given.answer {
+        Ok(()) => {
+            write!(out, "given")?;
+            listed(out, given.notes)
+        }
+        Err(why) => writeln!(out, "refused {}", why.number()),
     }
 }
 
 // ---- calls
 
-// A byte of a command, where there is room.
-fn put(body: &mut [u8], at: usize, b: u32) -> usize {
-    if at < body.len() {
-        body[at] = (b % 0x100) as u8;
-        return at + 1;
-    }
-    at
-}
-
-// The bytes of a word.
-fn put_word(body: &mut [u8], at: usize, w: u32) -> usize {
-    let a = put(body, at, w / 0x100_0000);
-    let a = put(body, a, w / 0x1_0000);
-    let a = put(body, a, w / 0x100);
-    put(body, a, w)
-}
-
-// The bytes of a command's words, and how many they are.
-fn spread(body: &mut [u8], words: &[u32]) -> usize {
-    let mut n = 0;
-    let mut k = 0;
-    while k < words.len() {
-        n = put_word(body, n, words[k]);
-        k += 1;
-    }
-    n
-}
-
-fn class_of(kind: usize) -> Class {
-    match kind {
-        LATE => Class::Late,
-        DUP => Class::Duplicate,
-        _ => Class::New(0),
-    }
-}
-
-fn span_of(kind: usize) -> Span {
-    if kind == NEWLOSS {
-        return Span::Of(SeqRange { first: 0, count: 1 });
-    }
-    Span::Nothing
-}
-
 // A delivery that was not refused: its number and its gap are looked at by nobody.
-fn hearing_of(kind: usize) -> Hearing {
-    let class = class_of(kind);
-    let lost = span_of(kind);
-    Hearing::Delivery(Delivery {
+fn delivered(state: HeldNotes, class: Class, lost: Option<SeqRange>, words: &[u32]) -> Given {
+    let mut body = [0u8; 1020];
+    for (bytes, word) in body.chunks_exact_mut(4).zip(words) {
+        bytes.copy_from_slice(&word.to_be_bytes());
+    }
+    let n = 4 * words.len().min(255);
+    let hearing = Ok(Delivery {
         seq: 0,
         class,
-        gap: Span::Nothing,
+        gap: None,
         lost,
-    })
+    });
+    held::delivered(state, hearing, &body[..n])
 }
 
-fn delivered(state: HeldNotes, kind: usize, words: &[u32]) -> Given {
-    let mut body = [0u8; 1020];
-    let n = spread(&mut body, words);
-    let m = lines::lent(&body[..], n);
-    held::delivered(state, hearing_of(kind), &body[..m])
-}
-
-fn event_of(kind: usize) -> StreamEvent {
-    if kind == LOSS {
-        return StreamEvent::DataLoss(SeqRange { first: 0, count: 1 });
-    }
-    StreamEvent::RetransmitError(RetransmitError { reason: 0, seq: 0 })
+// A loss of a number that nobody looks at.
+fn loss() -> SeqRange {
+    SeqRange { first: 0, count: 1 }
 }
 
 // A group as wide as its field: all above 15 are refused alike.
 fn byte_of(n: u64) -> u8 {
-    if n < 0xFF {
-        return n as u8;
-    }
-    0xFF
+    u8::try_from(n).unwrap_or(u8::MAX)
 }
 
-fn called(state: HeldNotes, kind: usize, figure: u64, words: &[u32]) -> Given {
-    match kind {
-        GROUP => held::start(byte_of(figure)),
-        LOSS | ERROR => held::told(state, event_of(kind)),
-        RESTART => held::restarted(state),
-        _ => delivered(state, kind, words),
-    }
+// Keeps the state after a call, and prints what the call gave.
+fn told(out: &mut impl Write, state: &mut Option<HeldNotes>, given: Given) -> io::Result<()> {
+    *state = Some(given.state);
+    shown(out, given)
 }
 
-// Whether a line is a call: `group` always, the others after the first one.
-fn is_call(kind: usize, started: bool) -> bool {
-    if kind == GROUP {
-        return true;
+// The call of a line.
+fn read(line: &[u8], figures: &mut [u64], words: &mut [u32]) -> Option<Call<Kind>>
+    ensures { IfSome result (λ c. IsPrefixLen c.words words.new) }
+{
+    if lines::LIMIT < line.len() {
+        return None;
     }
-    if kind == 0 {
-        return false;
-    }
-    started
+    forms::read(&CALLS, line, figures, words)
 }
 
+// Runs a call; without a state, which the first `group` brings, none but that.
 fn run(
-    rt: &impl Print,
-    s: Session,
-    kind: usize,
+    out: &mut impl Write,
+    state: &mut Option<HeldNotes>,
+    kind: Kind,
     figure: u64,
     words: &[u32],
-    to: &mut [u8],
-) -> io::Result<Session> {
-    let state = s.state;
-    if is_call(kind, s.started) {
-        if kind == HELD {
-            let held = state.held;
-            let waits = printed(rt, to, s.waits, HOLDS, listing::listed(held))?;
-            return Ok(Session {
-                state,
-                started: true,
-                waits,
-            });
+) -> io::Result<()> {
+    match (kind, *state) {
+        (Kind::Group, _) => told(out, state, held::start(byte_of(figure))),
+        (_, None) => writeln!(out, "bad"),
+        (Kind::Held, Some(s)) => {
+            write!(out, "held")?;
+            listed(out, listing::listed(s.held))
         }
-        let given = called(state, kind, figure, words);
-        let after = given.state;
-        let waits = shown(rt, to, s.waits, given)?;
-        return Ok(Session {
-            state: after,
-            started: true,
-            waits,
-        });
+        (Kind::New, Some(s)) => told(out, state, delivered(s, Class::New(0), None, words)),
+        (Kind::Late, Some(s)) => told(out, state, delivered(s, Class::Late, None, words)),
+        (Kind::Dup, Some(s)) => { told(out, state, delivered(s, Class::Duplicate, None, words)) }
+        (Kind::NewLoss, Some(s)) => {
+            told(out, state, delivered(s, Class::New(0), Some(loss()), words))
+        }
+        (Kind::Loss, Some(s)) => told(
+            out,
+            state,
+            held::told(s, Ok(Some(StreamEvent::DataLoss(loss())))),
+        ),
+        (Kind::Error, Some(s)) => {
+            let error = RetransmitError { reason: 0, seq: 0 };
+            told(
+                out,
+                state,
+                held::told(s, Ok(Some(StreamEvent::RetransmitError(error)))),
+            )
+        }
+        (Kind::Restart, Some(s)) => told(out, state, held::restarted(s)),
     }
-    let waits = say_line(rt, to, s.waits, BAD, 0)?;
-    Ok(Session {
-        state,
-        started: s.started,
-        waits,
-    })
 }
 
-// A line without its end.
-fn line_of(rt: &impl Print, s: Session, line: &[u8], to: &mut [u8]) -> io::Result<Session> {
-    if lines::skipped(line) {
-        return Ok(s);
-    }
+// The answer to a line.
+fn answer(out: &mut impl Write, state: &mut Option<HeldNotes>, line: &[u8]) -> io::Result<()> {
     let mut figures = [0u64; 1];
     let mut words = [0u32; 255];
-    let c = forms::read(
-        b"group 8|new *|late *|dup *|newloss *|loss |error |restart |held |",
-        line,
-        &mut figures,
-        &mut words,
-    );
-    let n = c.words;
-    if lines::LIMIT < line.len() {
-        return run(rt, s, 0, 0, &words[..n], to);
+    match read(line, &mut figures, &mut words) {
+        Some(call) => {
+            let n = call.words;
+            run(out, state, call.kind, figures[0], &words[..n])
+        }
+        None => writeln!(out, "bad"),
     }
-    run(rt, s, c.kind, figures[0], &words[..n], to)
-}
-
-// The line that was gathered.
-fn whole(
-    rt: &impl Print,
-    s: Session,
-    from: Input,
-    line: &[u8],
-    to: &mut [u8],
-) -> io::Result<Session> {
-    let n = lines::lent(line, from.line);
-    let mut at = s;
-    at.waits = from.waits;
-    line_of(rt, at, &line[..n], to)
-}
-
-fn first() -> Session {
-    Session {
-        state: HeldNotes {
-            group: 0,
-            held: [0u64; 32],
-        },
-        started: false,
-        waits: 0,
-    }
-}
-
-// Line after line. A proved loop has to end, and nothing says that the input does: it counts down from a
-// number that no run uses up.
-fn all(
-    rt: &(impl Print + io::Input),
-    input: &mut [u8],
-    line: &mut [u8],
-    to: &mut [u8],
-) -> io::Result<()> {
-    let mut session = first();
-    let mut from = Input::new();
-    let mut turns = u64::MAX;
-    while 0 < turns {
-        from = lines::next(rt, from, session.waits, input, line, &to[..])?;
-        session = whole(rt, session, from, &line[..], to)?;
-        turns = lines::to_go(turns, from.more);
-    }
-    out::flush(rt, &to[..], session.waits)
 }
 
 fn main(rt: HostRuntime) -> io::Result<()> {
     let mut input = [0u8; blocks::SIZE];
     let mut to = [0u8; blocks::SIZE];
     let mut line = [0u8; 4098];
-    all(&rt, &mut input, &mut line, &mut to)
+    let mut lines = Lines::new(&rt, &mut input, &mut line);
+    let mut state = None;
+    lines.each(
+        &mut Output::new(&rt, &mut to),
+        |out, line| answer(out, &mut state, line),
+    )
 }

@@ -4,6 +4,7 @@
 --   payload 2   an on for 3E       position 2   arrives third: New
 -- The chamber holds 3E, and what was accepted leaves it held. It does not hold 3C, though what was accepted leaves that held too: the converse of the theorem is false.
 use Prim.Native.Nat.{ℕ, zero, suc, ◌+◌, ◌≤◌, ◌<◌}
+use Rattle.std.proofs.Common.{Some, None, Ok}
 use mathlib.Core.Path.{◌≡◌, refl, sym, ◌∙◌}
 use mathlib.Core.Logic.{inl, inr}
 use mathlib.Core.Bool.{true, false}
@@ -31,14 +32,11 @@ use Rattle.fronts.specs.Commands.{fitting, front, behind, commands_in, commands_
 use Rattle.sender.specs.State.{valid_of}
 use Rattle.sender.specs.Queueing.{room_of, need_of, joined_to, pushed_all, queued_to, queued_of, words_check, placed_of, sent_of}
 use Rattle.writing.specs.Writing.{served_in, served_of, idled_of, written_off, new_of, written_by}
-use Rattle.config.specs.declared.answer.Outcome.TheVariants.{Done}
 use Rattle.window.specs.declared.window.Class.TheVariants.{New, Late}
-use Rattle.window.specs.declared.window.Span.TheVariants.{Nothing, Of}
 use Rattle.idle.specs.Schedule.{idle_next}
 use Rattle.rows.specs.Rows.{row_of, packets_from, sizes_of, any_words}
 use Rattle.rows.specs.Choice.{repeats_of}
 use Rattle.receiver.specs.Receiver.{due_after}
-use Rattle.receiver.specs.declared.receiver.Hearing.TheVariants.{Delivery as Delivered}
 use Rattle.receiver_log.specs.Calls.{data_command, Entry as Heard, data_entry, AllTyped}
 use Rattle.receiver_log.specs.Calls as Chamber
 use Rattle.receiver_log.specs.Log.{reports, origin, is_ahead, place, start, high, times, unprocessed, Missing}
@@ -85,9 +83,9 @@ payload2 = full 12 (0x4D494449 ∷ 0xFF010002 ∷ C)
 
 abbrev sent : List Entry
 sent =
-    wrote 2 (empty 12) payload2 (all 1) ∷ queued (settings 0) C Done ∷ stood 2 (empty 12)
-    ∷ wrote 1 (empty 12) payload1 (all 1) ∷ queued (settings 0) B Done ∷ stood 1 (empty 12)
-    ∷ wrote 0 (empty 12) payload0 (all 1) ∷ queued (settings 0) A Done ∷ stood 0 (empty 12)
+    wrote 2 (empty 12) payload2 (all 1) ∷ queued (settings 0) C (Ok tt) ∷ stood 2 (empty 12)
+    ∷ wrote 1 (empty 12) payload1 (all 1) ∷ queued (settings 0) B (Ok tt) ∷ stood 1 (empty 12)
+    ∷ wrote 0 (empty 12) payload0 (all 1) ∷ queued (settings 0) A (Ok tt) ∷ stood 0 (empty 12)
     ∷ []
 
 sent_is : log_from (fresh_console 65 4 (zeros 65)) [] calls ≡ sent
@@ -101,9 +99,9 @@ arrivals = data_command (settings 0) 6 1 B ∷ data_command (settings 0) 7 0 A �
 
 abbrev arrived : List Heard
 arrived =
-    data_entry (settings 0) 11 2 C (Delivered (delivery 2 (New 0) Nothing))
-    ∷ data_entry (settings 0) 7 0 A (Delivered (delivery 0 Late Nothing))
-    ∷ data_entry (settings 0) 6 1 B (Delivered (delivery 1 (New 1) (Of record { first = 0; count = 1 })))
+    data_entry (settings 0) 11 2 C (Ok (delivery 2 (New 0) None))
+    ∷ data_entry (settings 0) 7 0 A (Ok (delivery 0 Late None))
+    ∷ data_entry (settings 0) 6 1 B (Ok (delivery 1 (New 1) (Some record { first = 0; count = 1 })))
     ∷ []
 
 typed : AllTyped arrivals
@@ -196,7 +194,7 @@ allowed : AllAllowed calls
 unfolding Words32
 allowed = omega arith
 
-started : (new_answer 65 4 (zeros 65)).0.answer ≡ Done
+started : (new_answer 65 4 (zeros 65)).0.answer ≡ Ok tt
 unfolding new_answer
 started = refl
 

@@ -1,5 +1,6 @@
 -- What is handed on at each place, and joined in order of place, as messages.
 use Prim.Native.Nat.{ℕ, zero, suc, ◌+◌, ◌≤◌, ◌<◌}
+use Rattle.std.proofs.Common.{Ok, Err}
 use mathlib.Core.Path.{◌≡◌, refl, ap, ap₂, sym, ◌∙◌}
 use mathlib.Core.Logic.{inl, inr}
 use mathlib.Core.Bool.{Bool, true, false, cond}
@@ -13,7 +14,6 @@ use Rattle.window.specs.declared.window.Class.{Class}
 use Rattle.window.specs.declared.window.Class.TheVariants.{New, Late, Duplicate}
 use Rattle.receiver.specs.Messages.{handed_words}
 use Rattle.receiver.specs.declared.receiver.Delivery.{Delivery}
-use Rattle.receiver.specs.declared.receiver.Hearing.TheVariants.{Delivery as Delivered, Refused as HearingRefused}
 use Rattle.receiver_log.specs.Calls.{Entry, data_entry, poll_entry, error_entry, nak_entry, take_entry}
 use Rattle.receiver_log.specs.Log.{Report, heard, told, reports, origin, place, high, hands, hands_on, times}
 use Rattle.receiver_log.specs.Promise.{Promise}
@@ -78,12 +78,12 @@ AllWhole (heard seq ws c l ∷ t) = (handed_words c ws ≡ cond (hands c) ws [])
 AllWhole (told l ∷ t) = AllWhole t
 
 pub all_whole : (log : List Entry)
-    → ((cfg : StreamConfig) (time seq : ℕ) (ws : List ℕ) (d : Delivery) → Memᴰ (data_entry cfg time seq ws (Delivered d)) log → AllHanded d.class ws)
+    → ((cfg : StreamConfig) (time seq : ℕ) (ws : List ℕ) (d : Delivery) → Memᴰ (data_entry cfg time seq ws (Ok d)) log → AllHanded d.class ws)
     → AllWhole (reports log)
 all_whole [] f = tt
-all_whole (data_entry s time seq ws (Delivered d) ∷ t) f =
+all_whole (data_entry s time seq ws (Ok d) ∷ t) f =
     ((f s time seq ws d (Memᴰ.head refl)).words, all_whole t (λ cfg time seq ws d m. f cfg time seq ws d (Memᴰ.tail m)))
-all_whole (data_entry s time seq ws (HearingRefused why) ∷ t) f = all_whole t (λ cfg time seq ws d m. f cfg time seq ws d (Memᴰ.tail m))
+all_whole (data_entry s time seq ws (Err why) ∷ t) f = all_whole t (λ cfg time seq ws d m. f cfg time seq ws d (Memᴰ.tail m))
 all_whole (poll_entry s time e ∷ t) f = all_whole t (λ cfg time seq ws d m. f cfg time seq ws d (Memᴰ.tail m))
 all_whole (error_entry q e ∷ t) f = all_whole t (λ cfg time seq ws d m. f cfg time seq ws d (Memᴰ.tail m))
 all_whole (nak_entry e ∷ t) f = all_whole t (λ cfg time seq ws d m. f cfg time seq ws d (Memᴰ.tail m))

@@ -1,5 +1,10 @@
 -- What a receiver's answers say of its log: a New command is above all before, and a loss lies wholly at or below the highest.
 use Prim.Native.Nat.{ℕ, zero, suc, ◌+◌, ◌-◌, ◌%◌, ◌≤◌, ◌<◌, max}
+use Rattle.std.proofs.Common.{Option, Some, None, Result, Ok, Err}
+use Rattle.command.specs.declared.retransmit.RetransmitRequest.{RetransmitRequest}
+use Rattle.config.specs.declared.refusal.Refusal.{Refusal}
+use Rattle.window.specs.declared.window.SeqRange.{SeqRange}
+use Rattle.std.specs.Bool.{⊤}
 use mathlib.Core.Path.{◌≡◌, refl}
 use mathlib.Core.Logic.{◌⊎◌, inl, inr}
 use mathlib.Core.Bool.{Bool, true, false, cond, not, ◌&&◌}
@@ -13,8 +18,6 @@ use Rattle.config.specs.Range.{within}
 use Rattle.config.specs.Sequence.{turn, ahead}
 use Rattle.config.specs.Settings.{check_of, tested}
 use Rattle.config.specs.declared.settings.StreamConfig.{StreamConfig}
-use Rattle.config.specs.declared.answer.Outcome.{Outcome}
-use Rattle.config.specs.declared.answer.Outcome.TheVariants.{Done, Refused}
 use Rattle.config.specs.inner.Tests.{split, tests, and_left, and_right}
 use Rattle.config.specs.Entry.{entry}
 use Rattle.packet.specs.Write.{valid_of as payload_valid}
@@ -24,14 +27,8 @@ use Rattle.window.specs.Arrival.{reach}
 use Rattle.window.specs.Marking.{in_range}
 use Rattle.window.specs.Set.{max_window}
 use Rattle.window.specs.declared.window.Class.TheVariants.{New, Late, Duplicate}
-use Rattle.window.specs.declared.window.Span.{Span}
-use Rattle.window.specs.declared.window.Span.TheVariants.{Nothing, Of}
 use Rattle.receiver.specs.Receiver.{error_event}
-use Rattle.receiver.specs.declared.receiver.Asked.{Asked}
-use Rattle.receiver.specs.declared.receiver.Asked.TheVariants.{Nothing as Unasked, Request as AskedFor}
-use Rattle.receiver.specs.declared.receiver.Hearing.TheVariants.{Delivery as Delivered, Refused as HearingRefused}
-use Rattle.receiver.specs.declared.receiver.StreamEvent.TheVariants.{Refused as EventRefused}
-use Rattle.receiver.specs.declared.receiver.Request.TheVariants.{Nothing as NotDue, Refused as RequestRefused}
+use Rattle.receiver.specs.declared.receiver.Request.TheVariants.{Nothing as NotDue}
 use Rattle.receiver_log.specs.Calls.{Call, data_command, poll, retransmit_error, nak, take_request, Entry, data_entry, take_entry}
 use Rattle.receiver_log.specs.Log.{Report, heard, told, loss_of, loss_in, report_of, reports, origin, is_ahead, place, high, times, start, lost, unprocessed, Missing}
 use Rattle.receiver_log.specs.Spans.{Ends, none, ends, widen, ends_of, span_from, class_in, lost_at, lost_in, missing_ends, missing_in, request_in, asked_for}
@@ -72,7 +69,7 @@ span_below H newest oldest a b c x e =
     let q : x < H - oldest + (oldest - newest + 1) = rw s at r in
     omega arith
 
-no_loss : (H : ℕ) → LossBelow H Nothing
+no_loss : (H : ℕ) → LossBelow H None
 no_loss H x e = absurd (never e refl)
 
 high_least : (t : List Report) → origin - 1 ≤ high t
@@ -135,7 +132,7 @@ module _ (W : ℕ) (most : W ≤ max_window) (t : List Report) (p : Promise W t)
       let b : d ≤ reach = leb-true _ _ (and_right (leb 1 d) (leb d reach) e) in
       rw e (omega arith, omega arith)
 
-  class_rises : (seq : ℕ) (ws : List ℕ) (l : Span) → Rises (high t) (heard seq ws (class_in W t seq) l)
+  class_rises : (seq : ℕ) (ws : List ℕ) (l : Option SeqRange) → Rises (high t) (heard seq ws (class_in W t seq) l)
   unfolding class_in
   class_rises seq ws l = by (is_ahead (high t) seq) (λ e. (ahead_by seq e).0) _ (within 1 W (ahead seq (high t % turn)) && unprocessed t (place (high t) seq))
     where
@@ -163,45 +160,45 @@ module _ (W : ℕ) (most : W ≤ max_window) (t : List Entry) (p : Promise W (re
   abbrev H : ℕ
   H = high (reports t)
 
-  data_next : (s : StreamConfig) (time seq : ℕ) (ws : List ℕ) (k : Outcome)
-      → Next (reports t) (report_of (data_entry s time seq ws (tested k HearingRefused (Delivered (delivery_in W (reports t) seq)))))
-  data_next s time seq ws Done = (class_rises W most (reports t) p seq ws (lost_in W (reports t) seq), number_below W most (reports t) p seq)
-  data_next s time seq ws (Refused why) = (tt, no_loss H)
+  data_next : (s : StreamConfig) (time seq : ℕ) (ws : List ℕ) (k : Result ⊤ Refusal)
+      → Next (reports t) (report_of (data_entry s time seq ws (tested k Err (Ok (delivery_in W (reports t) seq)))))
+  data_next s time seq ws (Ok _) = (class_rises W most (reports t) p seq ws (lost_in W (reports t) seq), number_below W most (reports t) p seq)
+  data_next s time seq ws (Err why) = (tt, no_loss H)
 
-  loss_of_missing : (m : Span) → LossBelow H m → (k : Outcome) (tick : Tick) → LossBelow H (loss_in (tested k EventRefused (poll_event m tick)))
-  loss_of_missing m h (Refused why) tick = no_loss H
-  loss_of_missing m h Done waits = no_loss H
-  loss_of_missing m h Done asks = no_loss H
-  loss_of_missing Nothing h Done gives_up = h
-  loss_of_missing (Of range) h Done gives_up = h
+  loss_of_missing : (m : Option SeqRange) → LossBelow H m → (k : Result ⊤ Refusal) (tick : Tick) → LossBelow H (loss_in (tested k Err (poll_event m tick)))
+  loss_of_missing m h (Err why) tick = no_loss H
+  loss_of_missing m h (Ok _) waits = no_loss H
+  loss_of_missing m h (Ok _) asks = no_loss H
+  loss_of_missing None h (Ok _) gives_up = h
+  loss_of_missing (Some range) h (Ok _) gives_up = h
 
-  loss_of_error : (e : RetransmitError) (m : Span) → LossBelow H m → LossBelow H (loss_in (error_event e m))
-  loss_of_error e Nothing h = h
-  loss_of_error e (Of range) h = h
+  loss_of_error : (e : RetransmitError) (m : Option SeqRange) → LossBelow H m → LossBelow H (loss_in (error_event e m))
+  loss_of_error e None h = h
+  loss_of_error e (Some range) h = h
 
-  error_below : (e : RetransmitError) (a : Asked) → LossBelow H (loss_in (error_in W (reports t) e a))
+  error_below : (e : RetransmitError) (a : Option RetransmitRequest) → LossBelow H (loss_in (error_in W (reports t) e a))
   unfolding asked_for
-  error_below e Unasked = no_loss H
-  error_below e (AskedFor q) =
+  error_below e None = no_loss H
+  error_below e (Some q) =
       let f : ℕ → Bool = λ b. unprocessed (reports t) (H - b) && in_range (record { first = q.seq; count = q.count }) ((H - b) % turn) in
       loss_of_error e (asked_for W (reports t) q) (near_below W most (reports t) p f (ends_of f 1 W) (ends_in f 1 W))
 
-  nak_below : (m : Span) → LossBelow H m → (a : Asked) → LossBelow H (loss_in (nak_event m a))
-  nak_below m h Unasked = no_loss H
-  nak_below Nothing h (AskedFor q) = h
-  nak_below (Of range) h (AskedFor q) = h
+  nak_below : (m : Option SeqRange) → LossBelow H m → (a : Option RetransmitRequest) → LossBelow H (loss_in (nak_event m a))
+  nak_below m h None = no_loss H
+  nak_below None h (Some q) = h
+  nak_below (Some range) h (Some q) = h
 
   -- taking a request tells nothing
-  take_quiet : (s : StreamConfig) (q : PayloadWriter) (b : List ℕ) (offers : Bool) (request : Span) → report_of (take_in s q b offers request) ≡ told Nothing
+  take_quiet : (s : StreamConfig) (q : PayloadWriter) (b : List ℕ) (offers : Bool) (request : Option SeqRange) → report_of (take_in s q b offers request) ≡ told None
   take_quiet s q b offers request = by (check_of s) (payload_valid q (length b)) offers request
     where
-      by : (k : Outcome) (valid offers : Bool) (request : Span)
-          → report_of (entry k valid (λ why. take_entry s q b (RequestRefused why) q b) (cond offers (offered s q b request) (take_entry s q b NotDue q b))) ≡ told Nothing
-      by (Refused why) valid offers request = refl
-      by Done false offers request = refl
-      by Done true false request = refl
-      by Done true true Nothing = refl
-      by Done true true (Of range) = refl
+      by : (k : Result ⊤ Refusal) (valid offers : Bool) (request : Option SeqRange)
+          → report_of (entry k valid (λ why. take_entry s q b (Err why) q b) (cond offers (offered s q b request) (take_entry s q b (Ok NotDue) q b))) ≡ told None
+      by (Err why) valid offers request = refl
+      by (Ok _) false offers request = refl
+      by (Ok _) true false request = refl
+      by (Ok _) true true None = refl
+      by (Ok _) true true (Some range) = refl
 
   pub next_sound : (c : Call) → Next (reports t) (report_of (answer_of W t c))
   unfolding answer_of

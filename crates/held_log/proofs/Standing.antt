@@ -1,5 +1,7 @@
 -- Why a held note was not released: its on was handed on at a place, and what was handed on above that place came later and left it held.
 use Prim.Native.Nat.{ℕ, ◌≤◌, ◌<◌, max}
+use Rattle.std.proofs.Common.{Option, Some, None, Ok, Err}
+use Rattle.window.specs.declared.window.SeqRange.{SeqRange}
 use mathlib.Core.Path.{◌≡◌, refl, sym, ◌∙◌}
 use mathlib.Core.Logic.{inl, inr}
 use mathlib.Core.Bool.{Bool, true, false, cond, ◌&&◌, ◌||◌}
@@ -11,9 +13,6 @@ use Rattle.config.specs.inner.Choices.{never, unless}
 use Rattle.command.specs.Messages.{messages_of}
 use Rattle.window.specs.declared.window.Class.{Class}
 use Rattle.window.specs.declared.window.Class.TheVariants.{New, Late, Duplicate}
-use Rattle.window.specs.declared.window.Span.{Span}
-use Rattle.window.specs.declared.window.Span.TheVariants.{Nothing, Of}
-use Rattle.receiver.specs.declared.receiver.Hearing.TheVariants.{Delivery as Delivered, Refused as HearingRefused}
 use Rattle.receiver_log.specs.Calls.{Entry, data_entry, poll_entry, error_entry, nak_entry, take_entry}
 use Rattle.receiver_log.specs.Log.{Report, heard, told, loss_of, loss_in, reports, place, high, hands, hands_on, in_loss, lost}
 use Rattle.held_notes.specs.Calls.{silenced, handed, held_through, held_in}
@@ -30,7 +29,7 @@ Rises highest (heard seq ws Duplicate l) = Unit {0}
 Rises highest (told l) = Unit {0}
 
 -- a loss lies wholly at or below the highest
-abbrev pub LossBelow : ℕ → Span → Type 0
+abbrev pub LossBelow : ℕ → Option SeqRange → Type 0
 LossBelow highest l = (x : ℕ) → in_loss highest l x ≡ true → x ≤ highest
 
 abbrev pub Sound : List Report → Type 0
@@ -81,11 +80,11 @@ module _ (g k : ℕ) where
     pub unlost : (x : ℕ) → at < x → lost t x ≡ false
 
   -- a call that tells something
-  after_told : (l : Span) (b : Bool) (t : List Report) → (b ≡ true → Standing t) → held_through g k b (silenced l) ≡ true → Standing (told l ∷ t)
-  after_told Nothing b t f e =
+  after_told : (l : Option SeqRange) (b : Bool) (t : List Report) → (b ≡ true → Standing t) → held_through g k b (silenced l) ≡ true → Standing (told l ∷ t)
+  after_told None b t f e =
       let s = f e in
       record { at = s.at; reached = s.reached; on = s.on; above = s.above; unlost = s.unlost }
-  after_told (Of range) b t f e = absurd (never e (after_silence g k b))
+  after_told (Some range) b t f e = absurd (never e (after_silence g k b))
 
   module _ (seq : ℕ) (ws : List ℕ) (t : List Report) where
     abbrev ms : List (List ℕ)
@@ -96,20 +95,20 @@ module _ (g k : ℕ) where
     also_held false b xs e f = e
 
     -- the messages leave it held
-    keeps : (c : Class) → play g k true ms ≡ true → Standing t → Standing (heard seq ws c Nothing ∷ t)
+    keeps : (c : Class) → play g k true ms ≡ true → Standing t → Standing (heard seq ws c None ∷ t)
     keeps c e s = record {
       at = s.at;
       reached = let h = s.reached in omega arith;
-      on = also_held (hands_on (high t) (heard seq ws c Nothing) s.at) false (heard_at t s.at) s.on e;
-      above = λ x h. also_held (hands_on (high t) (heard seq ws c Nothing) x) true (heard_at t x) (s.above x h) e;
+      on = also_held (hands_on (high t) (heard seq ws c None) s.at) false (heard_at t s.at) s.on e;
+      above = λ x h. also_held (hands_on (high t) (heard seq ws c None) x) true (heard_at t x) (s.above x h) e;
       unlost = s.unlost;
     }
 
-    repeated : Standing t → Standing (heard seq ws Duplicate Nothing ∷ t)
+    repeated : Standing t → Standing (heard seq ws Duplicate None ∷ t)
     repeated s = record { at = s.at; reached = let h = s.reached in omega arith; on = s.on; above = s.above; unlost = s.unlost }
 
     -- an on among them
-    struck : (gap : ℕ) (l : Span) → Sound (heard seq ws (New gap) l ∷ t) → play g k false ms ≡ true → Standing (heard seq ws (New gap) l ∷ t)
+    struck : (gap : ℕ) (l : Option SeqRange) → Sound (heard seq ws (New gap) l ∷ t) → play g k false ms ≡ true → Standing (heard seq ws (New gap) l ∷ t)
     struck gap l s e =
         let q = place (high t) seq in
         let h : high t < q = s.0 in
@@ -129,32 +128,32 @@ module _ (g k : ℕ) where
         }
 
     -- neither an on that stays nor a loss: it was held before
-    still : (gap : ℕ) → play g k false ms ≡ false → (l : Span) (b : Bool) → (b ≡ true → Standing t) → play g k (held_through g k b (silenced l)) ms ≡ true
+    still : (gap : ℕ) → play g k false ms ≡ false → (l : Option SeqRange) (b : Bool) → (b ≡ true → Standing t) → play g k (held_through g k b (silenced l)) ms ≡ true
         → Standing (heard seq ws (New gap) l ∷ t)
-    still gap o Nothing true f e = keeps (New gap) e (f refl)
-    still gap o Nothing false f e = absurd (never e o)
-    still gap o (Of range) b f e = absurd (never e (rw (after_silence g k b) o))
+    still gap o None true f e = keeps (New gap) e (f refl)
+    still gap o None false f e = absurd (never e o)
+    still gap o (Some range) b f e = absurd (never e (rw (after_silence g k b) o))
 
-    after_heard : (c : Class) (l : Span) (b : Bool) → Sound (heard seq ws c l ∷ t) → (b ≡ true → Standing t)
+    after_heard : (c : Class) (l : Option SeqRange) (b : Bool) → Sound (heard seq ws c l ∷ t) → (b ≡ true → Standing t)
         → held_through g k (held_through g k b (silenced l)) (handed c ms) ≡ true → Standing (heard seq ws c l ∷ t)
     after_heard (New gap) l b s f e = elim (split (play g k false ms)) [
       | inl o ↦ struck gap l s o
       | inr o ↦ still gap o l b f e
     ]
-    after_heard Late Nothing b s f e =
+    after_heard Late None b s f e =
         let h : b ≡ true = late_held g k ms b e in
         keeps Late (late_play g k ms (rw h at e)) (f h)
-    after_heard Late (Of range) b s f e = absurd (never (late_held g k ms (held_through g k b (silenced (Of range))) e) (after_silence g k b))
-    after_heard Duplicate Nothing b s f e = repeated (f e)
-    after_heard Duplicate (Of range) b s f e = absurd (never e (after_silence g k b))
+    after_heard Late (Some range) b s f e = absurd (never (late_held g k ms (held_through g k b (silenced (Some range))) e) (after_silence g k b))
+    after_heard Duplicate None b s f e = repeated (f e)
+    after_heard Duplicate (Some range) b s f e = absurd (never e (after_silence g k b))
 
   pub standing : (log : List Entry) → Sound (reports log) → held_in g k (calls_of log) ≡ true → Standing (reports log)
   standing [] s e = absurd (never e refl)
-  standing (data_entry c time seq ws (Delivered d) ∷ t) s e =
+  standing (data_entry c time seq ws (Ok d) ∷ t) s e =
       after_heard seq ws (reports t) d.class d.lost (held_in g k (calls_of t)) s (standing t s.2)
       (sym (through_append g k (silenced d.lost) (handed d.class (messages_of ws).whole) (held_in g k (calls_of t))) ∙ e)
-  standing (data_entry c time seq ws (HearingRefused why) ∷ t) s e = after_told Nothing (held_in g k (calls_of t)) (reports t) (standing t s.2) e
+  standing (data_entry c time seq ws (Err why) ∷ t) s e = after_told None (held_in g k (calls_of t)) (reports t) (standing t s.2) e
   standing (poll_entry c time a ∷ t) s e = after_told (loss_in a) (held_in g k (calls_of t)) (reports t) (standing t s.2) e
   standing (error_entry q a ∷ t) s e = after_told (loss_in a) (held_in g k (calls_of t)) (reports t) (standing t s.2) e
   standing (nak_entry a ∷ t) s e = after_told (loss_in a) (held_in g k (calls_of t)) (reports t) (standing t s.2) e
-  standing (take_entry c p b a q d ∷ t) s e = after_told Nothing (held_in g k (calls_of t)) (reports t) (standing t s.2) e
+  standing (take_entry c p b a q d ∷ t) s e = after_told None (held_in g k (calls_of t)) (reports t) (standing t s.2) e

@@ -1,9 +1,7 @@
 -- Two notes in a list, and an on followed by a command that is answered Duplicate or Late, computed.
-use Rattle.std.specs.Prelude.{ℕ, ◌^◌, ◌≡◌, Bool, true, false, List, [], ◌∷◌, take, drop, replicate}
+use Rattle.std.specs.Prelude.{ℕ, ◌^◌, ◌≡◌, Bool, true, false, List, [], ◌∷◌, take, drop, replicate, None, Ok}
 use Rattle.window.specs.declared.window.Class.{Class}
 use Rattle.window.specs.declared.window.Class.TheVariants.{New, Late, Duplicate}
-use Rattle.window.specs.declared.window.Span.TheVariants.{Nothing}
-use Rattle.receiver.specs.declared.receiver.Hearing.TheVariants.{Delivery as Delivered}
 use Rattle.held_notes.specs.Answers.{list_of}
 use Rattle.held_notes.specs.Calls.{Call, delivered, held_in}
 
@@ -13,7 +11,7 @@ two_held = 2 ^ 60 ∷ 0 ∷ 0 ∷ 2 ^ 3 ∷ replicate 28 0
 
 -- a command with number 0, with no gap and no loss
 abbrev pub answered : Class → List ℕ → Call
-answered class ws = delivered (Delivered record { seq = 0; class = class; gap = Nothing; lost = Nothing }) ws
+answered class ws = delivered (Ok record { seq = 0; class = class; gap = None; lost = None }) ws
 
 -- whether note 60 of group 0 is held after its on, and then its release in a command that is answered so
 abbrev pub held_after_release : Class → Bool

@@ -1,5 +1,10 @@
 -- One call: what it leaves and gives, put together from its parts.
 use Prim.Native.Nat.{ℕ, ◌/◌, ◌%◌, ◌^◌, ◌≤◌, ◌<◌}
+use Rattle.std.proofs.Common.{Option, Result, Ok}
+use Rattle.config.specs.declared.refusal.Refusal.{Refusal}
+use Rattle.receiver.specs.declared.receiver.Delivery.{Delivery}
+use Rattle.window.specs.declared.window.SeqRange.{SeqRange}
+use Rattle.std.specs.Bool.{⊤}
 use mathlib.Core.Path.{◌≡◌, refl, ap, ap₂, sym, ◌∙◌, subst}
 use mathlib.Core.Logic.{inl, inr}
 use mathlib.Core.Bool.{Bool, true, false, cond}
@@ -12,15 +17,11 @@ use lib.ListN.{length, get_or, replicate, get_or-replicate, get_or-eq_default}
 use borrow.Author.Tests.{lt-ltb, le-ltb}
 use Rattle.config.specs.inner.Tests.{split, tests}
 use Rattle.window.specs.declared.window.Class.{Class}
-use Rattle.window.specs.declared.window.Span.{Span}
-use Rattle.receiver.specs.declared.receiver.Hearing.{Hearing}
 use Rattle.receiver.specs.declared.receiver.StreamEvent.{StreamEvent}
 use Rattle.held_notes.specs.Calls.{Moment, silence, held_through, Call, delivered, told, silenced, handed, moments_of, held_in}
 use Rattle.held_notes.specs.State.{all_notes, has, Leads}
 use Rattle.held_notes.specs.Theorems.{left_by, list_in, HeldKept, HeldRefused}
 use Rattle.held_notes.specs.Answers.{notes_of, list_of, is_loss, silences, given_by, done_of, refused_of, answer_of, none_held, start_of, Follows, Plays}
-use Rattle.config.specs.declared.answer.Outcome.{Outcome}
-use Rattle.config.specs.declared.answer.Outcome.TheVariants.{Done}
 use Rattle.held_notes.specs.declared.listing.Notes.{Notes}
 use Rattle.held_notes.specs.declared.held.HeldNotes.{HeldNotes}
 use Rattle.held_notes.specs.declared.held.Given.{Given}
@@ -51,15 +52,15 @@ pub start_refused : (g : ℕ) (r : Given) → 15 < g → r ≡ refused_of (none_
 unfolding start_of
 start_refused g r h e = rw (lt-ltb 15 g h) e
 
-pub start_done : (g : ℕ) (notes : Notes) → g ≤ 15 → notes ≡ notes_of [] → ◌≡◌ {A = Given} (record { state = none_held g; notes = notes; answer = Done }) (start_of g)
+pub start_done : (g : ℕ) (notes : Notes) → g ≤ 15 → notes ≡ notes_of [] → ◌≡◌ {A = Given} (record { state = none_held g; notes = notes; answer = Ok tt }) (start_of g)
 unfolding start_of
-start_done g notes h e = rw (le-ltb 15 g h) (ap (λ (n : Notes). record { state = none_held g; notes = n; answer = Done }) e)
+start_done g notes h e = rw (le-ltb 15 g h) (ap (λ (n : Notes). record { state = none_held g; notes = n; answer = Ok tt }) e)
 
 pub start_state : (g : ℕ) → (start_of g).state ≡ none_held g
 unfolding start_of refused_of
 start_state g = by (ltb 15 g)
   where
-    by : (b : Bool) → (cond b (refused_of (none_held g)) (record { state = none_held g; notes = notes_of []; answer = Done })).state ≡ none_held g
+    by : (b : Bool) → (cond b (refused_of (none_held g)) (record { state = none_held g; notes = notes_of []; answer = Ok tt })).state ≡ none_held g
     by true = refl
     by false = refl
 
@@ -68,14 +69,14 @@ start_state g = by (ltb 15 g)
 abbrev state_as : ℕ → List ℕ → HeldNotes
 state_as g held = record { group = g; held = held }
 
-abbrev given_as : HeldNotes → Notes → Outcome → Given
+abbrev given_as : HeldNotes → Notes → Result ⊤ Refusal → Given
 given_as s notes answer = record { state = s; notes = notes; answer = answer }
 
 -- what is given, by its parts
-given_is : (r : Given) (g : ℕ) (held : List ℕ) (notes : Notes) (answer : Outcome) → r.state.group ≡ g → r.state.held ≡ held → r.notes ≡ notes → r.answer ≡ answer
+given_is : (r : Given) (g : ℕ) (held : List ℕ) (notes : Notes) (answer : Result ⊤ Refusal) → r.state.group ≡ g → r.state.held ≡ held → r.notes ≡ notes → r.answer ≡ answer
     → r ≡ given_as (state_as g held) notes answer
 given_is r g held notes answer a b c d =
-    ap₂ (λ (x : HeldNotes) (y : Notes). given_as x y r.answer) (ap₂ state_as a b) c ∙ ap (λ (x : Outcome). given_as (state_as g held) notes x) d
+    ap₂ (λ (x : HeldNotes) (y : Notes). given_as x y r.answer) (ap₂ state_as a b) c ∙ ap (λ (x : Result ⊤ Refusal). given_as (state_as g held) notes x) d
 
 module _ (s : HeldNotes) (call : Call) where
   answer_refused : 15 < s.group → answer_of s call ≡ refused_of s
@@ -89,8 +90,8 @@ module _ (s : HeldNotes) (call : Call) where
 -- ---- by what the stream answered
 
 module _ (s : HeldNotes) (r : Given) where
-  pub by_span : {l m : Span} → l ≡ m → Follows s (is_loss m) (silenced m) r → Follows s (is_loss l) (silenced l) r
-  by_span e f = subst (λ (x : Span). Follows s (is_loss x) (silenced x) r) (sym e) f
+  pub by_span : {l m : Option SeqRange} → l ≡ m → Follows s (is_loss m) (silenced m) r → Follows s (is_loss l) (silenced l) r
+  by_span e f = subst (λ (x : Option SeqRange). Follows s (is_loss x) (silenced x) r) (sym e) f
 
   pub refuses : (call : Call) → 15 < s.group → r ≡ refused_of s → r ≡ answer_of s call
   refuses call h e = e ∙ sym (answer_refused s call h)
@@ -102,12 +103,12 @@ module _ (s : HeldNotes) (r : Given) where
         let held = set_is r.state.held w (λ (k : ℕ). held_through s.group k (has s.held k) (moments_of call)) f.held in
         given_is r _ _ _ _ f.group held f.notes f.answer ∙ sym (answer_done s call h)
 
-    pub by_event : {e d : StreamEvent} → e ≡ d → s.group ≤ 15 → Follows s (silences (told d)) (moments_of (told d)) r → r ≡ answer_of s (told e)
-    by_event e h f = answers (told _) h f ∙ ap (λ (x : StreamEvent). answer_of s (told x)) (sym e)
+    pub by_event : {e d : Result (Option StreamEvent) Refusal} → e ≡ d → s.group ≤ 15 → Follows s (silences (told d)) (moments_of (told d)) r → r ≡ answer_of s (told e)
+    by_event e h f = answers (told _) h f ∙ ap (λ (x : Result (Option StreamEvent) Refusal). answer_of s (told x)) (sym e)
 
-    pub by_hearing : (ws : List ℕ) {e d : Hearing} → e ≡ d → s.group ≤ 15 → Follows s (silences (delivered d ws)) (moments_of (delivered d ws)) r
+    pub by_hearing : (ws : List ℕ) {e d : Result Delivery Refusal} → e ≡ d → s.group ≤ 15 → Follows s (silences (delivered d ws)) (moments_of (delivered d ws)) r
         → r ≡ answer_of s (delivered e ws)
-    by_hearing ws e h f = answers (delivered _ ws) h f ∙ ap (λ (x : Hearing). answer_of s (delivered x ws)) (sym e)
+    by_hearing ws e h f = answers (delivered _ ws) h f ∙ ap (λ (x : Result Delivery Refusal). answer_of s (delivered x ws)) (sym e)
 
 pub by_class : (s r : Given) (ms : List (List ℕ)) {c d : Class} → c ≡ d → Plays s (handed d ms) r → Plays s (handed c ms) r
 by_class s r ms e f = subst (λ (x : Class). Plays s (handed x ms) r) (sym e) f

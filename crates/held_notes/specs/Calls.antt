@@ -1,12 +1,11 @@
 -- 02, 4/14: what is held after a list of calls: deliveries, events and restarts, as the stream answered them. Newest first.
-use Rattle.std.specs.Prelude.{ℕ, Bool, true, false, cond, ◌&&◌, List, [], ◌∷◌, ◌++◌}
+use Rattle.std.specs.Prelude.{ℕ, Bool, true, false, cond, ◌&&◌, List, [], ◌∷◌, ◌++◌, Option, Some, None, Result, Ok, Err}
+use Rattle.config.specs.declared.refusal.Refusal.{Refusal}
+use Rattle.receiver.specs.declared.receiver.Delivery.{Delivery}
+use Rattle.window.specs.declared.window.SeqRange.{SeqRange}
 use Rattle.command.specs.Messages.{messages_of}
 use Rattle.window.specs.declared.window.Class.{Class}
 use Rattle.window.specs.declared.window.Class.TheVariants.{New, Late, Duplicate}
-use Rattle.window.specs.declared.window.Span.{Span}
-use Rattle.window.specs.declared.window.Span.TheVariants.{Nothing, Of}
-use Rattle.receiver.specs.declared.receiver.Hearing.{Hearing}
-use Rattle.receiver.specs.declared.receiver.Hearing.TheVariants.{Delivery as Delivered, Refused as HearingRefused}
 use Rattle.receiver.specs.declared.receiver.StreamEvent.{StreamEvent}
 use Rattle.receiver_log.specs.Log.{loss_in}
 use Rattle.notes.specs.Notes.{on_for, off_for}
@@ -33,14 +32,14 @@ held_through g k held (m ∷ ms) = held_through g k (held_after g k held m) ms
 
 pub data Call : Type 0 where
   -- the receiver's answer to a data command, and the command's words
-  delivered : Hearing → List ℕ → Call
+  delivered : Result Delivery Refusal → List ℕ → Call
   -- its answer to a poll, a Retransmit Error or a NAK
-  told : StreamEvent → Call
+  told : Result (Option StreamEvent) Refusal → Call
   restarted : Call
 
-abbrev pub silenced : Span → List Moment
-silenced Nothing = []
-silenced (Of range) = silence ∷ []
+abbrev pub silenced : Option SeqRange → List Moment
+silenced None = []
+silenced (Some range) = silence ∷ []
 
 abbrev pub messages : Bool → List (List ℕ) → List Moment
 messages new [] = []
@@ -54,8 +53,8 @@ handed Duplicate ms = []
 
 -- a loss reported with a delivery counts before its messages; a refused command is not handed on
 abbrev pub moments_of : Call → List Moment
-moments_of (delivered (Delivered d) ws) = silenced d.lost ++ handed d.class (messages_of ws).whole
-moments_of (delivered (HearingRefused why) ws) = []
+moments_of (delivered (Ok d) ws) = silenced d.lost ++ handed d.class (messages_of ws).whole
+moments_of (delivered (Err why) ws) = []
 moments_of (told e) = silenced (loss_in e)
 moments_of restarted = silence ∷ []
 

@@ -8,10 +8,9 @@ ghost use Rattle.held_notes.specs.Answers.{notes_of, is_loss, Follows, Plays, re
 
 use super::listing::Notes;
 use super::{listing, walk};
-use config::answer::Outcome;
 use config::refusal::Refusal;
-use receiver::receiver::{Delivery, Hearing, StreamEvent};
-use window::window::{Class, Span};
+use receiver::receiver::{Delivery, StreamEvent};
+use window::window::{Class, SeqRange};
 
 // Lies in memory as in C, and so do notes: crate `c_held_notes` hands them out.
 #[repr(C)]
@@ -28,7 +27,7 @@ pub struct Given {
     pub state: HeldNotes,
     // On a reported loss or a restart, the notes that were held.
     pub notes: Notes,
-    pub answer: Outcome,
+    pub answer: Result<(), Refusal>,
 }
 
 fn no_notes() -> Notes
@@ -48,7 +47,7 @@ fn refused(state: HeldNotes) -> Given
     Given {
         state,
         notes,
-        answer: Outcome::Refused(Refusal::SizeNotAllowed),
+        answer: Err(Refusal::SizeNotAllowed),
     }
 }
 
@@ -60,7 +59,7 @@ fn unchanged(state: HeldNotes) -> Given
     Given {
         state,
         notes,
-        answer: Outcome::Done,
+        answer: Ok(()),
     }
 }
 
@@ -72,21 +71,21 @@ fn silence_all(state: HeldNotes) -> Given
     let notes = listing::listed(held);
     Given {
         state: HeldNotes {
-            group: state.group,
             held: [0u64; 32],
+            ..state
         },
         notes,
-        answer: Outcome::Done,
+        answer: Ok(()),
     }
 }
 
 // A loss, if one is reported.
-fn after_loss(state: HeldNotes, lost: Span) -> Given
+fn after_loss(state: HeldNotes, lost: Option<SeqRange>) -> Given
     ensures { Follows state (is_loss lost) (silenced lost) result }
 {
     match lost {
-        Span::Nothing => unchanged(state),
-        Span::Of(_) => silence_all(state),
+        None => unchanged(state),
+        Some(_) => silence_all(state),
     }
 }
 
@@ -102,7 +101,7 @@ fn played(given: Given, new: bool, body: &[u8]) -> Given
     Given {
         state: HeldNotes { group, held: after },
         notes,
-        answer: Outcome::Done,
+        answer: Ok(()),
     }
 }
 
@@ -142,36 +141,36 @@ pub fn start(group: u8) -> Given
     Given {
         state,
         notes,
-        answer: Outcome::Done,
+        answer: Ok(()),
     }
 }
 
 // What the receiver answered to a data command with these words. 12 when the group is above 15.
-pub fn delivered(state: HeldNotes, hearing: Hearing, body: &[u8]) -> Given
+pub fn delivered(state: HeldNotes, hearing: Result<Delivery, Refusal>, body: &[u8]) -> Given
     ensures { result ≡ answer_of state (delivered hearing (words_of body.now)) }
 {
     if state.group > 15 {
         return refused(state);
     }
     match hearing {
-        Hearing::Delivery(d) => heard(state, d, body),
-        Hearing::Refused(_) => unchanged(state),
+        Ok(d) => heard(state, d, body),
+        Err(_) => unchanged(state),
     }
 }
 
 // What it answered to a poll, a Retransmit Error or a NAK. 12 when the group is above 15.
-pub fn told(state: HeldNotes, event: StreamEvent) -> Given
+pub fn told(state: HeldNotes, event: Result<Option<StreamEvent>, Refusal>) -> Given
     ensures { result ≡ answer_of state (told event) }
 {
     if state.group > 15 {
         return refused(state);
     }
     match event {
-        StreamEvent::Nothing => unchanged(state),
-        StreamEvent::DataLoss(_) => silence_all(state),
-        StreamEvent::ErrorLoss(_, _) => silence_all(state),
-        StreamEvent::RetransmitError(_) => unchanged(state),
-        StreamEvent::Refused(_) => unchanged(state),
+        Ok(None) => unchanged(state),
+        Ok(Some(StreamEvent::DataLoss(_))) => silence_all(state),
+        Ok(Some(StreamEvent::ErrorLoss(_, _))) => silence_all(state),
+        Ok(Some(StreamEvent::RetransmitError(_))) => unchanged(state),
+        Err(_) => unchanged(state),
     }
 }
 

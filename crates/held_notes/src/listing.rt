@@ -18,14 +18,12 @@ pub fn listed(held: [u64; 32]) -> Notes
     ensures { result ≡ list_of held }
 {
     let mut items = [0u16; 2048];
-    let mut count: usize = 0;
-    let mut note: usize = 0;
-    while note < 2048 {
+    let mut count = 0;
+    for note in 0..2048 {
         if set::holds(held, note) {
             items[count] = note as u16;
             count += 1;
         }
-        note += 1;
     }
     Notes { count, items }
 }

@@ -1,5 +1,4 @@
 // The messages of a data command, one after the other.
-ghost use Rattle.std.specs.Prelude.{◌≡◌};
 ghost use Rattle.packet.specs.Bytes.{words_of};
 ghost use Rattle.command.specs.Messages.{messages_of};
 ghost use Rattle.held_notes.specs.Calls.{messages};
@@ -14,6 +13,7 @@ pub fn play_all(group: u32, new: bool, held: [u64; 32], body: &[u8]) -> [u64; 32
 {
     let mut after = held;
     let mut at = 0;
+    // A `loop`: each message says how many words it has, and the last one where to end.
     loop {
         let n = message_in(body, at);
         if n == 0 {

@@ -3,7 +3,6 @@ pub mod Slots
 pub mod Runs
 pub mod Walk
 pub mod Room
-mod Pushes
 pub mod Past
 pub mod StateTest
 pub mod View

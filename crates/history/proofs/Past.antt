@@ -1,5 +1,5 @@
 -- What a walk has passed: nothing at first, one entry with each turn, and the entries of two walks in a row.
-use Rattle.std.proofs.Common.{◌≡◌, ℕ, suc, ◌+◌, ◌-◌, ◌*◌, ◌/◌, ◌%◌, ◌<◌, ◌≤◌, Bool, true, false, ltb, leb, List, length, get_or, sym, refl, ◌∙◌, ⊎_elim, arith, ltb-false, eq-eqb, ne_eqb, le-leb, leb-true}
+use Rattle.std.proofs.Common.{◌≡◌, ℕ, suc, ◌+◌, ◌-◌, ◌*◌, ◌/◌, ◌%◌, ◌<◌, ◌≤◌, Bool, true, false, ltb, leb, Option, None, Some, List, length, get_or, sym, refl, ◌∙◌, ⊎_elim, arith, ltb-false, eq-eqb, ne_eqb, le-leb, leb-true}
 use mathlib.Core.Bool.{and-false}
 use borrow.Author.Tests.{lt-leb}
 use Rattle.config.specs.Sequence.{turn, after}
@@ -173,20 +173,14 @@ module _ (b : List ℕ) (at seq p i d n prev : ℕ) (x : Past b at seq p d i n p
 -- ---- what a leg hands back
 
 module _ (b : List ℕ) (i n k : ℕ) where
-  pub ran_lost : (r : Leg) → r.lost ≡ true → ((j : ℕ) → numbered (k + j) b i n ≡ false) → (p : ℕ) → Ran b i n p k r
-  ran_lost r e h p = record { stops = λ _. h; goes = λ f. no_yes e f }
-
   pub ran_on : (q passed seq prev words : ℕ) → 0 < passed → passed ≤ k → Past b i n q passed (slot_of (length b) i words) seq prev words
-      → (p : ℕ) → Ran b i n p k (record { lost = false; seq = seq; prev = prev; words = words; passed = passed })
-  ran_on q passed seq prev words some few x p = record { stops = λ e. no_yes e refl; goes = λ _. (some, few, past_any _ _ _ _ _ _ _ _ _ _ some x) }
+      → (p : ℕ) → Ran b i n p k (Some record { seq = seq; prev = prev; words = words; passed = passed })
+  ran_on q passed seq prev words some few x p = (some, few, past_any _ _ _ _ _ _ _ _ _ _ some x)
 
   -- of k entries it was asked for m
-  pub ran_more : (p m : ℕ) (r : Leg) → m ≤ k → Ran b i n p m r → Ran b i n p k r
-  ran_more p m r l x =
-      record {
-        stops = λ e j. (let f : k + j ≡ m + (k - m + j) = omega arith in rw f (x.stops e (k - m + j)));
-        goes = λ e. (let g = x.goes e in (g.0, omega (arith, g.1), g.2));
-      }
+  pub ran_more : (p m : ℕ) (r : Option Leg) → m ≤ k → Ran b i n p m r → Ran b i n p k r
+  ran_more p m None l x = λ j. (let f : k + j ≡ m + (k - m + j) = omega arith in rw f (x (k - m + j)))
+  ran_more p m (Some r) l x = (x.0, omega (arith, x.1), x.2)
 
 -- ---- the walk: of k entries some are left, and of u words
 
@@ -213,15 +207,10 @@ module _ (b : List ℕ) (i n p k left at seq prev u words : ℕ) (x : Past b i n
 
 -- ---- what a walk hands back
 
-module _ (b : List ℕ) (w : Stop) (k : ℕ) (r : Stop) where
-  pub walked_lost : r.lost ≡ true → ((j : ℕ) → passes (k + j) b w.at w.seq w.words ≡ false) → Walked b w k r
-  walked_lost e h = record { stops = λ _. h; goes = λ f. no_yes e f }
-
+module _ (b : List ℕ) (w : Stop) (k : ℕ) where
   pub walked_all : (left at seq prev words : ℕ) → left ≤ 0 → at < length b → words ≤ w.words → Past b w.at w.seq w.prev (k - left) at seq prev (w.words - words)
-      → r ≡ record { lost = false; at = at; seq = seq; prev = prev; words = words } → Walked b w k r
-  walked_all left at seq prev words z o l x e =
-      let f : k - left ≡ k = omega arith in
-      rw e (record { stops = λ g. no_yes g refl; goes = λ _. (o, l, rw f at x) })
+      → Walked b w k (Some record { at = at; seq = seq; prev = prev; words = words })
+  walked_all left at seq prev words z o l x = let f : k - left ≡ k = omega arith in (o, l, rw f at x)
 
 -- ---- from a mark on
 
@@ -249,18 +238,17 @@ module _ (h : SendHistory) (b : List ℕ) (m : Mark) (g : Good h b) (o : h.oldes
       let w = rw (e, ← a.0) at (words_add m.entry (h.count - m.entry) b h.head) in
       rw n (le-leb (words_from (h.count - m.entry) b m.at) h.used (omega (arith, w, g.words)))
 
-  pub walked_good : (k : ℕ) (r : Stop) → m.entry ≤ k → k ≤ h.count
-      → Walked b (record { lost = false; at = m.at; seq = after h.oldest m.entry; prev = h.last; words = h.used }) (k - m.entry) r
-      → (r.at ≡ header_at k b h.head) × (r.at < length b)
-  unfolding header_at
-  walked_good k r l few w =
-      ⊎_elim
-      (λ (e : r.lost ≡ true).
+  abbrev from : Stop
+  from = record { at = m.at; seq = after h.oldest m.entry; prev = h.last; words = h.used }
+
+  pub walked_never : (k : ℕ) → m.entry ≤ k → k ≤ h.count → Walked b from (k - m.entry) None → ⊥
+  walked_never k l few w =
       let f : k - m.entry + (h.count - k) ≡ h.count - m.entry = omega arith in
-      no_yes (passes_from (omega arith)) (rw f at (w.stops e (h.count - k))))
-      (λ (e : r.lost ≡ false).
+      no_yes (passes_from (omega arith)) (rw f at (w (h.count - k)))
+
+  pub walked_good : (k : ℕ) (r : Stop) → m.entry ≤ k → Walked b from (k - m.entry) (Some r) → (r.at ≡ header_at k b h.head) × (r.at < length b)
+  unfolding header_at
+  walked_good k r l p =
       let f : k - m.entry + 0 ≡ k - m.entry = omega arith in
       let d : m.entry + (k - m.entry) ≡ k = omega arith in
-      let p = w.goes e in
-      (sym (rw f at (p.2.place 0)) ∙ rw (← a.0) at (sym (rw d at (header_add m.entry (k - m.entry) b h.head))), p.0))
-      (split r.lost)
+      (sym (rw f at (p.2.place 0)) ∙ rw (← a.0) at (sym (rw d at (header_add m.entry (k - m.entry) b h.head))), p.0)

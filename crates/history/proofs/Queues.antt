@@ -1,31 +1,16 @@
--- The request queue: its test, the ways out of its operations, and what these do to the list of requests that wait.
-use Rattle.std.proofs.Common.{◌≡◌, ℕ, zero, suc, ◌+◌, ◌-◌, ◌<◌, ◌≤◌, true, false, ltb, leb, List, [], ◌∷◌, ◌++◌, length, get_or, set, sym, refl, ap, ◌∙◌, arith, get_or-set_other, get_or-set_same, ltb-true, le-ltb, lt-ltb, eq-eqb, ne_eqb, le-leb, leb-true}
-use borrow.Author.Tests.{lt-leb, not-true, not-false}
-use Rattle.config.specs.Range.{within, outside}
+-- The request queue: its test, and what its operations do to the list of requests that wait.
+use Rattle.std.proofs.Common.{◌≡◌, ℕ, zero, suc, ◌+◌, ◌-◌, ◌<◌, ◌≤◌, true, false, ltb, leb, List, [], ◌∷◌, ◌++◌, length, get_or, set, sym, refl, ap, ◌∙◌, arith, get_or-set_other, get_or-set_same, ltb-true, lt-ltb, eq-eqb, ne_eqb, le-leb, leb-true}
+use Rattle.config.specs.Range.{within}
 use Rattle.config.specs.inner.Tests.{and_left, and_right}
 use Rattle.history.specs.Ring.{slot_of}
-use Rattle.history.specs.Queue.{blank, none_wait, queue_ok, Fit, request, requests, waiting, asks, oldest_of, behind, popped, in_front, answered, push_answer, pop_of, set_front_of}
+use Rattle.history.specs.Queue.{blank, none_wait, queue_ok, Fit, request, requests, waiting, asks, behind, popped, in_front}
 use Rattle.command.specs.declared.retransmit.RetransmitRequest.{RetransmitRequest}
 use Rattle.history.specs.declared.queue.RetransmitQueue.{RetransmitQueue}
-use Rattle.history.specs.declared.queue.Ignored.TheVariants.{Pending, Full}
-use Rattle.history.specs.declared.queue.Push.TheVariants.{Queued, Ignored}
-use Rattle.history.specs.declared.queue.Oldest.{Oldest}
-use Rattle.history.specs.declared.queue.Oldest.TheVariants.{Request, Nothing}
 use Rattle.history.proofs.Slots.{slot_in, slot_zero, slot_add, slot_apart}
 
 -- ---- the test
 
 module _ (q : RetransmitQueue) where
-  pub queue_size : outside 1 16 q.size ≡ true → false ≡ queue_ok q
-  queue_size e = rw (not-true (within 1 16 q.size) e)
-
-  module _ (s : outside 1 16 q.size ≡ false) where
-    pub queue_head : q.size ≤ q.head → false ≡ queue_ok q
-    queue_head p = rw (not-false (within 1 16 q.size) s, le-ltb _ _ p)
-
-    pub queue_len : q.head < q.size → leb q.len q.size ≡ queue_ok q
-    queue_len p = rw (not-false (within 1 16 q.size) s, lt-ltb _ _ p)
-
   pub queue_fit : queue_ok q ≡ true → Fit q
   queue_fit e =
       let s = and_left (within 1 16 q.size) _ e in
@@ -61,51 +46,6 @@ module _ (q : RetransmitQueue) (n i at : ℕ) (r : RetransmitRequest) (place : a
 pub asks_none : (q : RetransmitQueue) (n i : ℕ) → q.len ≤ i → asks (requests q (q.len - i) i) n ≡ false
 unfolding asks requests
 asks_none q n i h = let e : q.len - i ≡ 0 = omega arith in rw e
-
--- ---- the ways out
-
-module _ (q : RetransmitQueue) (r : RetransmitRequest) where
-  pub push_pending : asks (waiting q) r.seq ≡ true → answered q (Ignored Pending) ≡ push_answer q r
-  unfolding push_answer
-  push_pending e = rw e
-
-  module _ (e : asks (waiting q) r.seq ≡ false) where
-    pub push_full : q.size ≤ q.len → answered q (Ignored Full) ≡ push_answer q r
-    unfolding push_answer
-    push_full p = rw (e, le-leb _ _ p)
-
-    pub push_queued : (at : ℕ) → q.len < q.size → at ≡ slot_of q.size q.head q.len
-        → answered (record { items = set q.items at r; head = q.head; len = q.len + 1; size = q.size }) Queued ≡ push_answer q r
-    unfolding push_answer
-    push_queued at p s = rw (e, lt-leb _ _ p, s)
-
-  pub set_none : q.len ≡ 0 → q ≡ set_front_of q r
-  unfolding set_front_of
-  set_none e = rw (eq-eqb _ _ e)
-
-  pub set_some : (q.len ≡ 0 → ⊥) → in_front q r ≡ set_front_of q r
-  unfolding set_front_of
-  set_some e = rw (ne_eqb _ _ e)
-
-module _ (q : RetransmitQueue) where
-  pub oldest_none : q.len ≡ 0 → Nothing ≡ oldest_of (waiting q)
-  unfolding oldest_of requests
-  oldest_none e = rw e
-
-  pub oldest_some : (r : RetransmitRequest) → (q.len ≡ 0 → ⊥) → q.head < q.size → r ≡ get_or q.items q.head blank → Request r ≡ oldest_of (waiting q)
-  unfolding oldest_of requests request
-  oldest_some r e p f =
-      let s : q.len ≡ suc (q.len - 1) = omega arith in
-      rw (s, slot_zero q.size q.head p, f)
-
-  pub pop_none : (o : Oldest) → o ≡ oldest_of (waiting q) → q.len ≡ 0 → record { queue = q; oldest = o } ≡ pop_of q
-  unfolding pop_of
-  pop_none o f e = rw (eq-eqb _ _ e, f)
-
-  pub pop_some : (o : Oldest) (at : ℕ) → o ≡ oldest_of (waiting q) → at ≡ slot_of q.size q.head 1 → (q.len ≡ 0 → ⊥)
-      → record { queue = record { items = q.items; head = at; len = q.len - 1; size = q.size }; oldest = o } ≡ pop_of q
-  unfolding pop_of
-  pop_some o at f s e = rw (ne_eqb _ _ e, f, s)
 
 -- ---- the requests that wait, after each operation
 

@@ -1,7 +1,5 @@
 -- Entries that leave to make room: the state stays good, those that are to stay do, and the words come free.
 use Rattle.std.proofs.Common.{◌≡◌, ℕ, zero, suc, ◌+◌, ◌-◌, ◌<◌, ◌≤◌, List, length, sym, refl, ap, ◌∙◌, arith, le-ltb, lt-ltb}
-use Rattle.config.specs.Sequence.{after}
-use Rattle.history.specs.Ring.{slot_of}
 use Rattle.history.specs.Headers.{length_at, entry_size, header_at, words_from}
 use Rattle.history.specs.State.{Good}
 use Rattle.history.specs.Push.{pop_one, popped}
@@ -47,11 +45,6 @@ module _ (h : SendHistory) (b : List ℕ) (a : Good h b) where
           newest = λ p. sym (header_first (h.count - 1) b h.head p) ∙ a.newest some;
         }
 
-pub pop_done : (h : SendHistory) (b : List ℕ) (pl at seq : ℕ) → length b ≡ h.size → pl ≡ length_at b h.head → at ≡ slot_of h.size h.head (1 + pl) → seq ≡ after h.oldest 1
-    → record { size = h.size; head = at; used = h.used - (1 + pl); count = h.count - 1; oldest = seq; last = h.last } ≡ pop_one b h
-unfolding pop_one
-pop_done h b pl at seq r p e s = rw (s, e, p, r)
-
 pub pop_less : (h r : SendHistory) (b : List ℕ) (k : ℕ) → k < h.count → r ≡ pop_one b h → r.count < h.count
 unfolding pop_one
 pop_less h r b k p e = rw e (omega arith)
@@ -67,10 +60,6 @@ pub popped_done : (k need : ℕ) (b : List ℕ) (h : SendHistory) → need ≤ h
 unfolding popped
 popped_done zero need b h l = refl
 popped_done (suc k) need b h l = rw (le-ltb _ _ l)
-
-pub popped_none : (need : ℕ) (b : List ℕ) (h : SendHistory) → popped 0 need b h ≡ h
-unfolding popped
-popped_none need b h = refl
 
 -- the words of the entries that are to stay
 abbrev pub staying : ℕ → List ℕ → SendHistory → ℕ

@@ -1,5 +1,5 @@
 -- The state test: each way out of the walk and of the test, and what a state that passes is.
-use Rattle.std.proofs.Common.{◌≡◌, ℕ, zero, suc, ◌+◌, ◌-◌, ◌<◌, ◌≤◌, min, Bool, true, false, ◌&&◌, eqb, leb, List, length, sym, refl, ◌∙◌, ⊎_elim, arith, le-ltb, lt-ltb, eq-eqb, ne_eqb, eqb-true, le-leb}
+use Rattle.std.proofs.Common.{◌≡◌, ℕ, zero, suc, ◌+◌, ◌-◌, ◌<◌, ◌≤◌, min, Bool, true, false, ◌&&◌, eqb, leb, Option, None, Some, List, length, sym, refl, ⊎_elim, arith, le-ltb, lt-ltb, eq-eqb, ne_eqb, eqb-true, le-leb}
 use mathlib.Core.Bool.{and-true, and-false}
 use borrow.Author.Tests.{lt-leb, not-true, not-false}
 use lib.Dec.{eqb-suc-zero}
@@ -7,11 +7,11 @@ use Rattle.config.specs.Range.{within, outside}
 use Rattle.config.specs.inner.Tests.{split, tests}
 use Rattle.history.specs.Headers.{next_at, header_at, words_from, numbered}
 use Rattle.history.specs.inner.Walk.{newest_from, passes, Past, Walked}
-use Rattle.history.specs.State.{newest_at, unsent_take, walk_ok, state_ok, Marks, Answers}
+use Rattle.history.specs.State.{newest_at, unsent_take, walk_ok, state_ok, back_of, Marks, Answers}
 use Rattle.history.specs.declared.history.SendHistory.{SendHistory}
-use Rattle.history.specs.declared.history.Tested.{Tested}
+use Rattle.history.specs.declared.history.Mark.{Mark}
 use Rattle.history.specs.declared.headers.Stop.{Stop}
-use Rattle.history.proofs.Past.{no_yes, past_none, past_on, past_fails}
+use Rattle.history.proofs.Past.{past_none, past_on, past_fails}
 
 -- what a test passed may be used in the next
 and_under : (w u : ℕ) (l d f : Bool) → (w ≡ u → d ≡ f) → (eqb w u && (l && d)) ≡ (eqb w u && (l && f))
@@ -125,65 +125,74 @@ module _ (h : SendHistory) (b : List ℕ) (unsent words : ℕ) where
 
 -- ---- the answer
 
-pub answers_no : (t : Bool) (h : SendHistory) (b : List ℕ) (unsent back : ℕ) (r : Tested) → r.ok ≡ false → false ≡ t → Answers t h b unsent back r
-answers_no t h b unsent back r e f = record { answer = e ∙ f; entry = λ g. no_yes g e; place = λ g. no_yes g e }
+none_mark : (m : Mark) → ◌≡◌ {A = Option Mark} None (Some m) → ⊥
+none_mark m e = let z : ◌≡◌ {A = ℕ} 0 1 = cc in omega arith
+
+module _ (t : Bool) (h : SendHistory) (b : List ℕ) (unsent back : ℕ) where
+  pub answers_no : false ≡ t → Answers t h b unsent back None
+  answers_no f = record { answer = f; entry = λ m e. absurd (none_mark m e); place = λ m e. absurd (none_mark m e) }
+
+  pub answers_yes : (m : Mark) → true ≡ t → m.entry ≡ back_of h unsent back → Marks h b m → Answers t h b unsent back (Some m)
+  answers_yes m f x y =
+      record {
+        answer = f;
+        entry = λ n e. (let g : n ≡ m = cc in rw g x);
+        place = λ n e. (let g : n ≡ m = cc in rw g y);
+      }
 
 -- ---- the walk in three parts: up to the last `again` written entries, these, and the unwritten ones
 
 abbrev start_of : SendHistory → Stop
-start_of h = record { lost = false; at = h.head; seq = h.oldest; prev = h.last; words = h.used }
+start_of h = record { at = h.head; seq = h.oldest; prev = h.last; words = h.used }
 
-module _ (h : SendHistory) (b : List ℕ) (unsent words back : ℕ) (few : unsent ≤ h.count) (again : ℕ) (a : again ≡ min back (h.count - unsent)) (f : Stop) (x : Walked b (start_of h) (h.count - unsent - again) f) where
+module _ (h : SendHistory) (b : List ℕ) (unsent words back : ℕ) (few : unsent ≤ h.count) (again : ℕ) (a : again ≡ min back (h.count - unsent)) where
   abbrev answer : Bool
   answer = walk_ok b h.last unsent words h.count h.head h.oldest h.used
 
-  pub first_lost : f.lost ≡ true → false ≡ answer
-  first_lost e =
+  pub first_lost : Walked b (start_of h) (h.count - unsent - again) None → false ≡ answer
+  first_lost x =
       let z : h.used - h.used ≡ 0 = omega arith in
-      walk_lost b h.last unsent words h.count h.head h.oldest h.used 0 h.head h.oldest h.last h.used (h.count - unsent - again) (rw z (past_none b h.head h.oldest h.last)) (omega arith) (omega arith) (x.stops e)
+      walk_lost b h.last unsent words h.count h.head h.oldest h.used 0 h.head h.oldest h.last h.used (h.count - unsent - again) (rw z (past_none b h.head h.oldest h.last)) (omega arith) (omega arith) x
 
-  module _ (p : f.lost ≡ false) where
+  module _ (f : Stop) (x : Walked b (start_of h) (h.count - unsent - again) (Some f)) where
     pub back_place : Marks h b record { entry = h.count - unsent - again; at = f.at }
     unfolding header_at
     back_place =
-        let g = x.goes p in
+        let g = x in
         let e : h.count - unsent - again + 0 ≡ h.count - unsent - again = omega arith in
         (sym (rw e at (g.2.place 0)), g.0)
 
-    module _ (s : Stop) (y : Walked b f again s) where
-      pub second_lost : s.lost ≡ true → false ≡ answer
-      second_lost e =
-          let g = x.goes p in
-          walk_lost b h.last unsent words h.count h.head h.oldest h.used _ _ _ _ _ again g.2 g.1 (omega arith) (y.stops e)
+    pub second_lost : Walked b f again None → false ≡ answer
+    second_lost y =
+        walk_lost b h.last unsent words h.count h.head h.oldest h.used _ _ _ _ _ again x.2 x.1 (omega arith) y
 
-      module _ (q : s.lost ≡ false) where
-        both : (s.words ≤ h.used) × Past b h.head h.oldest h.last (h.count - unsent) s.at s.seq s.prev (h.used - s.words)
-        both =
-            let g = x.goes p in
-            let k = y.goes q in
-            let gw : f.words ≤ h.used = g.1 in
-            let kw : s.words ≤ f.words = k.1 in
-            let e : h.count - unsent - again + again ≡ h.count - unsent = omega arith in
-            (omega arith, rw e at (past_on b h.head h.oldest h.last (h.count - unsent - again) f.at f.seq f.prev h.used f.words again s.at s.seq s.prev s.words g.2 gw k.2 kw))
+    module _ (s : Stop) (y : Walked b f again (Some s)) where
+      both : (s.words ≤ h.used) × Past b h.head h.oldest h.last (h.count - unsent) s.at s.seq s.prev (h.used - s.words)
+      both =
+          let g = x in
+          let k = y in
+          let gw : f.words ≤ h.used = g.1 in
+          let kw : s.words ≤ f.words = k.1 in
+          let e : h.count - unsent - again + again ≡ h.count - unsent = omega arith in
+          (omega arith, rw e at (past_on b h.head h.oldest h.last (h.count - unsent - again) f.at f.seq f.prev h.used f.words again s.at s.seq s.prev s.words g.2 gw k.2 kw))
 
-        pub unsent_off : (s.words ≡ words → ⊥) → false ≡ answer
-        unsent_off o = sym (walk_unsent b h.last unsent words h.count h.head h.oldest h.used _ _ _ s.words both.1 few both.0 o)
+      pub unsent_off : (s.words ≡ words → ⊥) → false ≡ answer
+      unsent_off o = sym (walk_unsent b h.last unsent words h.count h.head h.oldest h.used _ _ _ s.words both.1 few both.0 o)
 
-        module _ (t : Stop) (z : Walked b s unsent t) where
-          pub last_lost : t.lost ≡ true → false ≡ answer
-          last_lost e = walk_lost b h.last unsent words h.count h.head h.oldest h.used _ _ _ _ _ unsent both.1 both.0 (omega arith) (z.stops e)
+      pub last_lost : Walked b s unsent None → false ≡ answer
+      last_lost z = walk_lost b h.last unsent words h.count h.head h.oldest h.used _ _ _ _ _ unsent both.1 both.0 (omega arith) z
 
-          module _ (r : t.lost ≡ false) where
-            whole : (t.words ≤ h.used) × Past b h.head h.oldest h.last h.count t.at t.seq t.prev (h.used - t.words)
-            whole =
-                let k = z.goes r in
-                let bw : s.words ≤ h.used = both.0 in
-                let kw : t.words ≤ s.words = k.1 in
-                let e : h.count - unsent + unsent ≡ h.count = omega arith in
-                (omega arith, rw e at (past_on b h.head h.oldest h.last (h.count - unsent) s.at s.seq s.prev h.used s.words unsent t.at t.seq t.prev t.words both.1 bw k.2 kw))
+      module _ (t : Stop) (z : Walked b s unsent (Some t)) where
+        whole : (t.words ≤ h.used) × Past b h.head h.oldest h.last h.count t.at t.seq t.prev (h.used - t.words)
+        whole =
+            let k = z in
+            let bw : s.words ≤ h.used = both.0 in
+            let kw : t.words ≤ s.words = k.1 in
+            let e : h.count - unsent + unsent ≡ h.count = omega arith in
+            (omega arith, rw e at (past_on b h.head h.oldest h.last (h.count - unsent) s.at s.seq s.prev h.used s.words unsent t.at t.seq t.prev t.words both.1 bw k.2 kw))
 
-            pub words_left : (t.words ≡ 0 → ⊥) → false ≡ answer
-            words_left o = sym (walk_left b h.last unsent words h.count h.head h.oldest h.used _ _ _ s.words both.1 few both.0 _ _ _ t.words whole.1 whole.0 o)
+        pub words_left : (t.words ≡ 0 → ⊥) → false ≡ answer
+        words_left o = sym (walk_left b h.last unsent words h.count h.head h.oldest h.used _ _ _ s.words both.1 few both.0 _ _ _ t.words whole.1 whole.0 o)
 
-            pub newest_told : s.words ≡ words → t.words ≡ 0 → eqb t.prev h.last ≡ answer
-            newest_told o n = sym (walk_all b h.last unsent words h.count h.head h.oldest h.used _ _ _ s.words both.1 few both.0 _ _ _ t.words whole.1 whole.0 o n)
+        pub newest_told : s.words ≡ words → t.words ≡ 0 → eqb t.prev h.last ≡ answer
+        newest_told o n = sym (walk_all b h.last unsent words h.count h.head h.oldest h.used _ _ _ s.words both.1 few both.0 _ _ _ t.words whole.1 whole.0 o n)

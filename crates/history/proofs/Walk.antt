@@ -95,11 +95,6 @@ shorts_prefix zero k b i p s = tt
 shorts_prefix (suc j) zero b i p s = absurd (omega arith)
 shorts_prefix (suc j) (suc k) b i p s = (s.0, shorts_prefix j k b (next_at b i) (omega arith) s.1)
 
-pub shorts_first : (k : ℕ) (b : List ℕ) (i : ℕ) → 0 < k → Shorts k b i → (length_at b i ≤ 64) × Shorts (k - 1) b (next_at b i)
-unfolding Shorts
-shorts_first zero b i p s = absurd (omega arith)
-shorts_first (suc k) b i p s = let z : suc k - 1 ≡ k = omega arith in (s.0, rw z s.1)
-
 -- ---- places
 
 pub next_in_lem : (b : List ℕ) (i : ℕ) → i < length b → 65 ≤ length b → length_at b i ≤ 64 → next_at b i < length b

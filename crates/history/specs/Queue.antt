@@ -1,15 +1,12 @@
 -- 01, "History, repeats, idle": a pending number is Ignored as Pending, tested before Full. The requests that wait, oldest first, and the state whole.
-use Rattle.std.specs.Prelude.{ℕ, zero, suc, ◌+◌, ◌-◌, ◌<◌, ◌≤◌, Bool, false, cond, ◌&&◌, ◌||◌, List, [], ◌∷◌, replicate, ◌==◌, nat_le, nat_lt, slice_index_or, slice_set}
+use Rattle.std.specs.Prelude.{ℕ, zero, suc, ◌+◌, ◌-◌, ◌<◌, ◌≤◌, Bool, false, cond, ◌&&◌, ◌||◌, List, [], ◌∷◌, replicate, ◌==◌, nat_le, nat_lt, slice_index_or, slice_set, Option, Some, None, Result, Ok, Err, ⊤}
+use Rattle.history.specs.declared.queue.Ignored.{Ignored}
 use Rattle.config.specs.Range.{within}
 use Rattle.history.specs.Ring.{slot_of}
 use Rattle.command.specs.declared.retransmit.RetransmitRequest.{RetransmitRequest}
 use Rattle.history.specs.declared.queue.RetransmitQueue.{RetransmitQueue}
 use Rattle.history.specs.declared.queue.Ignored.TheVariants.{Pending, Full}
-use Rattle.history.specs.declared.queue.Push.{Push}
-use Rattle.history.specs.declared.queue.Push.TheVariants.{Queued, Ignored}
 use Rattle.history.specs.declared.queue.Pushed.{Pushed}
-use Rattle.history.specs.declared.queue.Oldest.{Oldest}
-use Rattle.history.specs.declared.queue.Oldest.TheVariants.{Request, Nothing}
 use Rattle.history.specs.declared.queue.Popped.{Popped}
 
 -- a place that was never used
@@ -50,9 +47,9 @@ asks [] n = false
 asks (r ∷ rs) n = r.seq == n || asks rs n
 
 -- the oldest of them
-unfoldable pub oldest_of : List RetransmitRequest → Oldest
-oldest_of [] = Nothing
-oldest_of (r ∷ rs) = Request r
+unfoldable pub oldest_of : List RetransmitRequest → Option RetransmitRequest
+oldest_of [] = None
+oldest_of (r ∷ rs) = Some r
 
 -- ---- what the operations leave
 
@@ -66,14 +63,14 @@ popped q = record { items = q.items; head = slot_of q.size q.head 1; len = q.len
 abbrev pub in_front : RetransmitQueue → RetransmitRequest → RetransmitQueue
 in_front q r = record { items = slice_set q.items q.head r; head = q.head; len = q.len; size = q.size }
 
-abbrev pub answered : RetransmitQueue → Push → Pushed
+abbrev pub answered : RetransmitQueue → Result ⊤ Ignored → Pushed
 answered q a = record { queue = q; answer = a }
 
 unfoldable pub push_answer : RetransmitQueue → RetransmitRequest → Pushed
 push_answer q r =
-    cond (asks (waiting q) r.seq) (answered q (Ignored Pending))
-    (cond (nat_le q.size q.len) (answered q (Ignored Full))
-    (answered (behind q r) Queued))
+    cond (asks (waiting q) r.seq) (answered q (Err Pending))
+    (cond (nat_le q.size q.len) (answered q (Err Full))
+    (answered (behind q r) (Ok tt)))
 
 unfoldable pub pop_of : RetransmitQueue → Popped
 pop_of q = record { queue = cond (q.len == 0) q (popped q); oldest = oldest_of (waiting q) }

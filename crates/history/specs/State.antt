@@ -1,10 +1,10 @@
 -- 01, "State test": the history's part of number 13.
-use Rattle.std.specs.Prelude.{◌≡◌, ℕ, ◌-◌, ◌<◌, ◌≤◌, min, Bool, true, cond, ◌&&◌, ◌||◌, List, length, replicate, ◌==◌, nat_le, nat_lt}
+use Rattle.std.specs.Prelude.{◌≡◌, ℕ, ◌-◌, ◌<◌, ◌≤◌, min, Bool, true, cond, ◌&&◌, ◌||◌, List, length, replicate, ◌==◌, nat_le, nat_lt, Option, Some}
+use Rattle.std.specs.Option.{is_some}
 use Rattle.config.specs.Range.{within}
 use Rattle.history.specs.Headers.{header_at, words_from, numbered}
 use Rattle.history.specs.declared.history.SendHistory.{SendHistory}
 use Rattle.history.specs.declared.history.Mark.{Mark}
-use Rattle.history.specs.declared.history.Tested.{Tested}
 
 -- a start: nothing held, and the next number is 0
 abbrev pub fresh : ℕ → SendHistory
@@ -53,10 +53,10 @@ abbrev pub nearest_mark : SendHistory → Mark → ℕ → Mark
 nearest_mark h m k = cond (nat_lt k m.entry) (oldest_mark h) m
 
 -- the answer of a test, and where it is yes the header that its walk came by
-pub record Answers (t : Bool) (h : SendHistory) (b : List ℕ) (unsent back : ℕ) (r : Tested) : Type 0 where
-  pub answer : r.ok ≡ t
-  pub entry : r.ok ≡ true → r.mark.entry ≡ back_of h unsent back
-  pub place : r.ok ≡ true → Marks h b r.mark
+pub record Answers (t : Bool) (h : SendHistory) (b : List ℕ) (unsent back : ℕ) (r : Option Mark) : Type 0 where
+  pub answer : is_some r ≡ t
+  pub entry : (m : Mark) → r ≡ Some m → m.entry ≡ back_of h unsent back
+  pub place : (m : Mark) → r ≡ Some m → Marks h b m
 
 -- a state that passes the test, whatever of it is unwritten
 pub record Good (h : SendHistory) (b : List ℕ) : Type 0 where

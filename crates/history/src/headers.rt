@@ -4,8 +4,9 @@
 //
 // A leg goes straight on, at most to the end of the slice, so that only the walk has to go round. There
 // are two kinds: `equal_leg` passes entries of one length, and so does not wait for a header to be read
-// to find the next; `any_leg` passes any.
-ghost use Rattle.std.specs.Prelude.{◌≡◌, ℕ, ◌<◌, ◌≤◌, true, length, if◌then◌else◌};
+// to find the next; `any_leg` passes any. Both are a `loop`: a step is as long as a header says, and the
+// tests come after it, which saves those before the first.
+ghost use Rattle.std.specs.Prelude.{◌≡◌, ℕ, ◌<◌, ◌≤◌, length, if◌then◌else◌};
 ghost use Rattle.history.specs.inner.Walk.{Ran, Walked};
 
 use super::ring;
@@ -18,8 +19,6 @@ pub const MAX_PL: usize = 64;
 // Where a walk stands.
 #[derive(Clone, Copy)]
 pub struct Stop {
-    // A header was wrong, or took more words than were left.
-    pub lost: bool,
     // The place of the next header.
     pub at: usize,
     // The number that it must have.
@@ -30,11 +29,9 @@ pub struct Stop {
     pub words: usize,
 }
 
-// Where a leg has come to.
+// Where a leg has come to. A leg that meets a wrong header gives none.
 #[derive(Clone, Copy)]
 pub struct Leg {
-    // A header was wrong.
-    pub lost: bool,
     // The number of the next entry.
     pub seq: SeqNum,
     // The place of the header before it.
@@ -45,21 +42,8 @@ pub struct Leg {
     pub passed: usize,
 }
 
-// A leg over a wrong header.
-fn wrong() -> Leg
-    ensures { result.lost ≡ true }
-{
-    Leg {
-        lost: true,
-        seq: 0,
-        prev: 0,
-        words: 0,
-        passed: 0,
-    }
-}
-
 // Passes entries from the header at `at` on, up to `k` or to the end of the slice.
-fn any_leg(ring: &[u32], at: usize, seq: SeqNum, k: usize) -> Leg
+fn any_leg(ring: &[u32], at: usize, seq: SeqNum, k: usize) -> Option<Leg>
     requires { (at < length ring.now) × (length ring.now ≤ 32768) × (0 < k) }
     ensures { (p : ℕ) → Ran ring.now at seq p k result }
 {
@@ -74,7 +58,7 @@ fn any_leg(ring: &[u32], at: usize, seq: SeqNum, k: usize) -> Leg
         let base = std::num::wrapping_sub_usize(i + 1, want as usize);
         let next = std::num::wrapping_add_usize(ring[i] as usize, base);
         if MAX_PL < std::num::wrapping_sub_usize(next, i + 1) {
-            return wrong();
+            return None;
         }
         prev = i;
         i = next;
@@ -87,23 +71,22 @@ fn any_leg(ring: &[u32], at: usize, seq: SeqNum, k: usize) -> Leg
             break;
         }
     }
-    Leg {
-        lost: false,
+    Some(Leg {
         seq: (want / 0x1_0000) as u16,
         prev,
         words: i - at,
         passed,
-    }
+    })
 }
 
 // Passes entries from the header at `at` on that have its length, up to `k` or to the end of the slice.
-fn equal_leg(ring: &[u32], at: usize, seq: SeqNum, k: usize) -> Leg
+fn equal_leg(ring: &[u32], at: usize, seq: SeqNum, k: usize) -> Option<Leg>
     requires { (at < length ring.now) × (length ring.now ≤ 32768) × (0 < k) }
     ensures { (p : ℕ) → Ran ring.now at seq p k result }
 {
     let pl = std::num::wrapping_sub_usize(ring[at] as usize, (seq as usize) * 0x1_0000);
     if MAX_PL < pl {
-        return wrong();
+        return None;
     }
     let step = 1 + pl;
     let mut i = at;
@@ -123,27 +106,27 @@ fn equal_leg(ring: &[u32], at: usize, seq: SeqNum, k: usize) -> Leg
             break;
         }
     }
-    Leg {
-        lost: false,
+    Some(Leg {
         seq: (header / 0x1_0000) as u16,
         prev: i - step,
         words: i - at,
         passed,
-    }
+    })
 }
 
 // The most entries of one run.
 const MOST: usize = 128;
 
 // A leg of at most `k` entries; `guess` says that they may have one length.
-fn next_leg(ring: &[u32], at: usize, seq: SeqNum, k: usize, guess: bool) -> Leg
+fn next_leg(ring: &[u32], at: usize, seq: SeqNum, k: usize, guess: bool) -> Option<Leg>
     requires { (at < length ring.now) × (length ring.now ≤ 32768) × (0 < k) }
     ensures { (p : ℕ) → Ran ring.now at seq p k result }
 {
     if guess {
-        return equal_leg(ring, at, seq, k);
+        equal_leg(ring, at, seq, k)
+    } else {
+        any_leg(ring, at, seq, least(k, MOST))
     }
-    any_leg(ring, at, seq, least(k, MOST))
 }
 
 // Entries of one length that are worth the guess.
@@ -156,8 +139,8 @@ fn next_kind(guess: bool) -> usize
     if guess { WORTH_A_GUESS } else { MOST }
 }
 
-// Passes `k` entries.
-pub fn walk(ring: &[u32], from: Stop, k: usize) -> Stop
+// Passes `k` entries; none where a header is wrong, or they take more words than are left.
+pub fn walk(ring: &[u32], from: Stop, k: usize) -> Option<Stop>
     requires { (from.at < length ring.now) × (from.words ≤ length ring.now) × (length ring.now ≤ 32768) }
     ensures { Walked ring.now from k result }
 {
@@ -167,13 +150,11 @@ pub fn walk(ring: &[u32], from: Stop, k: usize) -> Stop
     let mut words = from.words;
     let mut left = k;
     let mut guess = WORTH_A_GUESS <= k;
+    // A `while`: a leg passes as many entries as it finds, not one.
     while 0 < left {
-        let out = next_leg(ring, at, seq, left, guess);
-        if out.lost {
-            return lost();
-        }
+        let out = next_leg(ring, at, seq, left, guess)?;
         if words < out.words {
-            return lost();
+            return None;
         }
         at = ring::slot(ring.len(), at, out.words);
         seq = out.seq;
@@ -182,23 +163,10 @@ pub fn walk(ring: &[u32], from: Stop, k: usize) -> Stop
         guess = next_kind(guess) <= out.passed;
         left -= out.passed;
     }
-    Stop {
-        lost: false,
+    Some(Stop {
         at,
         seq,
         prev,
         words,
-    }
-}
-
-fn lost() -> Stop
-    ensures { result.lost ≡ true }
-{
-    Stop {
-        lost: true,
-        at: 0,
-        seq: 0,
-        prev: 0,
-        words: 0,
-    }
+    })
 }

@@ -1,5 +1,5 @@
 // The commands that were queued, the oldest that still fit, numbered without a gap.
-ghost use Rattle.std.specs.Prelude.{◌≡◌, ◌<◌, ◌≤◌, false, length};
+ghost use Rattle.std.specs.Prelude.{◌≡◌, ◌<◌, ◌≤◌, length};
 ghost use Rattle.history.specs.State.{state_ok, walk_ok, Answers};
 
 use super::headers;
@@ -37,59 +37,47 @@ pub struct Mark {
     pub at: usize,
 }
 
-// What the state test answers, and a header that its walk came by.
-#[derive(Clone, Copy)]
-pub struct Tested {
-    pub ok: bool,
-    pub mark: Mark,
-}
-
 impl SendHistory {
     // The history's part of the state test; of the commands held, the newest `unsent` are not
     // written and take `unsent_words` words.
     pub fn state_ok(self, ring: &[u32], unsent: usize, unsent_words: usize) -> bool
         ensures { result ≡ state_ok self ring.now unsent unsent_words }
     {
-        let tested = self.state_walk(ring, unsent, unsent_words, 0);
-        tested.ok
+        self.state_walk(ring, unsent, unsent_words, 0).is_some()
     }
 
-    // The state test, and from its walk the header `back` before the unwritten ones, or the oldest where
-    // fewer are written.
-    pub fn state_walk(self, ring: &[u32], unsent: usize, unsent_words: usize, back: usize) -> Tested
+    // The state test, which a state passes that has some answer: from its walk, the header `back`
+    // before the unwritten ones, or the oldest where fewer are written.
+    pub fn state_walk(
+        self,
+        ring: &[u32],
+        unsent: usize,
+        unsent_words: usize,
+        back: usize,
+    ) -> Option<Mark>
         ensures { Answers (state_ok self ring.now unsent unsent_words) self ring.now unsent back result }
     {
-        if outside(MIN_WORDS, MAX_WORDS, self.size) {
-            return refused();
-        }
-        if ring.len() != self.size {
-            return refused();
-        }
-        if self.size <= self.head {
-            return refused();
-        }
-        if self.size < self.used {
-            return refused();
-        }
-        if self.count < unsent {
-            return refused();
+        if outside(MIN_WORDS, MAX_WORDS, self.size)
+            || ring.len() != self.size
+            || self.size <= self.head
+            || self.size < self.used
+            || self.count < unsent
+        {
+            return None;
         }
         walks(self, ring, unsent, unsent_words, back)
     }
 }
 
-fn refused() -> Tested
-    ensures { result.ok ≡ false }
-{
-    Tested {
-        ok: false,
-        mark: Mark { entry: 0, at: 0 },
-    }
-}
-
 // One walk over the headers, from the oldest on, with a stop before the last `back` written entries and
 // one behind the written ones.
-fn walks(h: SendHistory, ring: &[u32], unsent: usize, unsent_words: usize, back: usize) -> Tested
+fn walks(
+    h: SendHistory,
+    ring: &[u32],
+    unsent: usize,
+    unsent_words: usize,
+    back: usize,
+) -> Option<Mark>
     requires { (h.head < length ring.now) × (length ring.now ≤ 32768) × (h.used ≤ length ring.now) × (unsent ≤ h.count) }
     ensures { Answers (walk_ok ring.now h.last unsent unsent_words h.count h.head h.oldest h.used) h ring.now unsent back result }
 {
@@ -97,35 +85,22 @@ fn walks(h: SendHistory, ring: &[u32], unsent: usize, unsent_words: usize, back:
     let again = least(back, written);
     let entry = written - again;
     let start = Stop {
-        lost: false,
         at: h.head,
         seq: h.oldest,
         prev: h.last,
         words: h.used,
     };
-    let first = headers::walk(ring, start, entry);
-    if first.lost {
-        return refused();
-    }
-    let second = headers::walk(ring, first, again);
-    if second.lost {
-        return refused();
-    }
+    let first = headers::walk(ring, start, entry)?;
+    let second = headers::walk(ring, first, again)?;
     if second.words != unsent_words {
-        return refused();
+        return None;
     }
-    let all = headers::walk(ring, second, unsent);
-    if all.lost {
-        return refused();
+    let all = headers::walk(ring, second, unsent)?;
+    if all.words != 0 || all.prev != h.last {
+        return None;
     }
-    if all.words != 0 {
-        return refused();
-    }
-    Tested {
-        ok: all.prev == h.last,
-        mark: Mark {
-            entry,
-            at: first.at,
-        },
-    }
+    Some(Mark {
+        entry,
+        at: first.at,
+    })
 }

@@ -32,28 +32,15 @@ pub enum Ignored {
 }
 
 #[derive(Clone, Copy)]
-pub enum Push {
-    Queued,
-    Ignored(Ignored),
-}
-
-#[derive(Clone, Copy)]
 pub struct Pushed {
     pub queue: RetransmitQueue,
-    pub answer: Push,
-}
-
-// The oldest request.
-#[derive(Clone, Copy)]
-pub enum Oldest {
-    Request(RetransmitRequest),
-    Nothing,
+    pub answer: Result<(), Ignored>,
 }
 
 #[derive(Clone, Copy)]
 pub struct Popped {
     pub queue: RetransmitQueue,
-    pub oldest: Oldest,
+    pub oldest: Option<RetransmitRequest>,
 }
 
 impl RetransmitQueue {
@@ -61,12 +48,6 @@ impl RetransmitQueue {
     pub fn state_ok(self) -> bool
         ensures { result ≡ queue_ok self }
     {
-        if outside(1, PLACES, self.size) {
-            return false;
-        }
-        if self.size <= self.head {
-            return false;
-        }
-        self.len <= self.size
+        !outside(1, PLACES, self.size) && self.head < self.size && self.len <= self.size
     }
 }

@@ -1,10 +1,11 @@
 // Places and straight runs of a ring of words in a slice.
-ghost use Rattle.std.specs.Prelude.{◌≡◌, ◌+◌, ◌-◌, ◌<◌, ◌≤◌, length, drop, replicate};
+ghost use Rattle.std.specs.Prelude.{◌≡◌, ◌<◌, ◌≤◌, length};
 ghost use Rattle.history.specs.Ring.{slot_of, run_of, ring_stored};
 
 use config::range::least;
 
 // The place `n` after `i` in a ring of `c`.
+#[tactic(auto, unfolding(crate::specs::Ring::slot_of))]
 pub fn slot(c: usize, i: usize, n: usize) -> usize
     requires { (i < c) × (n ≤ c) × (c ≤ 32768) }
     ensures { (result ≡ slot_of c i n) × (result < c) }
@@ -21,40 +22,13 @@ pub fn run_end(c: usize, at: usize, n: usize) -> usize
     least(n, c - at)
 }
 
-// Stores `n` words, from the word `from` on, at place `at` and after it, up to the end at most.
-fn put_run(ring: &mut [u32], at: usize, words: &[u32], from: usize, n: usize)
-    requires { (from + n ≤ length words.now) × (at + n ≤ length ring.old) × (at < length ring.old) }
-    ensures { (length ring.new ≡ length ring.old)
-        × (ring_stored ring.new (slot_of (length ring.old) at n) (drop (from + n) words.now) ≡ ring_stored ring.old at (drop from words.now)) }
-{
-    let mut k = 0;
-    while k < n {
-        ring[at + k] = words[from + k];
-        k += 1;
-    }
-}
-
-// Stores the words from place `at` on, round the end.
+// Stores the words from place `at` on, round the end: those that lie before the end, and the rest from the
+// start on.
 pub fn put(ring: &mut [u32], at: usize, words: &[u32])
     requires { (at < length ring.old) × (length words.now ≤ length ring.old) }
     ensures { ring.new ≡ ring_stored ring.old at words.now }
 {
-    let n = words.len();
-    let room = run_end(ring.len(), at, n);
-    put_run(ring, at, words, 0, room);
-    if room < n {
-        put_run(ring, 0, words, room, n - room);
-        return;
-    }
-}
-
-// Zeroes every word.
-pub fn zero(ring: &mut [u32])
-    ensures { ring.new ≡ replicate (length ring.old) 0 }
-{
-    let mut k = 0;
-    while k < ring.len() {
-        ring[k] = 0;
-        k += 1;
-    }
+    let (first, rest) = words.split_at(run_end(ring.len(), at, words.len()));
+    ring[at..at + first.len()].copy_from_slice(first);
+    ring[..rest.len()].copy_from_slice(rest);
 }

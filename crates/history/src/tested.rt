@@ -11,7 +11,7 @@ ghost use Rattle.history.specs.Written.{entry_packet};
 
 use super::headers::Stop;
 use super::history::{Mark, SendHistory};
-use super::queue::{Ignored, Oldest, Popped, Push, Pushed, RetransmitQueue};
+use super::queue::{Ignored, Popped, Pushed, RetransmitQueue};
 use super::{headers, ring};
 use command::retransmit::RetransmitRequest;
 use config::sequence;
@@ -23,7 +23,7 @@ pub fn clear(size: usize, ring: &mut [u32]) -> SendHistory
     requires { (65 ≤ size) × (size ≤ 32768) × (length ring.old ≡ size) }
     ensures { (result, ring.new) ≡ cleared size ring.old }
 {
-    ring::zero(ring);
+    ring.fill(0);
     SendHistory {
         size,
         head: 0,
@@ -72,10 +72,7 @@ pub fn oldest(h: SendHistory) -> Mark
 fn nearest(h: SendHistory, from: Mark, k: usize) -> Mark
     ensures { result ≡ nearest_mark h from k }
 {
-    if k < from.entry {
-        return oldest(h);
-    }
-    from
+    if k < from.entry { oldest(h) } else { from }
 }
 
 // The place of the header of entry `k`, 0 the oldest; of the end of all entries where `k` is their count.
@@ -86,29 +83,30 @@ pub fn index_of(h: SendHistory, ring: &[u32], from: Mark, k: usize) -> usize
 {
     let mark = nearest(h, from, k);
     let start = Stop {
-        lost: false,
         at: mark.at,
         seq: sequence::add(h.oldest, mark.entry as u16),
         prev: h.last,
         words: h.used,
     };
-    let out = headers::walk(ring, start, k - mark.entry);
+    let Some(out) = headers::walk(ring, start, k - mark.entry) else {
+        unreachable!()
+    };
     out.at
 }
 
 // The oldest entry leaves.
+#[tactic(auto, using(crate::proofs::Room::good_first), unfolding(crate::specs::Push::pop_one))]
 fn pop_oldest(h: SendHistory, ring: &[u32]) -> SendHistory
     requires { Good h ring.now × (0 < h.count) }
     ensures { result ≡ pop_one ring.now h }
 {
     let n = 1 + pl(ring, h.head);
     SendHistory {
-        size: h.size,
         head: ring::slot(h.size, h.head, n),
         used: h.used - n,
         count: h.count - 1,
         oldest: sequence::add(h.oldest, 1),
-        last: h.last,
+        ..h
     }
 }
 
@@ -118,10 +116,8 @@ fn make_room(h: SendHistory, ring: &[u32], need: usize, stay: usize) -> SendHist
     ensures { Freed (h.count - stay) need h ring.now result }
 {
     let mut g = h;
-    while stay < g.count {
-        if need <= g.size - g.used {
-            return g;
-        }
+    // A `while`: entries leave by the words that are free, not by their count.
+    while stay < g.count && g.size - g.used < need {
         g = pop_oldest(g, ring);
     }
     g
@@ -136,6 +132,7 @@ fn next_seq(h: SendHistory) -> SeqNum
 
 // Adds one entry behind the newest, after as many of the oldest have left as its header and words
 // need.
+#[tactic(auto, unfolding(crate::specs::Push::pushed, crate::specs::Push::grown, crate::specs::Ring::ring_stored))]
 pub fn push(h: SendHistory, ring: &mut [u32], words: &[u32]) -> SendHistory
     requires { Good h ring.old × (length words.now ≤ 64) }
     ensures { (result, ring.new) ≡ pushed h ring.old words.now }
@@ -144,20 +141,19 @@ pub fn push(h: SendHistory, ring: &mut [u32], words: &[u32]) -> SendHistory
     let g = make_room(h, &ring[..], need, 0);
     let at = ring::slot(g.size, g.head, g.used);
     let number = next_seq(g);
-    ring[at] = (number as u32) * 0x1_0000 + (words.len() as u32);
+    ring[at] = u32::from(number) * 0x1_0000 + (words.len() as u32);
     let next = ring::slot(g.size, at, 1);
     ring::put(ring, next, words);
     SendHistory {
-        size: g.size,
-        head: g.head,
         used: g.used + need,
         count: g.count + 1,
-        oldest: g.oldest,
         last: at,
+        ..g
     }
 }
 
 // Words join the newest entry, after as many of the oldest have left as they need.
+#[tactic(auto, using(crate::proofs::Room::good_last), unfolding(crate::specs::Push::appended, crate::specs::Push::longer))]
 pub fn append_to_last(h: SendHistory, ring: &mut [u32], words: &[u32]) -> SendHistory
     requires { Good h ring.old × (0 < h.count) × (length_at ring.old h.last + length words.now ≤ 64) }
     ensures { (result, ring.new) ≡ appended h ring.old words.now }
@@ -170,12 +166,8 @@ pub fn append_to_last(h: SendHistory, ring: &mut [u32], words: &[u32]) -> SendHi
     ring::put(ring, end, words);
     ring[last] = header + (n as u32);
     SendHistory {
-        size: g.size,
-        head: g.head,
         used: g.used + n,
-        count: g.count,
-        oldest: g.oldest,
-        last: g.last,
+        ..g
     }
 }
 
@@ -186,20 +178,12 @@ pub fn write_entry(p: PayloadWriter, buf: &mut [u8], ring: &[u32], at: usize) ->
     ensures { (result, buf.new) ≡ written_of p buf.old (entry_packet ring.now at) }
 {
     let n = pl(ring, at);
-    let number = seq(ring, at);
+    let [csd1, csd2] = seq(ring, at).to_be_bytes();
     let start = ring::slot(ring.len(), at, 1);
     let run = ring::run_end(ring.len(), start, n);
     let end = start + run;
     let rest = n - run;
-    packet::tested::command_runs(
-        p,
-        buf,
-        0xFF,
-        (number / 256) as u8,
-        (number % 256) as u8,
-        &ring[start..end],
-        &ring[0..rest],
-    )
+    packet::tested::command_runs(p, buf, 0xFF, csd1, csd2, &ring[start..end], &ring[0..rest])
 }
 
 // A start and a reset: no request waits.
@@ -220,19 +204,17 @@ fn pending(q: RetransmitQueue, seq: SeqNum) -> bool
     requires { Fit q }
     ensures { result ≡ asks (waiting q) seq }
 {
-    let mut i = 0;
-    while i < q.len {
+    for i in 0..q.len {
         let at = ring::slot(q.size, q.head, i);
-        let r = q.items[at];
-        if r.seq == seq {
+        if q.items[at].seq == seq {
             return true;
         }
-        i += 1;
     }
     false
 }
 
 // Adds a request behind the newest, unless one with its number waits or no place is free.
+#[tactic(auto, unfolding(crate::specs::Queue::push_answer))]
 pub fn push_request(q: RetransmitQueue, req: RetransmitRequest) -> Pushed
     requires { Fit q }
     ensures { result ≡ push_answer q req }
@@ -240,52 +222,54 @@ pub fn push_request(q: RetransmitQueue, req: RetransmitRequest) -> Pushed
     if pending(q, req.seq) {
         return Pushed {
             queue: q,
-            answer: Push::Ignored(Ignored::Pending),
+            answer: Err(Ignored::Pending),
         };
     }
     if q.size <= q.len {
         return Pushed {
             queue: q,
-            answer: Push::Ignored(Ignored::Full),
+            answer: Err(Ignored::Full),
         };
     }
     let at = ring::slot(q.size, q.head, q.len);
-    let mut next = q;
-    next.items[at] = req;
-    next.len = q.len + 1;
+    let mut queue = RetransmitQueue {
+        len: q.len + 1,
+        ..q
+    };
+    queue.items[at] = req;
     Pushed {
-        queue: next,
-        answer: Push::Queued,
+        queue,
+        answer: Ok(()),
     }
 }
 
 // The oldest request.
-fn front(q: RetransmitQueue) -> Oldest
+#[tactic(auto, unfolding(crate::specs::Queue::oldest_of, crate::specs::Queue::requests, crate::specs::Queue::request, crate::specs::Ring::slot_of))]
+fn front(q: RetransmitQueue) -> Option<RetransmitRequest>
     requires { Fit q }
     ensures { result ≡ oldest_of (waiting q) }
 {
     if q.len == 0 {
-        return Oldest::Nothing;
+        return None;
     }
-    let head = q.head;
-    Oldest::Request(q.items[head])
+    Some(q.items[q.head])
 }
 
 // Puts a request in the oldest one's place; changes nothing where none waits.
+#[tactic(auto, unfolding(crate::specs::Queue::set_front_of))]
 pub fn set_front(q: RetransmitQueue, req: RetransmitRequest) -> RetransmitQueue
     requires { Fit q }
     ensures { result ≡ set_front_of q req }
 {
-    if q.len == 0 {
-        return q;
-    }
-    let oldest = q.head;
     let mut next = q;
-    next.items[oldest] = req;
+    if 0 < q.len {
+        next.items[q.head] = req;
+    }
     next
 }
 
 // Removes the oldest request.
+#[tactic(auto, unfolding(crate::specs::Queue::pop_of))]
 pub fn pop(q: RetransmitQueue) -> Popped
     requires { Fit q }
     ensures { result ≡ pop_of q }
@@ -294,11 +278,10 @@ pub fn pop(q: RetransmitQueue) -> Popped
     if q.len == 0 {
         return Popped { queue: q, oldest };
     }
-    let mut next = q;
-    next.head = ring::slot(q.size, q.head, 1);
-    next.len = q.len - 1;
-    Popped {
-        queue: next,
-        oldest,
-    }
+    let queue = RetransmitQueue {
+        head: ring::slot(q.size, q.head, 1),
+        len: q.len - 1,
+        ..q
+    };
+    Popped { queue, oldest }
 }

@@ -1,4 +1,4 @@
-// The idle timer, and what is asked of it.
+// The idle timer, none where it is off, and what is asked of it.
 ghost use Rattle.std.specs.Prelude.{◌≡◌};
 ghost use Rattle.idle.specs.Schedule.{idle_ok, is_due, idle_start};
 
@@ -18,41 +18,27 @@ pub struct Idle {
     pub interval: u64,
 }
 
-#[derive(Clone, Copy)]
-pub enum IdleTimer {
-    Off,
-    Waiting(Idle),
+// The schedule after a command with words is written: the first idle command is due T1 later.
+pub fn start(cfg: StreamConfig, time: u64) -> Option<Idle>
+    ensures { result ≡ idle_start cfg time }
+{
+    let interval = cfg.idle_interval_ms as u64;
+    Some(Idle {
+        due: later_by(time, interval),
+        step: 0,
+        interval,
+    })
 }
 
-impl IdleTimer {
-    // After a command with words is written: the first idle command is due T1 later.
-    pub fn start(cfg: StreamConfig, time: u64) -> Self
-        ensures { result ≡ idle_start cfg time }
-    {
-        let interval = cfg.idle_interval_ms as u64;
-        IdleTimer::Waiting(Idle {
-            due: later_by(time, interval),
-            step: 0,
-            interval,
-        })
-    }
+// The schedule's part of the state test.
+pub fn state_ok(timer: Option<Idle>) -> bool
+    ensures { result ≡ idle_ok timer }
+{
+    timer.is_none_or(|i| i.step <= MAX_STEP)
+}
 
-    // The idle timer's part of the state test.
-    pub fn state_ok(self) -> bool
-        ensures { result ≡ idle_ok self }
-    {
-        match self {
-            IdleTimer::Off => true,
-            IdleTimer::Waiting(i) => i.step <= MAX_STEP,
-        }
-    }
-
-    pub fn is_due(self, time: u64) -> bool
-        ensures { result ≡ is_due self time }
-    {
-        match self {
-            IdleTimer::Off => false,
-            IdleTimer::Waiting(i) => i.due <= time,
-        }
-    }
+pub fn is_due(timer: Option<Idle>, time: u64) -> bool
+    ensures { result ≡ is_due timer time }
+{
+    timer.is_some_and(|i| i.due <= time)
 }

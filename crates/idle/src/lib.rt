@@ -6,7 +6,7 @@
 //
 // A schedule has no clock: times are given by the caller, in ms, and so are the settings.
 //
-//   idle    `IdleTimer`: its start, its state test, and whether a command is due
+//   idle    `Idle`, a schedule that runs: its start, its state test, and whether a command is due
 //   tested  the next step, over settings and a timer that were tested
 #![tactic(auto)]
 

@@ -1,5 +1,7 @@
 -- The halves of a step, and the step.
 use Prim.Native.Nat.{ℕ, ◌+◌, ◌≤◌}
+use Rattle.std.proofs.Common.{Option}
+use Rattle.command.specs.declared.retransmit.RetransmitError.{RetransmitError}
 use mathlib.Core.Path.{◌≡◌, ap, ap₂, ◌∙◌}
 use mathlib.Core.List.{List}
 use native.Mathlib.Omega.{arith}
@@ -14,7 +16,6 @@ use Rattle.link_tally.specs.Tally.{tallied, unread}
 use Rattle.link_rules.specs.Link.{Ends, carried, calls_of, step_of}
 use Rattle.link.specs.Turns.{Turn, wrote_into, console_of, chamber_of, poll_loss, part_of, turn_of, there_of, back_of, ends_of}
 use Rattle.link_tally.specs.declared.arriving.Tally.{Tally}
-use Rattle.link_rules.specs.declared.run.Waiting.{Waiting}
 use Rattle.link.specs.declared.turns.Turn.{Turn as Turned}
 use Rattle.link.specs.declared.halves.Gone.{Gone}
 use Rattle.link.specs.declared.halves.Come.{Come}
@@ -25,7 +26,7 @@ unfolding part_of
 part_short n buf part e l = rw e (simp length-take (omega arith))
 
 module _ (console chamber : DataStream) (cfg : StreamConfig) (time : ℕ) where
-  pub there_is : (x y figure : ℕ) (w : Waiting) (ring other : List ℕ) (t : Turned) (buf after : List ℕ) → turn_of t buf after ≡ console_of console cfg time ring x w
+  pub there_is : (x y figure : ℕ) (w : Option RetransmitError) (ring other : List ℕ) (t : Turned) (buf after : List ℕ) → turn_of t buf after ≡ console_of console cfg time ring x w
       → (part : List ℕ) → part ≡ part_of t.len buf → (r : Tally) → r ≡ tallied (unread chamber) (arrived_of chamber cfg time other (carried figure y part))
       → ◌≡◌ {A = Gone × List ℕ} (record { console = t.stream; chamber = r }, after) (there_of console chamber cfg time x y figure w ring other)
   unfolding there_of

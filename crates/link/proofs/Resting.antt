@@ -1,12 +1,17 @@
 -- An end at rest: queueing no words, writing with nothing to write and polling with nothing to do leave stream, history and payload as they are, whatever the tests say.
-use Prim.Native.Nat.{ℕ, ◌%◌, ◌≤◌, ◌<◌}
+use Prim.Native.Nat.{ℕ, ◌%◌}
+use Rattle.std.proofs.Common.{is_some, Option, Some, None, Ok}
+use Rattle.receiver.specs.declared.receiver.ReceiverAnswer.{ReceiverAnswer}
+use Rattle.receiver.specs.declared.receiver.StreamEvent.{StreamEvent}
+use Rattle.sender.specs.declared.sender.SenderAnswer.{SenderAnswer}
+use Rattle.std.specs.Bool.{⊤}
 use mathlib.Core.Path.{◌≡◌, refl, sym, ap, ap₂, ◌∙◌}
 use mathlib.Core.Bool.{Bool, true, false, cond, not, ◌&&◌, ◌||◌}
 use mathlib.Core.List.{List, []}
 use lib.ListN.{length, replicate}
 use lib.Dec.{eqb, ltb}
 use native.Mathlib.Omega.{arith}
-use borrow.Author.Tests.{eq-eqb, ne_eqb, eqb-true}
+use borrow.Author.Tests.{eqb-true}
 use Rattle.config.specs.inner.Tests.{and_left, and_right}
 use Rattle.config.specs.Settings.{check_of}
 use Rattle.config.specs.declared.settings.StreamConfig.{StreamConfig}
@@ -17,11 +22,7 @@ use Rattle.packet.specs.declared.writer.PayloadWriter.{PayloadWriter}
 use Rattle.receiver.specs.Answers as receiver
 use Rattle.receiver.specs.Receiver.{not_due, taken_of, polled_of, polled_at, valid_of as receiver_valid}
 use Rattle.receiver.specs.declared.receiver.RequestTimer.{RequestTimer}
-use Rattle.receiver.specs.declared.receiver.Told.{Told as ReceiverTold}
-use Rattle.receiver.specs.declared.receiver.Timer.{Timer}
-use Rattle.receiver.specs.declared.receiver.Timer.TheVariants.{Stopped, Running}
 use Rattle.receiver.specs.declared.receiver.Receiver.{Receiver}
-use Rattle.receiver.specs.declared.receiver.StreamEvent.TheVariants.{Nothing as NoEvent}
 use Rattle.receiver.specs.declared.receiver.RequestWritten.{RequestWritten}
 use Rattle.command.specs.declared.retransmit.RetransmitError.{RetransmitError}
 use Rattle.sender.specs.Answers as sender
@@ -30,7 +31,6 @@ use Rattle.sender.specs.State.{valid_of as sender_valid}
 use Rattle.writing.specs.Writing.{Served, served_in, served_of, idled_by, idled_of, new_by, new_of, wrote, written_by, commands_at}
 use Rattle.sender.specs.Requests.{written_count}
 use Rattle.sender.specs.declared.sender.Sender.{Sender}
-use Rattle.sender.specs.declared.sender.Sent.{Sent}
 use Rattle.writing.specs.declared.writing.Wrote.{Wrote as SenderWrote}
 use Rattle.stream.specs.Ends.{send_answer, poll_answer, told_by}
 use Rattle.stream.specs.State.{valid_of, with_sender, with_receiver}
@@ -38,18 +38,11 @@ use Rattle.stream.specs.Writing.{after_request, sent_after, data_written, write_
 use Rattle.stream.specs.declared.stream.DataStream.{DataStream}
 use Rattle.stream.specs.declared.stream.Wrote.{Wrote}
 use Rattle.load.specs.Load.{count_of, word}
-use Rattle.load.specs.declared.load.Load.{Load}
-use Rattle.load.specs.declared.load.Words.{Words}
-use Rattle.load.specs.Load as load
 use Rattle.packet.specs.Read.{Item, items_of, signed}
 use Rattle.idle.specs.declared.idle.Idle.{Idle}
-use Rattle.idle.specs.declared.idle.IdleTimer.{IdleTimer}
-use Rattle.idle.specs.declared.idle.IdleTimer.TheVariants.{Off, Waiting}
 use Rattle.rows.specs.Rows.{packets_from}
 use Rattle.link_rules.specs.Arriving.{arrived_of, event_loss}
 use Rattle.link_rules.specs.Link.{empty, blank, carried}
-use Rattle.link_rules.specs.declared.run.Waiting.{Waiting as ErrorWaiting}
-use Rattle.link_rules.specs.declared.run.Waiting.TheVariants.{Nothing, Error}
 use Rattle.link_tally.specs.Tally.{tallied, unread}
 use Rattle.link.specs.Turns.{Turn, wrote_into, queued_at, chamber_of, poll_loss, there_of, back_of}
 use Rattle.link.specs.Rests.{idle_rests, timer_rests, quiet_of, no_error, console_rests, chamber_rests}
@@ -63,118 +56,39 @@ use Rattle.link.proofs.Turning.{console_is, begin_none}
 false_true : ◌≡◌ {A = Bool} false true → ⊥
 false_true e = let z : eqb 1 0 ≡ true = e in let y : ◌≡◌ {A = ℕ} 1 0 = eqb-true 1 0 z in let x : ⊥ = omega arith in x
 
-above_zero : (n : ℕ) → 0 < n → eqb n 0 ≡ false
-above_zero n l = ne_eqb n 0 (λ (z : n ≡ 0). let y : ⊥ = omega arith in y)
-
-zero_only : (n : ℕ) → n ≤ 0 → eqb n 0 ≡ true
-zero_only n l = eq-eqb n 0 (omega arith)
-
-module _ (d : Bool) (u q : ℕ) (i : Bool) where
-  due_by : d ≡ true → false ≡ (not d && (eqb u 0 && (eqb q 0 && i)))
-  due_by e = rw e
-
-  words_by : d ≡ false → 0 < u → false ≡ (not d && (eqb u 0 && (eqb q 0 && i)))
-  words_by e l = rw (e, above_zero u l)
-
-  request_by : d ≡ false → u ≤ 0 → 0 < q → false ≡ (not d && (eqb u 0 && (eqb q 0 && i)))
-  request_by e l m = rw (e, zero_only u l, above_zero q m)
-
-  idle_by : d ≡ false → u ≤ 0 → q ≤ 0 → (r : Bool) → r ≡ i → r ≡ (not d && (eqb u 0 && (eqb q 0 && i)))
-  idle_by e l m r f = rw (e, zero_only u l, zero_only q m) f
-
-module _ (s : DataStream) (time : ℕ) where
-  abbrev due : Bool
-  due = s.receiver.request_due
-
-  abbrev words : ℕ
-  words = s.sender.unsent
-
-  abbrev requests : ℕ
-  requests = s.sender.queue.len
-
-  abbrev rests : Bool
-  rests = idle_rests s.sender.idle time
-
-  pub due_waits : due ≡ true → false ≡ quiet_of s time
-  unfolding quiet_of
-  due_waits = due_by due words requests rests
-
-  pub words_wait : due ≡ false → 0 < words → false ≡ quiet_of s time
-  unfolding quiet_of
-  words_wait = words_by due words requests rests
-
-  pub request_waits : due ≡ false → words ≤ 0 → 0 < requests → false ≡ quiet_of s time
-  unfolding quiet_of
-  request_waits = request_by due words requests rests
-
-  pub idle_decides : due ≡ false → words ≤ 0 → requests ≤ 0 → (r : Bool) → r ≡ rests → r ≡ quiet_of s time
-  unfolding quiet_of
-  idle_decides = idle_by due words requests rests
-
-module _ (t : IdleTimer) (time : ℕ) where
-  pub rests_off : t ≡ Off → true ≡ idle_rests t time
+module _ (t : Option Idle) (time : ℕ) where
+  pub rests_off : t ≡ None → true ≡ idle_rests t time
   unfolding idle_rests
-  rests_off e = sym (ap (λ (x : IdleTimer). idle_rests x time) e)
+  rests_off e = sym (ap (λ (x : Option Idle). idle_rests x time) e)
 
-  pub rests_until : (i : Idle) → t ≡ Waiting i → ltb time i.due ≡ idle_rests t time
+  pub rests_until : (i : Idle) → t ≡ Some i → ltb time i.due ≡ idle_rests t time
   unfolding idle_rests
-  rests_until i e = sym (ap (λ (x : IdleTimer). idle_rests x time) e)
+  rests_until i e = sym (ap (λ (x : Option Idle). idle_rests x time) e)
 
-module _ (t : Timer) (time : ℕ) where
-  pub timer_off : t ≡ Stopped → true ≡ timer_rests t time
+module _ (t : Option RequestTimer) (time : ℕ) where
+  pub timer_off : t ≡ None → true ≡ timer_rests t time
   unfolding timer_rests
-  timer_off e = sym (ap (λ (x : Timer). timer_rests x time) e)
+  timer_off e = sym (ap (λ (x : Option RequestTimer). timer_rests x time) e)
 
-  pub timer_until : (i : RequestTimer) → t ≡ Running i → ltb time i.due ≡ timer_rests t time
+  pub timer_until : (i : RequestTimer) → t ≡ Some i → ltb time i.due ≡ timer_rests t time
   unfolding timer_rests
-  timer_until i e = sym (ap (λ (x : Timer). timer_rests x time) e)
+  timer_until i e = sym (ap (λ (x : Option RequestTimer). timer_rests x time) e)
 
-module _ (w : ErrorWaiting) where
-  pub error_none : w ≡ Nothing → true ≡ no_error w
-  unfolding no_error
-  error_none e = sym (ap no_error e)
+pub none_is : (w : Option RetransmitError) (b : Bool) → is_some w ≡ not b → b ≡ no_error w
+unfolding no_error
+none_is None true e = refl
+none_is None false e = absurd (let z : ◌≡◌ {A = ℕ} 0 1 = cc in let y : ⊥ = omega arith in y)
+none_is (Some x) true e = absurd (let z : ◌≡◌ {A = ℕ} 0 1 = cc in let y : ⊥ = omega arith in y)
+none_is (Some x) false e = refl
 
-  pub error_some : (x : RetransmitError) → w ≡ Error x → false ≡ no_error w
-  unfolding no_error
-  error_some x e = sym (ap no_error e)
-
-  none_waits : no_error w ≡ true → w ≡ Nothing
+module _ (w : Option RetransmitError) where
+  none_waits : no_error w ≡ true → w ≡ None
   unfolding no_error
   none_waits e = none_by w e
     where
-      none_by : (v : ErrorWaiting) → no_error v ≡ true → v ≡ Nothing
-      none_by Nothing e = refl
-      none_by (Error x) e = absurd (false_true e)
-
--- ---- both tests of a console, and of a chamber
-both_by : (a b : Bool) → a ≡ false → false ≡ (a && b)
-both_by a b e = rw e
-
-both_on : (a b r : Bool) → a ≡ true → r ≡ b → r ≡ (a && b)
-both_on a b r e f = rw e f
-
-module _ (s : DataStream) (time : ℕ) (l : Load) (w : ErrorWaiting) where
-  pub error_waits : (t : Bool) → t ≡ no_error w → t ≡ false → false ≡ console_rests s time l.last w
-  unfolding console_rests
-  error_waits t e f = both_by (no_error w) _ (sym e ∙ f)
-
-  pub words_come : (t : Bool) → t ≡ no_error w → t ≡ true → (a : Words) → a ≡ load.asked_of l → 0 < a.count → false ≡ console_rests s time l.last w
-  unfolding console_rests
-  words_come t e f a g m = both_on (no_error w) _ false (sym e ∙ f) (both_by (eqb (count_of l.last) 0) (quiet_of s time) (above_zero (count_of l.last) (let n : a.count ≡ count_of l.last = ap (λ (x : Words). x.count) g in omega arith)))
-
-  pub console_decides : (t : Bool) → t ≡ no_error w → t ≡ true → (a : Words) → a ≡ load.asked_of l → a.count ≤ 0 → (r : Bool) → r ≡ quiet_of s time → r ≡ console_rests s time l.last w
-  unfolding console_rests
-  console_decides t e f a g m r h =
-      both_on (no_error w) _ r (sym e ∙ f) (both_on (eqb (count_of l.last) 0) (quiet_of s time) r (zero_only (count_of l.last) (let n : a.count ≡ count_of l.last = ap (λ (x : Words). x.count) g in omega arith)) h)
-
-module _ (s : DataStream) (time : ℕ) where
-  pub timer_waits : (t : Bool) → t ≡ timer_rests s.receiver.timer time → t ≡ false → false ≡ chamber_rests s time
-  unfolding chamber_rests
-  timer_waits t e f = both_by (timer_rests s.receiver.timer time) (quiet_of s time) (sym e ∙ f)
-
-  pub chamber_decides : (t : Bool) → t ≡ timer_rests s.receiver.timer time → t ≡ true → (r : Bool) → r ≡ quiet_of s time → r ≡ chamber_rests s time
-  unfolding chamber_rests
-  chamber_decides t e f r h = both_on (timer_rests s.receiver.timer time) (quiet_of s time) r (sym e ∙ f) h
+      none_by : (v : Option RetransmitError) → no_error v ≡ true → v ≡ None
+      none_by None e = refl
+      none_by (Some x) e = absurd (false_true e)
 
 chosen : {A : Type 0} (t : Bool) (x y : A) → t ≡ true → cond t x y ≡ x
 chosen t x y e = rw e
@@ -196,10 +110,10 @@ module _ (x : Sender) (cfg : StreamConfig) (time : ℕ) (p : PayloadWriter) (b r
   unfolding served_of
   served_none e = served_by_lem x.queue.len e
 
-  idled_by_lem : (t : IdleTimer) → idle_rests t time ≡ true → idled_by x cfg time ring t ≡ (x, ring)
+  idled_by_lem : (t : Option Idle) → idle_rests t time ≡ true → idled_by x cfg time ring t ≡ (x, ring)
   unfolding idle_rests
-  idled_by_lem Off e = refl
-  idled_by_lem (Waiting i) e = chosen (ltb 0 x.unsent || ltb time i.due) _ _ (or_right (ltb 0 x.unsent) (ltb time i.due) e)
+  idled_by_lem None e = refl
+  idled_by_lem (Some i) e = chosen (ltb 0 x.unsent || ltb time i.due) _ _ (or_right (ltb 0 x.unsent) (ltb time i.due) e)
 
   idled_none : idle_rests x.idle time ≡ true → idled_of x cfg time ring ≡ (x, ring)
   unfolding idled_of
@@ -280,13 +194,13 @@ module _ (s : DataStream) (cfg : StreamConfig) (time : ℕ) (p : PayloadWriter) 
 
 -- ---- no words
 module _ (s : DataStream) (cfg : StreamConfig) (ring : List ℕ) where
-  abbrev sent_to : Sent × List ℕ → DataStream × List ℕ
+  abbrev sent_to : SenderAnswer ⊤ × List ℕ → DataStream × List ℕ
   sent_to e = (with_sender s e.0.sender, e.1)
 
   no_words : (s, ring) ≡ sent_to (sender.send_answer s.sender cfg ring [])
   unfolding sender.send_answer sent_of
   no_words =
-      entry_any (λ (e : Sent × List ℕ). (s, ring) ≡ sent_to e) (unsent s.sender ring) (sent_of s.sender ring cfg.max_command_words []) (λ why. refl)
+      entry_any (λ (e : SenderAnswer ⊤ × List ℕ). (s, ring) ≡ sent_to e) (unsent s.sender ring) (sent_of s.sender ring cfg.max_command_words []) (λ why. refl)
       (check_of cfg) (sender_valid s.sender ring) (λ _ _. refl)
 
   queued_by_lem : (n : ℕ) → n ≡ 0 → (s, ring) ≡ sent_to (sender.send_answer s.sender cfg ring (replicate n word))
@@ -298,18 +212,18 @@ module _ (s : DataStream) (cfg : StreamConfig) (ring : List ℕ) where
 
 -- ---- no poll
 module _ (s : DataStream) (cfg : StreamConfig) (time : ℕ) (e : timer_rests s.receiver.timer time ≡ true) where
-  abbrev counted : ReceiverTold → DataStream × ℕ
-  counted t = ((told_by s.sender t).stream, event_loss (told_by s.sender t).event)
+  abbrev counted : ReceiverAnswer (Option StreamEvent) → DataStream × ℕ
+  counted t = ((told_by s.sender t).stream, event_loss (told_by s.sender t).answer)
 
-  at_rest : (t : Timer) → timer_rests t time ≡ true → polled_at s.receiver cfg time t ≡ record { receiver = s.receiver; event = NoEvent }
+  at_rest : (t : Option RequestTimer) → timer_rests t time ≡ true → polled_at s.receiver cfg time t ≡ record { receiver = s.receiver; answer = Ok None }
   unfolding timer_rests
-  at_rest Stopped f = refl
-  at_rest (Running t) f = chosen (ltb time t.due) _ _ f
+  at_rest None f = refl
+  at_rest (Some t) f = chosen (ltb time t.due) _ _ f
 
   polled_none : (s, 0) ≡ counted (receiver.poll_answer s.receiver cfg time)
   unfolding receiver.poll_answer polled_of
   polled_none =
-      entry_any (λ (t : ReceiverTold). (s, 0) ≡ counted t) (receiver.event_refused s.receiver) (polled_at s.receiver cfg time s.receiver.timer) (λ why. refl)
+      entry_any (λ (t : ReceiverAnswer (Option StreamEvent)). (s, 0) ≡ counted t) (receiver.event_refused s.receiver) (polled_at s.receiver cfg time s.receiver.timer) (λ why. refl)
       (check_of cfg) (receiver_valid s.receiver) (λ _ _. sym (ap counted (at_rest s.receiver.timer e)))
 
   stays : s ≡ (poll_answer s cfg time).stream
@@ -333,7 +247,7 @@ unfolding arrived_of
 reads_none s cfg time ring items e = rw e (sym (tallied_none (unread s)))
 
 module _ (console chamber : DataStream) (cfg : StreamConfig) (time : ℕ) where
-  pub there_rests : (x y figure : ℕ) (w : ErrorWaiting) (ring other : List ℕ) → console_rests console time x w ≡ true
+  pub there_rests : (x y figure : ℕ) (w : Option RetransmitError) (ring other : List ℕ) → console_rests console time x w ≡ true
       → ◌≡◌ {A = Gone × List ℕ} (record { console = console; chamber = unread chamber }, ring) (there_of console chamber cfg time x y figure w ring other)
   unfolding console_rests there_of
   there_rests x y figure w ring other e =

@@ -1,5 +1,9 @@
 -- The turns of both ends, by what the code has at hand.
 use Prim.Native.Nat.{ℕ, zero, suc, ◌%◌, ◌≤◌, ◌<◌}
+use Rattle.std.proofs.Common.{Option, Some, None}
+use Rattle.receiver.specs.declared.receiver.StreamEvent.{StreamEvent}
+use Rattle.stream.specs.declared.stream.StreamAnswer.{StreamAnswer}
+use Rattle.std.specs.Bool.{⊤}
 use mathlib.Core.Path.{◌≡◌, refl, sym, ap, ap₂, ◌∙◌}
 use mathlib.Core.List.{List, ◌∷◌}
 use mathlib.Core.Logic.{inl, inr}
@@ -18,8 +22,6 @@ use Rattle.command.specs.declared.retransmit.RetransmitError.{RetransmitError}
 use Rattle.stream.specs.Ends.{send_answer, poll_answer}
 use Rattle.stream.specs.Writing.{write_answer}
 use Rattle.stream.specs.declared.stream.DataStream.{DataStream}
-use Rattle.stream.specs.declared.stream.Sent.{Sent}
-use Rattle.stream.specs.declared.stream.Told.{Told}
 use Rattle.stream.specs.declared.stream.Wrote.{Wrote}
 use Rattle.load.specs.Load.{word, sends, count_of, words_of, asked_of}
 use Rattle.load.specs.declared.load.Load.{Load}
@@ -29,16 +31,14 @@ use Rattle.link_tally.specs.Tally.{tallied, unread}
 use Rattle.link_rules.specs.Link.{empty, blank, carried}
 use Rattle.link.specs.Turns.{Turn, begun, wrote_into, queued_at, console_of, chamber_of, poll_loss, part_of}
 use Rattle.link_tally.specs.declared.arriving.Tally.{Tally}
-use Rattle.link_rules.specs.declared.run.Waiting.{Waiting}
-use Rattle.link_rules.specs.declared.run.Waiting.TheVariants.{Nothing, Error}
 use Rattle.link_tally.proofs.Walking.{tallied_none}
 
 -- ---- the payload
 
-pub begin_none : (w : Waiting) (buf : List ℕ) → buf ≡ blank → w ≡ Nothing → (empty, buf) ≡ begun w
+pub begin_none : (w : Option RetransmitError) (buf : List ℕ) → buf ≡ blank → w ≡ None → (empty, buf) ≡ begun w
 begin_none w buf e f = ap (λ (b : List ℕ). (empty, b)) e ∙ ap begun (sym f)
 
-pub begin_error : (w : Waiting) (e : RetransmitError) (buf out : List ℕ) (x : Written) → buf ≡ blank → w ≡ Error e → (x, out) ≡ error_written e empty buf → (x.payload, out) ≡ begun w
+pub begin_error : (w : Option RetransmitError) (e : RetransmitError) (buf out : List ℕ) (x : Written) → buf ≡ blank → w ≡ Some e → (x, out) ≡ error_written e empty buf → (x.payload, out) ≡ begun w
 begin_error w e buf out x f g h =
     ap (λ (y : Written × List ℕ). (y.0.payload, y.1)) (h ∙ ap (error_written e empty) f) ∙ ap begun (sym g)
 
@@ -68,25 +68,25 @@ words_at_most l a e = rw e (words_most l.last)
 pub words_are : (l : Load) (a : Words) → a ≡ asked_of l → take a.count (replicate 8 word) ≡ words_of l.last
 words_are l a e = rw e (take_replicate (count_of l.last) 8 word (words_most l.last))
 
-pub queued_is : (s : DataStream) (cfg : StreamConfig) (ring : List ℕ) (x : ℕ) (ws : List ℕ) → ws ≡ words_of x → (r : Sent) (out : List ℕ) → (r, out) ≡ send_answer s cfg ring ws → (r.stream, out) ≡ queued_at s cfg ring x
-queued_is s cfg ring x ws e r out f = ap (λ (q : Sent × List ℕ). (q.0.stream, q.1)) (f ∙ ap (send_answer s cfg ring) e)
+pub queued_is : (s : DataStream) (cfg : StreamConfig) (ring : List ℕ) (x : ℕ) (ws : List ℕ) → ws ≡ words_of x → (r : StreamAnswer ⊤) (out : List ℕ) → (r, out) ≡ send_answer s cfg ring ws → (r.stream, out) ≡ queued_at s cfg ring x
+queued_is s cfg ring x ws e r out f = ap (λ (q : StreamAnswer ⊤ × List ℕ). (q.0.stream, q.1)) (f ∙ ap (send_answer s cfg ring) e)
 
 -- ---- the turns
 
-pub console_is : (s : DataStream) (cfg : StreamConfig) (time : ℕ) (ring : List ℕ) (x : ℕ) (w : Waiting) (q : DataStream) (after : List ℕ) → (q, after) ≡ queued_at s cfg ring x
+pub console_is : (s : DataStream) (cfg : StreamConfig) (time : ℕ) (ring : List ℕ) (x : ℕ) (w : Option RetransmitError) (q : DataStream) (after : List ℕ) → (q, after) ≡ queued_at s cfg ring x
     → (p : PayloadWriter) (b : List ℕ) → (p, b) ≡ begun w → (t : Turn) → t ≡ wrote_into q cfg time after (p, b) → t ≡ console_of s cfg time ring x w
 unfolding console_of
 console_is s cfg time ring x w q after e p b f t g =
     g ∙ ap₂ (λ (y : DataStream × List ℕ) (z : PayloadWriter × List ℕ). wrote_into y.0 cfg time y.1 z) e f
 
-pub chamber_is : (s : DataStream) (cfg : StreamConfig) (time : ℕ) (ring b : List ℕ) → b ≡ blank → (h : Told) → h ≡ poll_answer s cfg time
+pub chamber_is : (s : DataStream) (cfg : StreamConfig) (time : ℕ) (ring b : List ℕ) → b ≡ blank → (h : StreamAnswer (Option StreamEvent)) → h ≡ poll_answer s cfg time
     → (t : Turn) → t ≡ wrote_into h.stream cfg time ring (empty, b) → t ≡ chamber_of s cfg time ring
 unfolding chamber_of
 chamber_is s cfg time ring b e h f t g =
-    g ∙ ap₂ (λ (y : Told) (z : List ℕ). wrote_into y.stream cfg time ring (empty, z)) f e
+    g ∙ ap₂ (λ (y : StreamAnswer (Option StreamEvent)) (z : List ℕ). wrote_into y.stream cfg time ring (empty, z)) f e
 
-pub poll_loss_is : (s : DataStream) (cfg : StreamConfig) (time : ℕ) (h : Told) → h ≡ poll_answer s cfg time → (n m : ℕ) → n ≡ event_loss h.event → m ≡ n → m ≡ poll_loss s cfg time
-poll_loss_is s cfg time h f n m e g = g ∙ e ∙ ap (λ (y : Told). event_loss y.event) f
+pub poll_loss_is : (s : DataStream) (cfg : StreamConfig) (time : ℕ) (h : StreamAnswer (Option StreamEvent)) → h ≡ poll_answer s cfg time → (n m : ℕ) → n ≡ event_loss h.answer → m ≡ n → m ≡ poll_loss s cfg time
+poll_loss_is s cfg time h f n m e g = g ∙ e ∙ ap (λ (y : StreamAnswer (Option StreamEvent)). event_loss y.answer) f
 
 -- ---- the line
 

@@ -1,5 +1,6 @@
 -- The turns of both ends, the halves of a step and the state, as the code hands them on: a payload in its buffer, and the lent histories beside the streams.
-use Rattle.std.specs.Prelude.{ℕ, ◌*◌, ◌≤◌, List, take}
+use Rattle.std.specs.Prelude.{ℕ, ◌*◌, ◌≤◌, List, take, Option}
+use Rattle.command.specs.declared.retransmit.RetransmitError.{RetransmitError}
 use Rattle.config.specs.declared.settings.StreamConfig.{StreamConfig}
 use Rattle.packet.specs.Read.{items_of}
 use Rattle.packet.specs.declared.writer.PayloadWriter.{PayloadWriter}
@@ -9,7 +10,6 @@ use Rattle.stream.specs.declared.stream.DataStream.{DataStream}
 use Rattle.load.specs.Load.{words_of}
 use Rattle.link_rules.specs.Arriving.{arrived_of, event_loss}
 use Rattle.link_rules.specs.Link.{Ends, empty, blank, opened_by, payload_of, carried}
-use Rattle.link_rules.specs.declared.run.Waiting.{Waiting}
 use Rattle.link_tally.specs.Tally.{tallied, unread}
 use Rattle.link.specs.declared.turns.Turn.{Turn as Turned}
 use Rattle.link.specs.declared.halves.Gone.{Gone}
@@ -25,7 +25,7 @@ pub record Turn : Type 0 where
   pub bytes : List ℕ
 
 -- a payload with its buffer: empty, or with the error that waits
-abbrev pub begun : Waiting → PayloadWriter × List ℕ
+abbrev pub begun : Option RetransmitError → PayloadWriter × List ℕ
 begun w = let o = opened_by w in (o.0.payload, o.1)
 
 -- the stream and its history with what the load's value asks to send
@@ -37,7 +37,7 @@ wrote_into s cfg time ring p =
     let w = write_answer s cfg time p.0 p.1 ring in
     record { stream = w.0.stream; ring = w.2; bytes = payload_of w }
 
-unfoldable pub console_of : DataStream → StreamConfig → ℕ → List ℕ → ℕ → Waiting → Turn
+unfoldable pub console_of : DataStream → StreamConfig → ℕ → List ℕ → ℕ → Option RetransmitError → Turn
 console_of s cfg time ring x waiting =
     let q = queued_at s cfg ring x in
     wrote_into q.0 cfg time q.1 (begun waiting)
@@ -47,7 +47,7 @@ unfoldable pub chamber_of : DataStream → StreamConfig → ℕ → List ℕ →
 chamber_of s cfg time ring = wrote_into (poll_answer s cfg time).stream cfg time ring (empty, blank)
 
 abbrev pub poll_loss : DataStream → StreamConfig → ℕ → ℕ
-poll_loss s cfg time = event_loss (poll_answer s cfg time).event
+poll_loss s cfg time = event_loss (poll_answer s cfg time).answer
 
 -- the first bytes of a buffer
 unfoldable pub part_of : ℕ → List ℕ → List ℕ
@@ -59,7 +59,7 @@ turn_of r buf ring = record { stream = r.stream; ring = ring; bytes = part_of r.
 -- ---- the halves of a step
 
 -- the console's turn, and what of it arrives at the chamber
-unfoldable pub there_of : DataStream → DataStream → StreamConfig → ℕ → ℕ → ℕ → ℕ → Waiting → List ℕ → List ℕ → Gone × List ℕ
+unfoldable pub there_of : DataStream → DataStream → StreamConfig → ℕ → ℕ → ℕ → ℕ → Option RetransmitError → List ℕ → List ℕ → Gone × List ℕ
 there_of console chamber cfg time x y figure waiting ring other =
     let c = console_of console cfg time ring x waiting in
     (record { console = c.stream; chamber = tallied (unread chamber) (arrived_of chamber cfg time other (carried figure y c.bytes)) }, c.ring)

@@ -5,8 +5,8 @@ ghost use Rattle.link.specs.Turns.{there_of, back_of};
 
 use super::quiet::{chamber_rests, console_rests};
 use super::turns::{carry, chamber_turn, console_turn, part};
+use command::retransmit::RetransmitError;
 use config::settings::StreamConfig;
-use link_rules::run::Waiting;
 use link_tally::arriving::{Tally, arrive};
 use load::load::Load;
 use stream::stream::DataStream;
@@ -36,7 +36,7 @@ fn spoken(
     load: Load,
     line: Load,
     figure: u32,
-    waiting: Waiting,
+    waiting: Option<RetransmitError>,
     ring: &mut [u32],
     other: &[u32],
 ) -> Gone
@@ -44,11 +44,17 @@ fn spoken(
 {
     let mut buf = [0u8; 1400];
     let turn = console_turn(console, cfg, time, load, waiting, &mut buf, ring);
-    let after = turn.stream;
-    let len = turn.len;
-    let heard = carry(chamber, cfg, time, line, figure, other, part(&buf, len));
+    let heard = carry(
+        chamber,
+        cfg,
+        time,
+        line,
+        figure,
+        other,
+        part(&buf, turn.len),
+    );
     Gone {
-        console: after,
+        console: turn.stream,
         chamber: heard,
     }
 }
@@ -62,7 +68,7 @@ pub fn there(
     load: Load,
     line: Load,
     figure: u32,
-    waiting: Waiting,
+    waiting: Option<RetransmitError>,
     ring: &mut [u32],
     other: &[u32],
 ) -> Gone
@@ -73,7 +79,7 @@ pub fn there(
             console,
             chamber: Tally {
                 stream: chamber,
-                waiting: Waiting::Nothing,
+                waiting: None,
                 handed: 0,
                 losses: 0,
             },
@@ -97,14 +103,11 @@ fn replied(
 {
     let mut buf = [0u8; 1400];
     let turn = chamber_turn(chamber, cfg, time, &mut buf, other);
-    let after = turn.stream;
-    let len = turn.len;
-    let losses = turn.losses;
-    let read = arrive(console, cfg, time, ring, part(&buf, len));
+    let read = arrive(console, cfg, time, ring, part(&buf, turn.len));
     Come {
         console: read,
-        chamber: after,
-        losses,
+        chamber: turn.stream,
+        losses: turn.losses,
     }
 }
 
@@ -123,7 +126,7 @@ pub fn back(
         return Come {
             console: Tally {
                 stream: console,
-                waiting: Waiting::Nothing,
+                waiting: None,
                 handed: 0,
                 losses: 0,
             },

@@ -2,13 +2,12 @@
 ghost use Rattle.std.specs.Prelude.{◌≡◌, ◌+◌, ◌≤◌, ◌<◌};
 ghost use Rattle.link_rules.specs.Link.{step_of, run_of, most_steps, report_of, run_answer};
 ghost use Rattle.link.specs.Turns.{ends_of, Fits};
-ghost use Rattle.link_rules.specs.declared.run.Ran.TheVariants.{Done};
 
 use super::halves::{back, there};
-use config::answer::Outcome;
+use command::retransmit::RetransmitError;
 use config::refusal::Refusal;
 use config::settings::StreamConfig;
-use link_rules::run::{Ran, Report, Waiting};
+use link_rules::run::Report;
 use load::load::Load;
 use stream::stream::DataStream;
 
@@ -20,7 +19,7 @@ pub struct State {
     pub console: DataStream,
     pub chamber: DataStream,
     // The error that stands first in the console's next payload.
-    pub waiting: Waiting,
+    pub waiting: Option<RetransmitError>,
     // The last values drawn, at first the seeds.
     pub load: Load,
     pub line: Load,
@@ -41,37 +40,27 @@ fn step(
     requires { (time < most_steps) × Fits s time }
     ensures { (ends_of result (time + 1) ring.new other.new ≡ step_of cfg figure (ends_of s time ring.old other.old)) × Fits result (time + 1) }
 {
-    let console = s.console;
-    let chamber = s.chamber;
-    let waiting = s.waiting;
-    let last_load = s.load;
-    let last_line = s.line;
-    let load = last_load.draw();
-    let line = last_line.draw();
+    let load = s.load.draw();
+    let line = s.line.draw();
     let gone = there(
-        console,
-        chamber,
+        s.console,
+        s.chamber,
         cfg,
         time,
         load,
         line,
         figure,
-        waiting,
+        s.waiting,
         ring,
         &other[..],
     );
-    let sent = gone.console;
     let heard = gone.chamber;
-    let hearing = heard.stream;
-    let come = back(sent, hearing, cfg, time, &ring[..], other);
+    let come = back(gone.console, heard.stream, cfg, time, &ring[..], other);
     let read = come.console;
-    let after = come.chamber;
-    let told = read.stream;
-    let error = read.waiting;
     State {
-        console: told,
-        chamber: after,
-        waiting: error,
+        console: read.stream,
+        chamber: come.chamber,
+        waiting: read.waiting,
         load,
         line,
         handed: s.handed + heard.handed,
@@ -89,16 +78,14 @@ fn steps(
     other: &mut [u32],
 ) -> Report
     requires { (budget ≤ most_steps) × Fits first 0 }
-    ensures { (Done result, ring.new, other.new) ≡ report_of (run_of cfg figure (ends_of first 0 ring.old other.old) budget) }
+    ensures { (Ok result, ring.new, other.new) ≡ report_of (run_of cfg figure (ends_of first 0 ring.old other.old) budget) }
 {
     let mut s = first;
-    let mut done = 0;
-    while done < budget {
+    for done in 0..budget {
         s = step(s, cfg, done as u64, figure, ring, other);
-        done += 1;
     }
     Report {
-        steps: done,
+        steps: budget,
         handed: s.handed,
         losses: s.losses,
     }
@@ -118,36 +105,33 @@ pub fn run(
     budget: u32,
     ring: &mut [u32],
     other: &mut [u32],
-) -> Ran
+) -> Result<Report, Refusal>
     ensures { (result, ring.new, other.new) ≡ run_answer cfg window words places seed «drop» figure budget ring.old other.old }
 {
     match cfg.check() {
-        Outcome::Refused(why) => Ran::Refused(why),
-        Outcome::Done => {
-            if MOST_STEPS < budget {
-                return Ran::Refused(Refusal::SizeNotAllowed);
-            }
-            if ring.len() != other.len() {
-                return Ran::Refused(Refusal::SizeNotAllowed);
+        Err(why) => Err(why),
+        Ok(()) => {
+            if MOST_STEPS < budget || ring.len() != other.len() {
+                return Err(Refusal::SizeNotAllowed);
             }
             let first = DataStream::new(cfg, window, words, places, ring);
             let console = first.stream;
             let answer = first.answer;
             match answer {
-                Outcome::Refused(why) => Ran::Refused(why),
-                Outcome::Done => {
+                Err(why) => Err(why),
+                Ok(()) => {
                     let second = DataStream::new(cfg, window, words, places, other);
                     let chamber = second.stream;
                     let fresh = State {
                         console,
                         chamber,
-                        waiting: Waiting::Nothing,
+                        waiting: None,
                         load: Load { last: seed },
                         line: Load { last: drop },
                         handed: 0,
                         losses: 0,
                     };
-                    Ran::Done(steps(fresh, cfg, figure, budget, ring, other))
+                    Ok(steps(fresh, cfg, figure, budget, ring, other))
                 }
             }
         }

@@ -5,8 +5,8 @@ ghost use Rattle.link_tally.specs.Tally.{Few, tallied, unread};
 ghost use Rattle.link_rules.specs.Link.{limit, blank, carried};
 ghost use Rattle.link.specs.Turns.{begun, queued_at, wrote_into, console_of, chamber_of, poll_loss, part_of, turn_of};
 
+use command::retransmit::RetransmitError;
 use config::settings::StreamConfig;
-use link_rules::run::Waiting;
 use link_tally::arriving::{Tally, arrive, event_loss};
 use load::load::{Load, WORD};
 use packet::writer::{MAX_PAYLOAD, PayloadWriter};
@@ -22,7 +22,7 @@ pub struct Turn {
 }
 
 // The payload: empty, or with the error that waits.
-fn begin(waiting: Waiting, buf: &mut [u8]) -> PayloadWriter
+fn begin(waiting: Option<RetransmitError>, buf: &mut [u8]) -> PayloadWriter
     requires { buf.old ≡ blank }
     ensures { (result, buf.new) ≡ begun waiting }
 {
@@ -31,8 +31,8 @@ fn begin(waiting: Waiting, buf: &mut [u8]) -> PayloadWriter
         max: MAX_PAYLOAD,
     };
     match waiting {
-        Waiting::Nothing => empty,
-        Waiting::Error(e) => {
+        None => empty,
+        Some(e) => {
             let wrote = e.write(empty, buf);
             wrote.payload
         }
@@ -45,8 +45,7 @@ fn queue(s: DataStream, cfg: StreamConfig, ring: &mut [u32], load: Load) -> Data
 {
     let words = [WORD; 8];
     let asked = load.words();
-    let n = asked.count;
-    let sent = s.send_ump(cfg, ring, &words[..n]);
+    let sent = s.send_ump(cfg, ring, &words[..asked.count]);
     sent.stream
 }
 
@@ -63,11 +62,9 @@ fn write(
     ensures { (turn_of result buf.new ring.new ≡ wrote_into s cfg time ring.old (p, buf.old)) × (result.losses ≡ losses) }
 {
     let wrote = s.write_data(cfg, time, p, buf, ring);
-    let stream = wrote.stream;
-    let payload = wrote.payload;
     Turn {
-        stream,
-        len: payload.len,
+        stream: wrote.stream,
+        len: wrote.payload.len,
         losses,
     }
 }
@@ -78,7 +75,7 @@ pub fn console_turn(
     cfg: StreamConfig,
     time: u64,
     load: Load,
-    waiting: Waiting,
+    waiting: Option<RetransmitError>,
     buf: &mut [u8],
     ring: &mut [u32],
 ) -> Turn
@@ -102,13 +99,19 @@ pub fn chamber_turn(
     ensures { (turn_of result buf.new ring.new ≡ chamber_of s cfg time ring.old) × (result.losses ≡ poll_loss s cfg time) × (result.losses ≤ 1) }
 {
     let told = s.poll(cfg, time);
-    let polled = told.stream;
-    let event = told.event;
     let empty = PayloadWriter {
         len: 0,
         max: MAX_PAYLOAD,
     };
-    write(polled, cfg, time, empty, buf, ring, event_loss(event))
+    write(
+        told.stream,
+        cfg,
+        time,
+        empty,
+        buf,
+        ring,
+        event_loss(told.answer),
+    )
 }
 
 // The first `len` bytes of a buffer.
@@ -137,7 +140,7 @@ pub fn carry(
     if line.last % 0x100 < figure {
         return Tally {
             stream: s,
-            waiting: Waiting::Nothing,
+            waiting: None,
             handed: 0,
             losses: 0,
         };

@@ -1,5 +1,6 @@
 -- Nothing is missing D × (2^(M+1) - 1) steps after the last new gap.
 use mathlib.Core.Path.{◌≡◌, refl, sym, subst}
+use Rattle.std.proofs.Common.{Ok}
 use mathlib.Core.Bool.{true, false}
 use mathlib.Core.Logic.{inl, inr}
 use Prim.Native.Nat.{ℕ, zero, suc, ◌+◌, ◌-◌, ◌≤◌, ◌<◌}
@@ -9,7 +10,6 @@ use borrow.Author.Tests.{leb-true, leb-false}
 use Rattle.config.specs.Range.{within}
 use Rattle.config.specs.Settings.{check_of}
 use Rattle.config.specs.Sequence.{turn}
-use Rattle.config.specs.declared.answer.Outcome.TheVariants.{Done}
 use Rattle.config.specs.declared.settings.StreamConfig.{StreamConfig}
 use Rattle.config.specs.inner.Tests.{split}
 use Rattle.config.specs.Time.{last_time}
@@ -26,7 +26,7 @@ use Rattle.link_rules.proofs.Stepping.{step_polls, step_timed}
 
 module _
     (cfg : StreamConfig) (window words places seed drop figure : ℕ)
-    (ok : check_of cfg ≡ Done) (on : cfg.retransmit ≡ true) (delayed : 1 ≤ cfg.request_delay_ms) (size : within 1 max_window window ≡ true) where
+    (ok : check_of cfg ≡ Ok tt) (on : cfg.retransmit ≡ true) (delayed : 1 ≤ cfg.request_delay_ms) (size : within 1 max_window window ≡ true) where
   abbrev start : Ends
   start = start_of window words places seed drop
 

@@ -1,11 +1,11 @@
 -- 02's own form of the bound follows, and settings, sizes and steps that it speaks of are none too few.
 use mathlib.Core.Path.{◌≡◌, refl}
+use Rattle.std.proofs.Common.{Ok}
 use mathlib.Core.Bool.{true, false}
 use Prim.Native.Nat.{ℕ, ◌+◌, ◌-◌, ◌*◌, ◌^◌, ◌≤◌, ◌<◌}
 use native.Mathlib.Omega.{arith}
 use Rattle.config.specs.Range.{within}
 use Rattle.config.specs.Settings.{check_of}
-use Rattle.config.specs.declared.answer.Outcome.TheVariants.{Done}
 use Rattle.config.specs.declared.settings.StreamConfig.{StreamConfig}
 use Rattle.window.specs.Set.{max_window}
 use Rattle.link_rules.specs.Link.{Ends, start_of}
@@ -17,7 +17,7 @@ abbrev asking : ℕ → ℕ → StreamConfig
 asking D M =
     record { idle_interval_ms = 100; idle_growth = 2; idle_further = 5; fec_repeats = 2; retransmit = true; request_delay_ms = D; max_requests = M; max_command_words = 64 }
 
-every_delay : (D M : ℕ) → check_of (asking D M) ≡ Done
+every_delay : (D M : ℕ) → check_of (asking D M) ≡ Ok tt
 unfolding check_of
 every_delay D M = refl
 
@@ -25,7 +25,7 @@ every_delay D M = refl
 -- 65,536 steps lasts so long.
 module _
     (cfg : StreamConfig) (window words places seed drop figure budget g : ℕ)
-    (allowed : check_of cfg ≡ Done) (size : within 1 max_window window ≡ true) (taken : budget ≤ 65536)
+    (allowed : check_of cfg ≡ Ok tt) (size : within 1 max_window window ≡ true) (taken : budget ≤ 65536)
     (enabled : cfg.retransmit ≡ true) (D-some : 1 ≤ cfg.request_delay_ms) (M-few : cfg.max_requests ≤ 8) where
   abbrev start : Ends
   start = start_of window words places seed drop

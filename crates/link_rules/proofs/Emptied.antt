@@ -1,5 +1,7 @@
 -- A write leaves room for the next words: with over c - 16 words unwritten under 16 are written, so that neither retransmits nor repeats fill the payload.
 use Prim.Native.Nat.{ℕ, zero, suc, ◌+◌, ◌-◌, ◌*◌, ◌≤◌, ◌<◌, min}
+use Rattle.std.proofs.Common.{Option, Some, None, Ok}
+use Rattle.idle.specs.declared.idle.Idle.{Idle}
 use mathlib.Core.Path.{◌≡◌, refl, sym, ap, ◌∙◌, subst}
 use mathlib.Core.Bool.{Bool, true, false, cond, not, ◌||◌}
 use mathlib.Core.Logic.{inl, inr}
@@ -10,7 +12,6 @@ use lib.ListN.{length, take, drop, length-append}
 use borrow.Author.Tests.{le-leb, leb-true, leb-false}
 use Rattle.config.specs.Sequence.{after}
 use Rattle.config.specs.Settings.{check_of}
-use Rattle.config.specs.declared.answer.Outcome.TheVariants.{Done}
 use Rattle.config.specs.declared.settings.StreamConfig.{StreamConfig}
 use Rattle.config.specs.inner.Tests.{split}
 use Rattle.packet.specs.Layout.{Packet}
@@ -19,8 +20,6 @@ use Rattle.packet.specs.declared.writer.PayloadWriter.{PayloadWriter}
 use Rattle.command.specs.declared.retransmit.RetransmitRequest.{RetransmitRequest}
 use Rattle.history.specs.Entries.{Short, size}
 use Rattle.history.proofs.Flat.{size_append}
-use Rattle.idle.specs.declared.idle.IdleTimer.{IdleTimer}
-use Rattle.idle.specs.declared.idle.IdleTimer.TheVariants.{Off, Waiting}
 use Rattle.rows.specs.Rows.{Row, row_of, sizes_of, fit_all}
 use Rattle.rows.specs.Choice.{repeats_of}
 use Rattle.sender_log.specs.Book.{Book, oldest_in, index_in, absent_in, with_waiting, pushed_in, freed}
@@ -268,9 +267,9 @@ module _ (c : ℕ) (cfg : StreamConfig) (time : ℕ) (k : Book) where
   unfolding idled_in pushed_in freed size
   idled_calm least l = by k.idle
     where
-      by : (t : IdleTimer) → size (idled_by c cfg time k t).unwritten + 16 ≤ c
-      by Off = l
-      by (Waiting i) =
+      by : (t : Option Idle) → size (idled_by c cfg time k t).unwritten + 16 ≤ c
+      by None = l
+      by (Some i) =
           by_cond (λ (x : Book). size x.unwritten + 16 ≤ c) (not (is_empty k.unwritten) || ltb time i.due) _ _ (λ _. l)
           (λ e. omega (arith, size_append k.unwritten ([] ∷ []), empty_size k.unwritten (ltb time i.due) e, least))
 
@@ -278,13 +277,13 @@ module _ (c : ℕ) (cfg : StreamConfig) (time : ℕ) (k : Book) where
   unfolding idled_in
   idled_same l = by k.idle
     where
-      by : (t : IdleTimer) → idled_by c cfg time k t ≡ k
-      by Off = refl
-      by (Waiting i) = rw (some_size k.unwritten (ltb time i.due) l)
+      by : (t : Option Idle) → idled_by c cfg time k t ≡ k
+      by None = refl
+      by (Some i) = rw (some_size k.unwritten (ltb time i.due) l)
 
 -- ---- the whole write
 
-module _ (c : ℕ) (cfg : StreamConfig) (ok : check_of cfg ≡ Done) (time : ℕ) (k : Book) (small : Small k) (least : 65 ≤ c) (held : size k.written + size k.unwritten ≤ c)
+module _ (c : ℕ) (cfg : StreamConfig) (ok : check_of cfg ≡ Ok tt) (time : ℕ) (k : Book) (small : Small k) (least : 65 ≤ c) (held : size k.written + size k.unwritten ≤ c)
     (few : length k.waiting ≤ 16) (p : PayloadWriter) (b : List ℕ) (m : Room p b) (low : start_of p ≤ 20) where
   abbrev served : ServedIn
   served = served_in k k.waiting p b

@@ -1,20 +1,22 @@
 -- A payload arrives at the chamber.
 use mathlib.Core.Path.{◌≡◌, refl, sym, ap, ◌∙◌, subst}
+use Rattle.std.proofs.Common.{Option, Result, Ok, Err}
+use Rattle.config.specs.declared.refusal.Refusal.{Refusal}
+use Rattle.receiver.specs.declared.receiver.Delivery.{Delivery}
+use Rattle.receiver.specs.declared.receiver.ReceiverAnswer.{ReceiverAnswer}
+use Rattle.receiver.specs.declared.receiver.StreamEvent.{StreamEvent}
 use mathlib.Core.Bool.{Bool, true, false, ◌||◌}
 use mathlib.Core.List.{List, [], ◌∷◌, ◌++◌}
 use Prim.Native.Nat.{ℕ, ◌≤◌, ◌<◌}
 use Rattle.config.specs.Settings.{check_of}
 use Rattle.config.specs.Time.{last_time}
-use Rattle.config.specs.declared.answer.Outcome.TheVariants.{Done}
 use Rattle.config.specs.declared.settings.StreamConfig.{StreamConfig}
 use Rattle.packet.specs.Read.{Item, whole, cut}
 use Rattle.command.specs.declared.parse.Command.{Command}
-use Rattle.command.specs.declared.parse.Command.TheVariants.{UmpData, RetransmitRequest, RetransmitError, Raw, Refused}
+use Rattle.command.specs.declared.parse.Command.TheVariants.{UmpData, RetransmitRequest, RetransmitError, Raw}
 use Rattle.command.specs.declared.retransmit.RetransmitError.{RetransmitError as ErrorCommand}
 use Rattle.receiver.specs.Receiver.{valid_of, heard_of, error_of}
 use Rattle.receiver.specs.Answers as receiver
-use Rattle.receiver.specs.declared.receiver.Heard.{Heard}
-use Rattle.receiver.specs.declared.receiver.Told.{Told}
 use Rattle.receiver_log.proofs.Follows.{passes}
 use Rattle.stream.specs.Ends.{data_answer, request_answer, error_answer}
 use Rattle.stream.specs.declared.stream.DataStream.{DataStream}
@@ -37,7 +39,7 @@ or_right : (a b : Bool) → b ≡ true → (a || b) ≡ true
 or_right true b e = refl
 or_right false b e = e
 
-module _ (cfg : StreamConfig) (ok : check_of cfg ≡ Done) (on : cfg.retransmit ≡ true) (delayed : 1 ≤ cfg.request_delay_ms) (g time : ℕ) (in_time : time < last_time) (ring : List ℕ) where
+module _ (cfg : StreamConfig) (ok : check_of cfg ≡ Ok tt) (on : cfg.retransmit ≡ true) (delayed : 1 ≤ cfg.request_delay_ms) (g time : ℕ) (in_time : time < last_time) (ring : List ℕ) where
   abbrev T : DataStream → Type 0
   T s = Timed cfg g time s.receiver
 
@@ -52,22 +54,22 @@ module _ (cfg : StreamConfig) (ok : check_of cfg ≡ Done) (on : cfg.retransmit 
     unfolding data_answer receiver.data_answer heard_of
     data_timed seq gaps =
         let e : receiver.data_answer s.receiver cfg time seq ≡ heard_of s.receiver cfg time seq = rw (ok, valid) in
-        subst (λ (h : Heard). Timed cfg g time h.receiver) (sym e)
-        (heard_timed cfg on delayed g time in_time s.receiver i seq (subst (λ (h : Heard). gap_by (heard h.answer) ≡ true → time ≤ g) e gaps))
+        subst (λ (h : ReceiverAnswer Delivery). Timed cfg g time h.receiver) (sym e)
+        (heard_timed cfg on delayed g time in_time s.receiver i seq (subst (λ (h : ReceiverAnswer Delivery). gap_by (heard h.answer) ≡ true → time ≤ g) e gaps))
 
     error_timed : (e : ErrorCommand) → T (error_answer s e).stream
     unfolding error_answer receiver.error_answer
     error_timed x =
         let e : receiver.error_answer s.receiver x ≡ error_of s.receiver x = rw valid in
-        subst (λ (h : Told). Timed cfg g time h.receiver) (sym e) (error_of_timed cfg on delayed g time in_time s.receiver i x)
+        subst (λ (h : ReceiverAnswer (Option StreamEvent)). Timed cfg g time h.receiver) (sym e) (error_of_timed cfg on delayed g time in_time s.receiver i x)
 
-    command_timed : (c : Command) → Gaps (arrived_by s cfg time ring c).answers → T (arrived_by s cfg time ring c).stream
+    command_timed : (c : Result Command Refusal) → Gaps (arrived_by s cfg time ring c).answers → T (arrived_by s cfg time ring c).stream
     unfolding gap_in request_answer
-    command_timed (UmpData d) gaps = data_timed d.seq (λ f. gaps (or_left _ false f))
-    command_timed (RetransmitRequest q) gaps = i
-    command_timed (RetransmitError x) gaps = error_timed x
-    command_timed (Raw h) gaps = i
-    command_timed (Refused why) gaps = i
+    command_timed (Ok (UmpData d)) gaps = data_timed d.seq (λ f. gaps (or_left _ false f))
+    command_timed (Ok (RetransmitRequest q)) gaps = i
+    command_timed (Ok (RetransmitError x)) gaps = error_timed x
+    command_timed (Ok (Raw h)) gaps = i
+    command_timed (Err why) gaps = i
 
     item_timed : (x : Item) → Gaps (item_by s cfg time ring x).answers → T (item_by s cfg time ring x).stream
     item_timed (whole at c) gaps = command_timed (command_of c) gaps

@@ -1,5 +1,7 @@
 -- No call of a run is refused.
 use Prim.Native.Nat.{ℕ, zero, suc, ◌+◌, ◌-◌, ◌≤◌}
+use Rattle.std.proofs.Common.{Option, Some, None, Result, Ok, Err}
+use Rattle.config.specs.declared.refusal.Refusal.{Refusal}
 use mathlib.Core.Path.{◌≡◌, refl, ◌∙◌}
 use mathlib.Core.Bool.{false, not}
 use mathlib.Core.List.{List, [], ◌∷◌, ◌++◌}
@@ -10,19 +12,19 @@ use borrow.Author.Tests.{leb-true, eqb-true, not-false}
 use Rattle.config.specs.Range.{outside, within}
 use Rattle.config.specs.Sequence.{turn}
 use Rattle.config.specs.Settings.{check_of}
-use Rattle.config.specs.declared.answer.Outcome.TheVariants.{Done}
 use Rattle.config.specs.declared.settings.StreamConfig.{StreamConfig}
 use Rattle.config.specs.inner.Tests.{and_left, and_right}
 use Rattle.config.specs.inner.Choices.{or_left, or_right}
 use Rattle.packet.specs.Read.{Item, whole, cut, items_of}
 use Rattle.packet.specs.Write.{written_of, valid_of as payload_valid}
 use Rattle.command.specs.Write.{error_packet, error_written}
+use Rattle.command.specs.declared.retransmit.RetransmitError.{RetransmitError as ErrorCommand}
 use Rattle.command.specs.declared.parse.Command.{Command}
-use Rattle.command.specs.declared.parse.Command.TheVariants.{UmpData, RetransmitRequest, RetransmitError, Raw, Refused as Malformed}
+use Rattle.command.specs.declared.parse.Command.TheVariants.{UmpData, RetransmitRequest, RetransmitError, Raw}
 use Rattle.window.specs.Set.{max_window}
 use Rattle.window.proofs.Preserved.{valid_fresh}
 use Rattle.sender.specs.Answers as sender
-use Rattle.sender.specs.declared.sender.RequestOutcome.TheVariants.{Queued, Ignored, Error as ErrorOutcome, NotSupported, Refused as NotTaken}
+use Rattle.sender.specs.declared.sender.RequestOutcome.TheVariants.{Queued, Ignored, Error as ErrorOutcome, NotSupported}
 use Rattle.sender_log.specs.Book.{nothing}
 use Rattle.sender_log.specs.Calls.{TypedConfig}
 use Rattle.sender_log.proofs.Follows.{start_follows, send_follows, request_follows}
@@ -34,8 +36,6 @@ use Rattle.load.specs.Load.{next, words_of}
 use Rattle.link_rules.specs.Arriving.{Answer, heard, told, requested, Arrived, command_of, arrived_by, item_by, arrived_of, error_by, error_in}
 use Rattle.link_rules.specs.Link.{Ends, start_of, empty, blank, opened_by, carried, payload_of, calls_of, step_of, run_of}
 use Rattle.link_rules.specs.NoneRefused.{refuses, NoneRefuses, Taken, NoneRefused}
-use Rattle.link_rules.specs.declared.run.Waiting.{Waiting}
-use Rattle.link_rules.specs.declared.run.Waiting.TheVariants.{Nothing, Error}
 use Rattle.link_rules.proofs.Room.{Room, written_room, one_fits}
 use Rattle.link_rules.proofs.Sound.{Defined, heard_sound, error_sound, polled_sound, sent_sound, requested_sound, Sound, written_sound}
 
@@ -44,7 +44,7 @@ use Rattle.link_rules.proofs.Sound.{Defined, heard_sound, error_sound, polled_so
 -- no refusal, and no error but one that can be written
 abbrev Fine : List Answer → Type 0
 Fine [] = Unit {0}
-Fine (a ∷ rest) = (refuses a ≡ false) × Defined (error_by Nothing a) × Fine rest
+Fine (a ∷ rest) = (refuses a ≡ false) × Defined (error_by None a) × Fine rest
 
 fine_none : (xs : List Answer) → Fine xs → NoneRefuses xs
 fine_none [] f = tt
@@ -54,23 +54,23 @@ fine_append : (xs ys : List Answer) → Fine xs → Fine ys → Fine (xs ++ ys)
 fine_append [] ys f g = g
 fine_append (a ∷ xs) ys f g = (f.0, f.1, fine_append xs ys f.2 g)
 
-error_defined : (w : Waiting) (a : Answer) → Defined w → Defined (error_by Nothing a) → Defined (error_by w a)
+error_defined : (w : Option ErrorCommand) (a : Answer) → Defined w → Defined (error_by None a) → Defined (error_by w a)
 error_defined w (heard h) d e = d
 error_defined w (told x) d e = d
-error_defined w (requested Queued) d e = d
-error_defined w (requested (Ignored why)) d e = d
-error_defined w (requested (ErrorOutcome x)) d e = e
-error_defined w (requested NotSupported) d e = d
-error_defined w (requested (NotTaken why)) d e = d
+error_defined w (requested (Ok Queued)) d e = d
+error_defined w (requested (Ok (Ignored why))) d e = d
+error_defined w (requested (Ok (ErrorOutcome x))) d e = e
+error_defined w (requested (Ok NotSupported)) d e = d
+error_defined w (requested (Err why)) d e = d
 
-errors_defined : (xs : List Answer) (w : Waiting) → Defined w → Fine xs → Defined (error_in w xs)
+errors_defined : (xs : List Answer) (w : Option ErrorCommand) → Defined w → Fine xs → Defined (error_in w xs)
 unfolding error_in
 errors_defined [] w d f = d
 errors_defined (a ∷ xs) w d f = errors_defined xs (error_by w a) (error_defined w a d f.1) f.2
 
 -- ---- an end reads
 
-module _ (cfg : StreamConfig) (ok : check_of cfg ≡ Done) (c q time : ℕ) (ring : List ℕ) where
+module _ (cfg : StreamConfig) (ok : check_of cfg ≡ Ok tt) (c q time : ℕ) (ring : List ℕ) where
   -- and as many words are unwritten as were
   record ArrivedSound (unwritten : ℕ) (a : Arrived) : Type 0 where
     stream : Sound c q a.stream ring
@@ -84,19 +84,19 @@ module _ (cfg : StreamConfig) (ok : check_of cfg ≡ Done) (c q time : ℕ) (rin
     nothing_heard : S (record { stream = s; answers = [] })
     nothing_heard = record { stream = i; fine = tt; same = refl }
 
-    command_sound : (k : Command) → S (arrived_by s cfg time ring k)
+    command_sound : (k : Result Command Refusal) → S (arrived_by s cfg time ring k)
     unfolding data_answer request_answer error_answer
-    command_sound (UmpData d) =
+    command_sound (Ok (UmpData d)) =
         let h = heard_sound cfg ok s.receiver i.window time d.seq in
         record { stream = record { book = i.book; follows = i.follows; window = h.0 }; fine = (h.1, tt, tt); same = refl }
-    command_sound (RetransmitRequest r) =
+    command_sound (Ok (RetransmitRequest r)) =
         let h = requested_sound cfg ok c q s.sender ring i.book i.follows r in
         record { stream = record { book = _; follows = (request_follows c q s.sender ring i.book i.follows cfg r).0; window = i.window }; fine = (h.0, h.1, tt); same = h.2 }
-    command_sound (RetransmitError x) =
+    command_sound (Ok (RetransmitError x)) =
         let h = error_sound cfg ok s.receiver i.window x in
         record { stream = record { book = i.book; follows = i.follows; window = h.0 }; fine = (h.1, tt, tt); same = refl }
-    command_sound (Raw h) = nothing_heard
-    command_sound (Malformed why) = nothing_heard
+    command_sound (Ok (Raw h)) = nothing_heard
+    command_sound (Err why) = nothing_heard
 
     item_sound : (x : Item) → S (item_by s cfg time ring x)
     item_sound (whole at k) = command_sound (command_of k)
@@ -116,15 +116,15 @@ opened_empty : Room empty blank
 unfolding payload_valid
 opened_empty = let l : length blank ≡ 1400 = length-replicate {A = ℕ} 1400 0 in record { max = refl; lent = l; valid = refl }
 
-record OpenedSound (w : Waiting) : Type 0 where
-  answer : (opened_by w).0.answer ≡ Done
+record OpenedSound (w : Option ErrorCommand) : Type 0 where
+  answer : (opened_by w).0.answer ≡ Ok tt
   room : Room (opened_by w).0.payload (opened_by w).1
   short : (opened_by w).0.payload.len ≤ 12
 
-opened_sound : (w : Waiting) → Defined w → OpenedSound w
+opened_sound : (w : Option ErrorCommand) → Defined w → OpenedSound w
 unfolding error_written
-opened_sound Nothing d = record { answer = refl; room = opened_empty; short = omega arith }
-opened_sound (Error e) d =
+opened_sound None d = record { answer = refl; room = opened_empty; short = omega arith }
+opened_sound (Some e) d =
     let f = one_fits empty blank (error_packet e) opened_empty (omega arith) (omega arith) in
     let g : error_written e empty blank ≡ written_of empty blank (error_packet e) = rw (opened_empty.valid, d) in
     let h = g ∙ f in
@@ -132,7 +132,7 @@ opened_sound (Error e) d =
 
 -- ---- a step
 
-module _ (cfg : StreamConfig) (ok : check_of cfg ≡ Done) (typed : TypedConfig cfg) (c q figure : ℕ) where
+module _ (cfg : StreamConfig) (ok : check_of cfg ≡ Ok tt) (typed : TypedConfig cfg) (c q figure : ℕ) where
   record Sane (e : Ends) : Type 0 where
     console : Sound c q e.console e.console_ring
     chamber : Sound c q e.chamber e.chamber_ring
@@ -141,7 +141,7 @@ module _ (cfg : StreamConfig) (ok : check_of cfg ≡ Done) (typed : TypedConfig 
     calm : e.console.sender.unsent_words + 16 ≤ c
 
   queued_sound : (s : DataStream) (ring : List ℕ) → Sound c q s ring → s.sender.unsent_words + 16 ≤ c → (x : ℕ)
-      → (let a = send_answer s cfg ring (words_of x) in Sound c q a.0.stream a.1 × (a.0.answer ≡ Done))
+      → (let a = send_answer s cfg ring (words_of x) in Sound c q a.0.stream a.1 × (a.0.answer ≡ Ok tt))
   unfolding send_answer
   queued_sound s ring i calm x = (
     record { book = _; follows = (send_follows c q s.sender ring i.book i.follows cfg (words_of x)).0; window = i.window },
@@ -170,7 +170,7 @@ module _ (cfg : StreamConfig) (ok : check_of cfg ≡ Done) (typed : TypedConfig 
           replied = replied.answer;
           read = fine_none k.read.answers read.fine;
         },
-        record { console = read.stream; chamber = replied.stream; waiting = errors_defined k.read.answers Nothing tt read.fine; calm = omega (arith, read.same, wrote.calm) },
+        record { console = read.stream; chamber = replied.stream; waiting = errors_defined k.read.answers None tt read.fine; calm = omega (arith, read.same, wrote.calm) },
       )
 
   run_sane : (e : Ends) → Sane e → (n : ℕ) → Sane (run_of cfg figure e n)

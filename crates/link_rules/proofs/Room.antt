@@ -1,5 +1,8 @@
 -- Payloads of 1,400 bytes.
 use Prim.Native.Nat.{ℕ, ◌+◌, ◌≤◌}
+use Rattle.std.proofs.Common.{Result, Ok, Err}
+use Rattle.config.specs.declared.refusal.Refusal.{Refusal}
+use Rattle.std.specs.Bool.{⊤}
 use mathlib.Core.Path.{◌≡◌, ◌∙◌}
 use mathlib.Core.Bool.{true}
 use mathlib.Core.List.{List, [], ◌∷◌}
@@ -9,8 +12,6 @@ use borrow.Author.Tests.{le-ltb}
 use Rattle.packet.specs.Layout.{Packet, size_of}
 use Rattle.packet.specs.Write.{limit_of, start_of, done_of, placed_of, written_of, valid_of, WriteEnds, refused, done}
 use Rattle.packet.specs.declared.writer.PayloadWriter.{PayloadWriter}
-use Rattle.config.specs.declared.answer.Outcome.{Outcome}
-use Rattle.config.specs.declared.answer.Outcome.TheVariants.{Done, Refused}
 use Rattle.packet.specs.declared.writer.Wrote.{Wrote as Putting}
 use Rattle.packet.proofs.Outcomes.{outcome, written_valid, written_length}
 use Rattle.rows.specs.Rows.{Row, one_more, row_of}
@@ -43,6 +44,6 @@ row_room (c ∷ cs) p b m =
     let n = written_room p b c m in
     by w.0.payload w.1 (row_of w.0.payload w.1 cs) n (row_room cs w.0.payload w.1 n) w.0.answer
   where
-    by : (q : PayloadWriter) (d : List ℕ) (r : Row) → Room q d → Room r.payload r.bytes → (a : Outcome) → Room (one_more a q d r).payload (one_more a q d r).bytes
-    by q d r n k Done = k
-    by q d r n k (Refused why) = n
+    by : (q : PayloadWriter) (d : List ℕ) (r : Row) → Room q d → Room r.payload r.bytes → (a : Result ⊤ Refusal) → Room (one_more a q d r).payload (one_more a q d r).bytes
+    by q d r n k (Ok _) = k
+    by q d r n k (Err why) = n

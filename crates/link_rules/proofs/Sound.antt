@@ -1,5 +1,16 @@
 -- What no call of a run refuses: a stream whose sender holds what a book says and whose window is valid.
 use Prim.Native.Nat.{ℕ, zero, suc, ◌+◌, ◌-◌, ◌≤◌}
+use Rattle.std.proofs.Common.{Option, Some, None, Result, Ok, Err}
+use Rattle.history.specs.declared.queue.Ignored.{Ignored}
+use Rattle.receiver.specs.declared.receiver.Delivery.{Delivery}
+use Rattle.receiver.specs.declared.receiver.ReceiverAnswer.{ReceiverAnswer}
+use Rattle.receiver.specs.declared.receiver.RequestTimer.{RequestTimer}
+use Rattle.receiver.specs.declared.receiver.StreamEvent.{StreamEvent}
+use Rattle.sender.specs.declared.sender.RequestOutcome.{RequestOutcome}
+use Rattle.sender.specs.declared.sender.SenderAnswer.{SenderAnswer}
+use Rattle.window.specs.declared.window.SeqRange.{SeqRange}
+use Rattle.writing.specs.declared.writing.Written.{Written}
+use Rattle.std.specs.Bool.{⊤}
 use mathlib.Core.Path.{◌≡◌, refl, sym, ap, ◌∙◌, subst}
 use mathlib.Core.Bool.{true, false, not, ◌||◌, ◌&&◌}
 use mathlib.Core.Logic.{inl, inr}
@@ -12,7 +23,6 @@ use Rattle.config.specs.Range.{outside}
 use Rattle.config.specs.Sequence.{after}
 use Rattle.config.specs.Settings.{check_of}
 use Rattle.config.specs.declared.refusal.Refusal.{Refusal}
-use Rattle.config.specs.declared.answer.Outcome.TheVariants.{Done}
 use Rattle.config.specs.declared.settings.StreamConfig.{StreamConfig}
 use Rattle.config.specs.inner.Tests.{split, and_left}
 use Rattle.packet.specs.Layout.{Packet}
@@ -27,27 +37,17 @@ use Rattle.history.proofs.Entries.{used_size}
 use Rattle.history.proofs.Flat.{size_append}
 use Rattle.history.specs.Queue.{push_answer}
 use Rattle.history.specs.Written.{data_packet}
-use Rattle.history.specs.declared.queue.Push.{Push}
-use Rattle.history.specs.declared.queue.Push.TheVariants.{Queued as PushQueued, Ignored as PushIgnored}
 use Rattle.window.specs.Window.{Valid, missing_span, request_of}
 use Rattle.window.specs.Arrival.{accept_of}
 use Rattle.window.specs.Marking.{mark_of}
-use Rattle.window.specs.declared.window.Span.{Span}
-use Rattle.window.specs.declared.window.Span.TheVariants.{Nothing as NoSpan, Of}
 use Rattle.window.proofs.Preserved.{valid_accept, valid_mark, valid_all}
 use Rattle.rows.specs.Rows.{row_of, fit_all, sizes_of}
 use Rattle.receiver.specs.Receiver.{valid_of as receiver_valid, enabled_of, nothing_missing, is_gap, restarts, settled_of, heard_of, loss_of, gave_up, polled_at, polled_of, error_event, error_to, error_of, not_due, with_asked, offered_of, taken_span, taken_of}
 use Rattle.receiver.specs.Answers as receiver
-use Rattle.receiver.specs.declared.receiver.Asked.{Asked}
-use Rattle.receiver.specs.declared.receiver.Asked.TheVariants.{Nothing as Unasked, Request as AskedFor}
-use Rattle.receiver.specs.declared.receiver.Heard.{Heard}
 use Rattle.receiver.specs.declared.receiver.Receiver.{Receiver}
 use Rattle.receiver.specs.declared.receiver.Request.{Request}
-use Rattle.receiver.specs.declared.receiver.Request.TheVariants.{Nothing as NotDue, Written as WasTaken, More as NoSpace, Refused as NotTaken}
+use Rattle.receiver.specs.declared.receiver.Request.TheVariants.{Nothing as NotDue, Written as WasTaken, More as NoSpace}
 use Rattle.receiver.specs.declared.receiver.RequestWritten.{RequestWritten}
-use Rattle.receiver.specs.declared.receiver.Timer.{Timer}
-use Rattle.receiver.specs.declared.receiver.Timer.TheVariants.{Stopped, Running}
-use Rattle.receiver.specs.declared.receiver.Told.{Told}
 use Rattle.receiver_log.proofs.Follows.{passes}
 use Rattle.sender.specs.Answers as sender
 use Rattle.writing.specs.Answers as writing
@@ -56,11 +56,7 @@ use Rattle.sender.specs.Queueing.{room_of, need_of, queued_of, words_check, plac
 use Rattle.sender.specs.Requests.{not_written, outcome_of, requested_of}
 use Rattle.sender.specs.State.{valid_of as sender_valid}
 use Rattle.writing.specs.Writing.{written_by}
-use Rattle.sender.specs.declared.sender.RequestHeard.{RequestHeard as SenderRequested}
 use Rattle.sender.specs.declared.sender.Sender.{Sender}
-use Rattle.sender.specs.declared.sender.Sent.{Sent}
-use Rattle.writing.specs.declared.writing.Writing.{Writing}
-use Rattle.writing.specs.declared.writing.Writing.TheVariants.{Written, Refused as NotWritten}
 use Rattle.writing.specs.declared.writing.Wrote.{Wrote as SenderWrote}
 use Rattle.sender_log.specs.Book.{Book, oldest_in, with_waiting}
 use Rattle.sender_log.specs.Calls.{TypedConfig}
@@ -76,8 +72,6 @@ use Rattle.stream.specs.declared.stream.Wrote.{Wrote}
 use Rattle.load.specs.Load.{sends, count_of, word, words_of}
 use Rattle.link_rules.specs.Arriving.{requested, error_by}
 use Rattle.link_rules.specs.NoneRefused.{write_refuses, event_refuses, hearing_refuses, outcome_refuses}
-use Rattle.link_rules.specs.declared.run.Waiting.{Waiting}
-use Rattle.link_rules.specs.declared.run.Waiting.TheVariants.{Nothing, Error}
 use Rattle.link_rules.proofs.Room.{Room, written_room, one_fits, row_room}
 use Rattle.link_rules.proofs.Emptied.{write_calm}
 
@@ -100,7 +94,7 @@ unfolding longer
 none_longer max zero l = refl
 none_longer max (suc n) l = rw (le-ltb max 1 l) (none_longer max n l)
 
-words_pass : (max x : ℕ) → 1 ≤ max → words_check max (words_of x) ≡ Done
+words_pass : (max x : ℕ) → 1 ≤ max → words_check max (words_of x) ≡ Ok tt
 unfolding words_check whole_of above
 words_pass max x l = rw (messages_load (count_of x), none_longer max (count_of x) l)
 
@@ -129,7 +123,7 @@ few_needed s ring max x =
 
 -- ---- the receiver's calls keep its window valid
 
-module _ (cfg : StreamConfig) (ok : check_of cfg ≡ Done) (r : Receiver) (v : Valid r.window) where
+module _ (cfg : StreamConfig) (ok : check_of cfg ≡ Ok tt) (r : Receiver) (v : Valid r.window) where
   able : receiver_valid r ≡ true
   able = passes r v
 
@@ -142,11 +136,11 @@ module _ (cfg : StreamConfig) (ok : check_of cfg ≡ Done) (r : Receiver) (v : V
       let t = accept_of r.window seq in
       let w : Valid t.window = valid_accept r.window v seq in
       let e : receiver.data_answer r cfg time seq ≡ heard_of r cfg time seq = rw (ok, able) in
-      subst (λ (h : Heard). Kept h.receiver × (hearing_refuses h.answer ≡ false)) (sym e)
+      subst (λ (h : ReceiverAnswer Delivery). Kept h.receiver × (hearing_refuses h.answer ≡ false)) (sym e)
       (by_cond Kept (nothing_missing t.window) _ _ (λ _. w) (λ _. by_cond Kept (is_gap t.class && (enabled_of r cfg && restarts r.timer)) _ _ (λ _. w) (λ _. w)), refl)
 
-  abbrev Told-sound : Told → Type 0
-  Told-sound h = Kept h.receiver × (event_refuses h.event ≡ false)
+  abbrev Told-sound : ReceiverAnswer (Option StreamEvent) → Type 0
+  Told-sound h = Kept h.receiver × (event_refuses h.answer ≡ false)
 
   pub error_sound : (x : RetransmitError) → Told-sound (receiver.error_answer r x)
   unfolding receiver.error_answer error_of
@@ -154,20 +148,20 @@ module _ (cfg : StreamConfig) (ok : check_of cfg ≡ Done) (r : Receiver) (v : V
       let e : receiver.error_answer r x ≡ error_of r x = rw able in
       subst Told-sound (sym e) (by r.asked)
     where
-      event : (s : Span) → event_refuses (error_event x s) ≡ false
-      event NoSpan = refl
-      event (Of range) = refl
+      event : (s : Option SeqRange) → event_refuses (error_event x s) ≡ false
+      event None = refl
+      event (Some range) = refl
 
-      by : (a : Asked) → Told-sound (error_to r x a)
-      by Unasked = (v, refl)
-      by (AskedFor q) =
+      by : (a : Option RetransmitRequest) → Told-sound (error_to r x a)
+      by None = (v, refl)
+      by (Some q) =
           let m = mark_of r.window record { first = q.seq; count = q.count } in
           let w : Valid m.window = valid_mark r.window v record { first = q.seq; count = q.count } in
           (by_cond Kept (nothing_missing m.window) _ _ (λ _. w) (λ _. w), event m.span)
 
-  loss_taken : (s : Span) → event_refuses (loss_of s) ≡ false
-  loss_taken NoSpan = refl
-  loss_taken (Of range) = refl
+  loss_taken : (s : Option SeqRange) → event_refuses (loss_of s) ≡ false
+  loss_taken None = refl
+  loss_taken (Some range) = refl
 
   pub polled_sound : (time : ℕ) → Told-sound (receiver.poll_answer r cfg time)
   unfolding receiver.poll_answer polled_of gave_up
@@ -175,9 +169,9 @@ module _ (cfg : StreamConfig) (ok : check_of cfg ≡ Done) (r : Receiver) (v : V
       let e : receiver.poll_answer r cfg time ≡ polled_of r cfg time = rw (ok, able) in
       subst Told-sound (sym e) (by r.timer)
     where
-      by : (t : Timer) → Told-sound (polled_at r cfg time t)
-      by Stopped = (v, refl)
-      by (Running k) =
+      by : (t : Option RequestTimer) → Told-sound (polled_at r cfg time t)
+      by None = (v, refl)
+      by (Some k) =
           by_cond Told-sound (ltb time k.due) _ _ (λ _. (v, refl))
           (λ _. by_cond Told-sound (nothing_missing r.window) _ _ (λ _. (v, refl))
           (λ _. by_cond Told-sound (ltb k.sent cfg.max_requests && enabled_of r cfg) _ _ (λ _. (v, refl)) (λ _. (valid_all r.window v, loss_taken (missing_span r.window)))))
@@ -187,8 +181,8 @@ module _ (cfg : StreamConfig) (ok : check_of cfg ≡ Done) (r : Receiver) (v : V
     pub window : Kept t.0.receiver
     pub room : Room t.0.payload t.1
     pub low : start_of t.0.payload ≤ 20
-    pub answer : (why : Refusal) → t.0.answer ≡ NotTaken why → ⊥
-    pub space : t.0.answer ≡ NoSpace → ⊥
+    pub answer : (why : Refusal) → t.0.answer ≡ Err why → ⊥
+    pub space : t.0.answer ≡ Ok NoSpace → ⊥
 
   pub taken_sound : (p : PayloadWriter) (b : List ℕ) → Room p b → p.len ≤ 12 → TakeSound (taken_of r cfg p b)
   unfolding taken_of offered_of
@@ -205,9 +199,9 @@ module _ (cfg : StreamConfig) (ok : check_of cfg ≡ Done) (r : Receiver) (v : V
       over : (q : PayloadWriter) → q.len ≤ 20 → start_of q ≤ 20
       over q n = elim (split (eqb q.len 0)) [ inl z ↦ rw z (omega arith) | inr z ↦ rw z n ]
 
-      by : (s : Span) → TakeSound (taken_span r p b s)
-      by NoSpan = none (with_asked r r.asked) v
-      by (Of range) =
+      by : (s : Option SeqRange) → TakeSound (taken_span r p b s)
+      by None = none (with_asked r r.asked) v
+      by (Some range) =
           let q : RetransmitRequest = record { seq = range.first; count = range.count } in
           let e = one_fits p b (request_packet q) m (omega (arith, start)) (omega arith) in
           let n = written_room p b (request_packet q) m in
@@ -222,11 +216,11 @@ module _ (cfg : StreamConfig) (ok : check_of cfg ≡ Done) (r : Receiver) (v : V
 -- ---- the sender's calls
 
 -- the error that waits has a defined reason
-abbrev pub Defined : Waiting → Type 0
-Defined Nothing = Unit {0}
-Defined (Error e) = is_defined e ≡ true
+abbrev pub Defined : Option RetransmitError → Type 0
+Defined None = Unit {0}
+Defined (Some e) = is_defined e ≡ true
 
-module _ (cfg : StreamConfig) (ok : check_of cfg ≡ Done) (c q : ℕ) (s : Sender) (ring : List ℕ) (k : Book) (f : Follows c q s ring k) where
+module _ (cfg : StreamConfig) (ok : check_of cfg ≡ Ok tt) (c q : ℕ) (s : Sender) (ring : List ℕ) (k : Book) (f : Follows c q s ring k) where
   ready : sender_valid s ring ≡ true
   ready = follows_valid c q s ring k f
 
@@ -238,31 +232,31 @@ module _ (cfg : StreamConfig) (ok : check_of cfg ≡ Done) (c q : ℕ) (s : Send
   ]
 
   -- the load's words are accepted where 16 words are free of unwritten ones
-  pub sent_sound : (x : ℕ) → s.unsent_words + 16 ≤ c → (sender.send_answer s cfg ring (words_of x)).0.answer ≡ Done
+  pub sent_sound : (x : ℕ) → s.unsent_words + 16 ≤ c → (sender.send_answer s cfg ring (words_of x)).0.answer ≡ Ok tt
   unfolding sender.send_answer sent_of queue_placed queued_of
   sent_sound x calm =
       let need : ltb (s.history.size - s.unsent_words) (need_of s ring cfg.max_command_words (words_of x)) ≡ false =
       le-ltb (s.history.size - s.unsent_words) (need_of s ring cfg.max_command_words (words_of x)) (omega (arith, few_needed s ring cfg.max_command_words x, f.words, calm)) in
       rw (ok, ready, words_pass cfg.max_command_words x size_some, need)
-      (by_cond (λ (a : Sent × List ℕ). a.0.answer ≡ Done) (eqb (length (words_of x)) 0) _ _ (λ _. refl) (λ _. refl))
+      (by_cond (λ (a : SenderAnswer ⊤ × List ℕ). a.0.answer ≡ Ok tt) (eqb (length (words_of x)) 0) _ _ (λ _. refl) (λ _. refl))
 
   pub requested_sound : (r : RetransmitRequest) → (let a = sender.request_answer s cfg ring r in
-      (outcome_refuses a.outcome ≡ false) × Defined (error_by Nothing (requested a.outcome)) × (a.sender.unsent_words ≡ s.unsent_words))
+      (outcome_refuses a.answer ≡ false) × Defined (error_by None (requested a.answer)) × (a.sender.unsent_words ≡ s.unsent_words))
   unfolding sender.request_answer requested_of
   requested_sound r =
       rw (ok, ready)
       (by_cond Q (not cfg.retransmit) _ _ (λ _. (refl, tt, refl)) (λ _. by_cond Q (not_written s r.seq) _ _ (λ _. (refl, refl, refl)) (λ _. let b = by (push_answer s.queue r).answer in (b.0, b.1, refl))))
     where
-      Q : SenderRequested → Type 0
-      Q a = (outcome_refuses a.outcome ≡ false) × Defined (error_by Nothing (requested a.outcome)) × (a.sender.unsent_words ≡ s.unsent_words)
+      Q : SenderAnswer RequestOutcome → Type 0
+      Q a = (outcome_refuses a.answer ≡ false) × Defined (error_by None (requested a.answer)) × (a.sender.unsent_words ≡ s.unsent_words)
 
-      by : (p : Push) → (outcome_refuses (outcome_of p) ≡ false) × Defined (error_by Nothing (requested (outcome_of p)))
-      by PushQueued = (refl, tt)
-      by (PushIgnored why) = (refl, tt)
+      by : (p : Result ⊤ Ignored) → (outcome_refuses (outcome_of p) ≡ false) × Defined (error_by None (requested (outcome_of p)))
+      by (Ok _) = (refl, tt)
+      by (Err why) = (refl, tt)
 
 -- ---- a write of the sender
 
-module _ (cfg : StreamConfig) (ok : check_of cfg ≡ Done) (time : ℕ) where
+module _ (cfg : StreamConfig) (ok : check_of cfg ≡ Ok tt) (time : ℕ) where
   served_room : (rs : List RetransmitRequest) (k : Book) (p : PayloadWriter) (b : List ℕ) → Room p b → Room (served_in k rs p b).payload (served_in k rs p b).bytes
   unfolding served_in
   served_room [] k p b m = m
@@ -312,16 +306,16 @@ pub sound_valid : (c q : ℕ) (s : DataStream) (ring : List ℕ) → Sound c q s
 unfolding valid_of
 sound_valid c q s ring i = rw (passes s.receiver i.window, follows_valid c q s.sender ring i.book i.follows)
 
-module _ (cfg : StreamConfig) (ok : check_of cfg ≡ Done) (typed : TypedConfig cfg) (c q time : ℕ) (s : DataStream) (ring : List ℕ) (i : Sound c q s ring) where
+module _ (cfg : StreamConfig) (ok : check_of cfg ≡ Ok tt) (typed : TypedConfig cfg) (c q time : ℕ) (s : DataStream) (ring : List ℕ) (i : Sound c q s ring) where
   pub record WriteSound (w : Wrote × List ℕ × List ℕ) : Type 0 where
     pub stream : Sound c q w.0.stream w.2
     pub answer : write_refuses w.0.answer ≡ false
     -- 16 words of the history are free of unwritten ones
     pub calm : w.0.stream.sender.unsent_words + 16 ≤ c
 
-  counted : (n : ℕ) (a : Writing) → write_refuses a ≡ false → write_refuses (counted_also n a) ≡ false
-  counted n (Written w) e = e
-  counted n (NotWritten why) e = e
+  counted : (n : ℕ) (a : Result Written Refusal) → write_refuses a ≡ false → write_refuses (counted_also n a) ≡ false
+  counted n (Ok w) e = e
+  counted n (Err why) e = e
 
   write_is : (p : PayloadWriter) (b : List ℕ) → Room p b → writing.write_answer s.sender cfg time p b ring ≡ written_by s.sender cfg time p b ring
   unfolding writing.write_answer
@@ -353,9 +347,9 @@ module _ (cfg : StreamConfig) (ok : check_of cfg ≡ Done) (typed : TypedConfig 
       let h = taken_sound cfg ok s.receiver i.window p b m l in
       rw (ok, sound_valid c q s ring i, m.valid) (by t.0.answer h.answer h.space t.0.receiver t.0.payload t.1 h.window h.room h.low)
     where
-      by : (a : Request) → ((why : Refusal) → a ≡ NotTaken why → ⊥) → (a ≡ NoSpace → ⊥) → (r : Receiver) (p : PayloadWriter) (b : List ℕ) → Valid r.window → Room p b → start_of p ≤ 20
+      by : (a : Result Request Refusal) → ((why : Refusal) → a ≡ Err why → ⊥) → (a ≡ Ok NoSpace → ⊥) → (r : Receiver) (p : PayloadWriter) (b : List ℕ) → Valid r.window → Room p b → start_of p ≤ 20
           → WriteSound (after_request a (with_receiver s r) cfg time p b ring)
-      by (NotTaken why) never space r p b v m l = absurd (never why refl)
-      by NoSpace never space r p b v m l = absurd (space refl)
-      by NotDue never space r p b v m l = sent_after_lem 0 r p b v m l
-      by WasTaken never space r p b v m l = sent_after_lem 1 r p b v m l
+      by (Err why) never space r p b v m l = absurd (never why refl)
+      by (Ok NoSpace) never space r p b v m l = absurd (space refl)
+      by (Ok NotDue) never space r p b v m l = sent_after_lem 0 r p b v m l
+      by (Ok WasTaken) never space r p b v m l = sent_after_lem 1 r p b v m l

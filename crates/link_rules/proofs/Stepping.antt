@@ -1,5 +1,9 @@
 -- The chamber polls and writes; a step.
 use mathlib.Core.Path.{◌≡◌, sym, subst}
+use Rattle.std.proofs.Common.{Option, Result, Ok, Err}
+use Rattle.config.specs.declared.refusal.Refusal.{Refusal}
+use Rattle.receiver.specs.declared.receiver.ReceiverAnswer.{ReceiverAnswer}
+use Rattle.receiver.specs.declared.receiver.StreamEvent.{StreamEvent}
 use mathlib.Core.Bool.{true, ◌&&◌}
 use mathlib.Core.List.{List}
 use Prim.Native.Nat.{ℕ, ◌+◌, ◌≤◌, ◌<◌}
@@ -7,15 +11,13 @@ use native.Mathlib.Omega.{arith}
 use lib.ListN.{length}
 use Rattle.config.specs.Settings.{check_of}
 use Rattle.config.specs.Time.{last_time}
-use Rattle.config.specs.declared.answer.Outcome.TheVariants.{Done}
 use Rattle.config.specs.declared.settings.StreamConfig.{StreamConfig}
 use Rattle.packet.specs.Write.{valid_of as payload_valid}
 use Rattle.packet.specs.declared.writer.PayloadWriter.{PayloadWriter}
 use Rattle.receiver.specs.Receiver.{polled_of, taken_of}
 use Rattle.receiver.specs.Answers as receiver
-use Rattle.receiver.specs.declared.receiver.Told.{Told}
 use Rattle.receiver.specs.declared.receiver.Request.{Request}
-use Rattle.receiver.specs.declared.receiver.Request.TheVariants.{Nothing as NotDue, Written as Taken, More as NoSpace, Refused as NotTaken}
+use Rattle.receiver.specs.declared.receiver.Request.TheVariants.{Nothing as NotDue, Written as Taken, More as NoSpace}
 use Rattle.config.specs.inner.Choices.{by_cond}
 use Rattle.receiver_log.proofs.Follows.{passes}
 use Rattle.stream.specs.State.{valid_of, with_receiver}
@@ -29,17 +31,17 @@ use Rattle.link_rules.specs.Link.{Ends, empty, blank, payload_of, carried, calls
 use Rattle.link_rules.proofs.Timed.{Timed, taken_timed, polled_timed}
 use Rattle.link_rules.proofs.Hearing.{arrived_timed}
 
-module _ (cfg : StreamConfig) (ok : check_of cfg ≡ Done) (on : cfg.retransmit ≡ true) (delayed : 1 ≤ cfg.request_delay_ms) (g : ℕ) where
+module _ (cfg : StreamConfig) (ok : check_of cfg ≡ Ok tt) (on : cfg.retransmit ≡ true) (delayed : 1 ≤ cfg.request_delay_ms) (g : ℕ) where
   module _ (t time : ℕ) (in_time : t < last_time) (s : DataStream) (i : Timed cfg g t s.receiver) (p : PayloadWriter) (b ring : List ℕ) where
     abbrev P : Wrote × List ℕ × List ℕ → Type 0
     P x = Timed cfg g t x.0.stream.receiver
 
-    after_request_lem : (a : Request) (x : DataStream) (q : PayloadWriter) (c : List ℕ) → Timed cfg g t x.receiver → P (after_request a x cfg time q c ring)
+    after_request_lem : (a : Result Request Refusal) (x : DataStream) (q : PayloadWriter) (c : List ℕ) → Timed cfg g t x.receiver → P (after_request a x cfg time q c ring)
     unfolding sent_after
-    after_request_lem (NotTaken why) x q c j = j
-    after_request_lem NoSpace x q c j = j
-    after_request_lem NotDue x q c j = j
-    after_request_lem Taken x q c j = j
+    after_request_lem (Err why) x q c j = j
+    after_request_lem (Ok NoSpace) x q c j = j
+    after_request_lem (Ok NotDue) x q c j = j
+    after_request_lem (Ok Taken) x q c j = j
 
     written_timed : P (write_answer s cfg time p b ring)
     unfolding write_answer data_written
@@ -54,7 +56,7 @@ module _ (cfg : StreamConfig) (ok : check_of cfg ≡ Done) (on : cfg.retransmit 
     unfolding poll_answer receiver.poll_answer
     poll_timed s i =
         let e : receiver.poll_answer s.receiver cfg time ≡ polled_of s.receiver cfg time = rw (ok, passes s.receiver i.valid) in
-        subst (λ (h : Told). Timed cfg g (time + 1) h.receiver) (sym e) (polled_timed cfg on delayed g time (omega arith) s.receiver i)
+        subst (λ (h : ReceiverAnswer (Option StreamEvent)). Timed cfg g (time + 1) h.receiver) (sym e) (polled_timed cfg on delayed g time (omega arith) s.receiver i)
 
   module _ (figure : ℕ) (e : Ends) (in_time : e.steps + 1 < last_time) (gaps : gap_in (calls_of cfg figure e).heard.answers ≡ true → e.steps ≤ g) (i : Timed cfg g e.steps e.chamber.receiver) where
     -- once the step has polled

@@ -1,5 +1,11 @@
 -- The request timer of a receiver that is polled at every step: what each of its calls keeps.
 use mathlib.Core.Path.{◌≡◌, refl, sym, ap, subst}
+use Rattle.std.proofs.Common.{Option, Some, None, Result, Ok, Err}
+use Rattle.config.specs.declared.refusal.Refusal.{Refusal}
+use Rattle.receiver.specs.declared.receiver.ReceiverAnswer.{ReceiverAnswer}
+use Rattle.receiver.specs.declared.receiver.StreamEvent.{StreamEvent}
+use Rattle.window.specs.declared.window.SeqRange.{SeqRange}
+use Rattle.std.specs.Bool.{⊤}
 use mathlib.Core.Bool.{Bool, true, false, cond, not, ◌&&◌}
 use mathlib.Core.List.{List}
 use Prim.Native.Nat.{ℕ, ◌+◌, ◌*◌, ◌^◌, ◌≤◌, ◌<◌}
@@ -11,8 +17,6 @@ use Rattle.config.specs.Time.{last_time}
 use Rattle.config.specs.declared.settings.StreamConfig.{StreamConfig}
 use Rattle.packet.specs.Write.{written_of}
 use Rattle.packet.specs.declared.writer.PayloadWriter.{PayloadWriter}
-use Rattle.config.specs.declared.answer.Outcome.{Outcome}
-use Rattle.config.specs.declared.answer.Outcome.TheVariants.{Done, Refused}
 use Rattle.command.specs.Write.{request_packet}
 use Rattle.command.specs.declared.retransmit.RetransmitRequest.{RetransmitRequest}
 use Rattle.command.specs.declared.retransmit.RetransmitError.{RetransmitError}
@@ -20,24 +24,17 @@ use Rattle.window.specs.Window.{Valid, fresh_of as all_processed, request_of}
 use Rattle.window.specs.Arrival.{accept_of}
 use Rattle.window.specs.Marking.{mark_of}
 use Rattle.window.specs.declared.window.ReceiveWindow.{ReceiveWindow}
-use Rattle.window.specs.declared.window.Span.{Span}
-use Rattle.window.specs.declared.window.Span.TheVariants.{Nothing as NoSpan, Of}
 use Rattle.window.proofs.Preserved.{valid_accept, valid_mark, valid_all}
 use Rattle.receiver.specs.Receiver.{quiet_of, rest_of, enabled_of, nothing_missing, due_after, is_gap, restarts, settled_of, gave_up, polled_at, polled_of, error_to, error_of, taken_by, offered_of, taken_span, taken_of, not_due, with_asked}
 use Rattle.receiver.specs.declared.receiver.RequestTimer.{RequestTimer}
-use Rattle.receiver.specs.declared.receiver.Timer.{Timer}
-use Rattle.receiver.specs.declared.receiver.Timer.TheVariants.{Stopped, Running}
-use Rattle.receiver.specs.declared.receiver.Asked.{Asked}
-use Rattle.receiver.specs.declared.receiver.Asked.TheVariants.{Nothing as Unasked, Request as AskedFor}
 use Rattle.receiver.specs.declared.receiver.Receiver.{Receiver}
-use Rattle.receiver.specs.declared.receiver.Told.{Told}
 use Rattle.receiver.specs.declared.receiver.RequestWritten.{RequestWritten}
 use Rattle.config.specs.inner.Choices.{by_cond}
 use Rattle.link_rules.proofs.Window.{complete_after, full_missing}
 use Rattle.link_rules.proofs.Times.{sum, due_later, due_most, next_sum, more_sum}
 
 -- a receiver with another window, timer, due request and request unanswered
-abbrev after : Receiver → ReceiveWindow → Timer → Bool → Asked → Receiver
+abbrev after : Receiver → ReceiveWindow → Option RequestTimer → Bool → Option RetransmitRequest → Receiver
 after r w timer due asked = record { window = w; timer = timer; request_due = due; refused = r.refused; asked = asked }
 
 -- nothing missing, and all but the window as at the start
@@ -53,7 +50,7 @@ pub record Waits (cfg : StreamConfig) (g time : ℕ) (k : RequestTimer) : Type 0
 
 pub data Stage (cfg : StreamConfig) (g time : ℕ) (r : Receiver) : Type 0 where
   quiet : Quiet r → Stage cfg g time r
-  waits : (k : RequestTimer) → r.timer ≡ Running k → Waits cfg g time k → Stage cfg g time r
+  waits : (k : RequestTimer) → r.timer ≡ Some k → Waits cfg g time k → Stage cfg g time r
 
 pub record Timed (cfg : StreamConfig) (g time : ℕ) (r : Receiver) : Type 0 where
   pub valid : Valid r.window
@@ -76,7 +73,7 @@ module _ (cfg : StreamConfig) (on : cfg.retransmit ≡ true) (delayed : 1 ≤ cf
       abbrev w : ReceiveWindow
       w = (accept_of r.window seq).window
 
-      starts : is_gap (accept_of r.window seq).class ≡ true → T (after r w (Running record { due = due_after cfg.request_delay_ms 0 time; sent = 0 }) r.request_due r.asked)
+      starts : is_gap (accept_of r.window seq).class ≡ true → T (after r w (Some record { due = due_after cfg.request_delay_ms 0 time; sent = 0 }) r.request_due r.asked)
       starts e =
           let l = gaps e in
           let d : ℕ = cfg.request_delay_ms in
@@ -95,7 +92,7 @@ module _ (cfg : StreamConfig) (on : cfg.retransmit ≡ true) (delayed : 1 ≤ cf
           by : Stage cfg g time r → Stage cfg g time (after r w r.timer r.request_due r.asked)
           by (waits k e h) = waits k e h
           by (quiet q) =
-              let stopped : r.timer ≡ Stopped = ap (λ (x : Receiver). x.timer) q.rest in
+              let stopped : r.timer ≡ None = ap (λ (x : Receiver). x.timer) q.rest in
               let none : is_gap (accept_of r.window seq).class ≡ false = no_gap (is_gap (accept_of r.window seq).class) (rw (enabled, stopped) at f) in
               let z : ◌≡◌ {A = ℕ} 0 1 = cc (complete_after r.window i.valid q.none seq none) in
               absurd (let y : ⊥ = omega arith in y)
@@ -115,36 +112,36 @@ module _ (cfg : StreamConfig) (on : cfg.retransmit ≡ true) (delayed : 1 ≤ cf
     unfolding error_of
     error_of_timed e = by r.asked refl
       where
-        by : (a : Asked) → r.asked ≡ a → T (error_to r e a).receiver
-        by Unasked f = i
-        by (AskedFor q) f =
+        by : (a : Option RetransmitRequest) → r.asked ≡ a → T (error_to r e a).receiver
+        by None f = i
+        by (Some q) f =
             let m = (mark_of r.window record { first = q.seq; count = q.count }).window in
             let v : Valid m = valid_mark r.window i.valid record { first = q.seq; count = q.count } in
             by_cond T (nothing_missing m) _ _ (λ n. at_rest r.refused m i.able v n time) (λ some. record { valid = v; able = i.able; stage = on_with i.stage })
           where
-            on_with : Stage cfg g time r → Stage cfg g time (after r (mark_of r.window record { first = q.seq; count = q.count }).window r.timer r.request_due Unasked)
+            on_with : Stage cfg g time r → Stage cfg g time (after r (mark_of r.window record { first = q.seq; count = q.count }).window r.timer r.request_due None)
             on_with (waits k x h) = waits k x h
             on_with (quiet o) =
-                let u : r.asked ≡ Unasked = ap (λ (x : Receiver). x.asked) o.rest in
+                let u : r.asked ≡ None = ap (λ (x : Receiver). x.asked) o.rest in
                 let z : ◌≡◌ {A = ℕ} 0 1 = cc in
                 absurd (let y : ⊥ = omega arith in y)
 
     -- ---- a due request is taken
     module _ (p : PayloadWriter) (b : List ℕ) where
-      same : (asked : Asked) (due : Bool) → (k : RequestTimer) → r.timer ≡ Running k → Waits cfg g time k → T (after r r.window r.timer due asked)
+      same : (asked : Option RetransmitRequest) (due : Bool) → (k : RequestTimer) → r.timer ≡ Some k → Waits cfg g time k → T (after r r.window r.timer due asked)
       same asked due k e h = record { valid = i.valid; able = i.able; stage = waits k e h }
 
-      spanned : (k : RequestTimer) → r.timer ≡ Running k → Waits cfg g time k → (span : Span) → T (taken_span r p b span).0.receiver
+      spanned : (k : RequestTimer) → r.timer ≡ Some k → Waits cfg g time k → (span : Option SeqRange) → T (taken_span r p b span).0.receiver
       unfolding offered_of
-      spanned k e h NoSpan = same r.asked false k e h
-      spanned k e h (Of range) = by (written_of p b (request_packet q)).0.answer
+      spanned k e h None = same r.asked false k e h
+      spanned k e h (Some range) = by (written_of p b (request_packet q)).0.answer
         where
           q : RetransmitRequest
           q = record { seq = range.first; count = range.count }
 
-          by : (a : Outcome) → T (taken_by r q (written_of p b (request_packet q)).0.payload a).receiver
-          by Done = same (AskedFor q) false k e h
-          by (Refused why) = i
+          by : (a : Result ⊤ Refusal) → T (taken_by r q (written_of p b (request_packet q)).0.payload a).receiver
+          by (Ok _) = same (Some q) false k e h
+          by (Err why) = i
 
       pub taken_timed : T (taken_of r cfg p b).0.receiver
       unfolding taken_of
@@ -161,10 +158,10 @@ module _ (cfg : StreamConfig) (on : cfg.retransmit ≡ true) (delayed : 1 ≤ cf
     abbrev Next : Receiver → Type 0
     Next = Timed cfg g (time + 1)
 
-    module _ (k : RequestTimer) (e : r.timer ≡ Running k) (h : Waits cfg g time k) where
+    module _ (k : RequestTimer) (e : r.timer ≡ Some k) (h : Waits cfg g time k) where
       -- one more request is due
       abbrev asking : Receiver
-      asking = after r r.window (Running record { due = due_after cfg.request_delay_ms (k.sent + 1) time; sent = k.sent + 1 }) true r.asked
+      asking = after r r.window (Some record { due = due_after cfg.request_delay_ms (k.sent + 1) time; sent = k.sent + 1 }) true r.asked
 
       early : time < k.due → Next r
       early l = record { valid = i.valid; able = i.able; stage = waits k e record { few = h.few; later = omega arith; soon = h.soon } }
@@ -190,13 +187,13 @@ module _ (cfg : StreamConfig) (on : cfg.retransmit ≡ true) (delayed : 1 ≤ cf
 
       fires : k.due ≤ time → Next (cond (ltb k.sent cfg.max_requests && enabled_of r cfg) (quiet_of asking) (gave_up r.refused r.window)).receiver
       fires l =
-          by_cond (λ (x : Told). Next x.receiver) (ltb k.sent cfg.max_requests && enabled_of r cfg) _ _
+          by_cond (λ (x : ReceiverAnswer (Option StreamEvent)). Next x.receiver) (ltb k.sent cfg.max_requests && enabled_of r cfg) _ _
           (λ f. asks l (let t = and_left (ltb k.sent cfg.max_requests) (enabled_of r cfg) f in omega (arith, tests))) (λ _. gives_up)
 
-      runs : Next (polled_at r cfg time (Running k)).receiver
+      runs : Next (polled_at r cfg time (Some k)).receiver
       runs =
-          by_cond (λ (x : Told). Next x.receiver) (ltb time k.due) _ _ (λ f. early (omega (arith, tests)))
-          (λ f. by_cond (λ (x : Told). Next x.receiver) (nothing_missing r.window) _ _
+          by_cond (λ (x : ReceiverAnswer (Option StreamEvent)). Next x.receiver) (ltb time k.due) _ _ (λ f. early (omega (arith, tests)))
+          (λ f. by_cond (λ (x : ReceiverAnswer (Option StreamEvent)). Next x.receiver) (nothing_missing r.window) _ _
           (λ n. at_rest r.refused r.window i.able i.valid n (time + 1)) (λ _. fires (omega (arith, tests))))
 
     pub polled_timed : Next (polled_of r cfg time).receiver
@@ -205,9 +202,9 @@ module _ (cfg : StreamConfig) (on : cfg.retransmit ≡ true) (delayed : 1 ≤ cf
       where
         by : Stage cfg g time r → Next (polled_at r cfg time r.timer).receiver
         by (quiet o) =
-            let u : r.timer ≡ Stopped = ap (λ (x : Receiver). x.timer) o.rest in
-            subst (λ (t : Timer). Next (polled_at r cfg time t).receiver) (sym u) (record { valid = i.valid; able = i.able; stage = quiet o })
-        by (waits k e h) = subst (λ (t : Timer). Next (polled_at r cfg time t).receiver) (sym e) (runs k e h)
+            let u : r.timer ≡ None = ap (λ (x : Receiver). x.timer) o.rest in
+            subst (λ (t : Option RequestTimer). Next (polled_at r cfg time t).receiver) (sym u) (record { valid = i.valid; able = i.able; stage = quiet o })
+        by (waits k e h) = subst (λ (t : Option RequestTimer). Next (polled_at r cfg time t).receiver) (sym e) (runs k e h)
 
 -- a later gap weakens it
 pub timed_gap : (cfg : StreamConfig) (g g' time : ℕ) → g ≤ g' → (r : Receiver) → Timed cfg g time r → Timed cfg g' time r

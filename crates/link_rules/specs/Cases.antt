@@ -1,10 +1,10 @@
 -- Runs computed from the definition, each with what it reports: steps done, commands handed on, losses.
-use Rattle.std.specs.Prelude.{ℕ, ◌≡◌, Bool, true, false, replicate}
+use Rattle.std.specs.Prelude.{ℕ, ◌≡◌, Bool, true, false, replicate, Result, Ok}
+use Rattle.config.specs.declared.refusal.Refusal.{Refusal}
+use Rattle.link_rules.specs.declared.run.Report.{Report}
 use Rattle.config.specs.declared.settings.StreamConfig.{StreamConfig}
 use Rattle.link_rules.specs.Link.{start_of, run_answer}
 use Rattle.link_rules.specs.Cleared.{new_gap, none_missing, bound_of}
-use Rattle.link_rules.specs.declared.run.Ran.{Ran}
-use Rattle.link_rules.specs.declared.run.Ran.TheVariants.{Done}
 
 -- T1, R, D, M and the size are given; G 1, K 255, X 1
 abbrev pub settings : ℕ → ℕ → ℕ → ℕ → ℕ → StreamConfig
@@ -12,11 +12,11 @@ settings T1 R D M size =
     record { idle_interval_ms = T1; idle_growth = 1; idle_further = 255; fec_repeats = R; retransmit = true; request_delay_ms = D; max_requests = M; max_command_words = size }
 
 -- settings, W, both seeds, figure and budget; C 65, Q 1
-abbrev pub ran : StreamConfig → ℕ → ℕ → ℕ → ℕ → ℕ → Ran
+abbrev pub ran : StreamConfig → ℕ → ℕ → ℕ → ℕ → ℕ → Result Report Refusal
 ran cfg window seed drop figure budget = (run_answer cfg window 65 1 seed drop figure budget (replicate 65 0) (replicate 65 0)).0
 
-abbrev pub reported : ℕ → ℕ → ℕ → Ran
-reported steps handed losses = Done record { steps = steps; handed = handed; losses = losses }
+abbrev pub reported : ℕ → ℕ → ℕ → Result Report Refusal
+reported steps handed losses = Ok record { steps = steps; handed = handed; losses = losses }
 
 -- of the run `asks`: step k brings a new gap; nothing is missing once step k has polled
 abbrev pub patient : StreamConfig

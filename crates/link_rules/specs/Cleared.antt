@@ -1,9 +1,8 @@
 -- 02, 7/14: where requests are enabled and D is at least 1, nothing is missing D × (2^(M+1) - 1) steps after the last new gap, once that step has polled,
 -- if the run lasts so long.
-use Rattle.std.specs.Prelude.{ℕ, ◌+◌, ◌-◌, ◌*◌, ◌^◌, ◌≤◌, ◌<◌, ◌≡◌, Bool, true, false}
+use Rattle.std.specs.Prelude.{ℕ, ◌+◌, ◌-◌, ◌*◌, ◌^◌, ◌≤◌, ◌<◌, ◌≡◌, Bool, true, false, Ok}
 use Rattle.config.specs.Range.{within}
 use Rattle.config.specs.Settings.{check_of}
-use Rattle.config.specs.declared.answer.Outcome.TheVariants.{Done}
 use Rattle.config.specs.declared.settings.StreamConfig.{StreamConfig}
 use Rattle.window.specs.Set.{max_window}
 use Rattle.receiver.specs.Receiver.{nothing_missing}
@@ -25,7 +24,7 @@ bound_of cfg = cfg.request_delay_ms * (2 ^ (cfg.max_requests + 1) - 1)
 abbrev pub Cleared : Type 0
 Cleared =
     (cfg : StreamConfig) (window words places seed drop figure : ℕ)
-    → check_of cfg ≡ Done
+    → check_of cfg ≡ Ok tt
     → within 1 max_window window ≡ true
     → cfg.retransmit ≡ true
     → 1 ≤ cfg.request_delay_ms

@@ -1,5 +1,9 @@
 -- 02, 7/14, "Trying settings on a pretend link": a console, a line and a chamber in steps of 1 ms.
-use Rattle.std.specs.Prelude.{ℕ, zero, suc, ◌+◌, ◌%◌, Bool, cond, ◌||◌, List, [], replicate, ltb}
+use Rattle.std.specs.Prelude.{ℕ, zero, suc, ◌+◌, ◌%◌, Bool, cond, ◌||◌, List, [], replicate, ltb, Option, Some, None, Result, Ok, Err, ⊤}
+use Rattle.command.specs.declared.retransmit.RetransmitError.{RetransmitError}
+use Rattle.link_rules.specs.declared.run.Report.{Report}
+use Rattle.receiver.specs.declared.receiver.StreamEvent.{StreamEvent}
+use Rattle.stream.specs.declared.stream.StreamAnswer.{StreamAnswer}
 use Rattle.config.specs.Settings.{check_of, tested}
 use Rattle.config.specs.declared.refusal.Refusal.{Refusal}
 use Rattle.config.specs.declared.refusal.Refusal.TheVariants.{SizeNotAllowed}
@@ -7,7 +11,6 @@ use Rattle.config.specs.declared.settings.StreamConfig.{StreamConfig}
 use Rattle.packet.specs.Read.{Item, items_of}
 use Rattle.packet.specs.Write.{bytes_in}
 use Rattle.packet.specs.declared.writer.PayloadWriter.{PayloadWriter}
-use Rattle.config.specs.declared.answer.Outcome.TheVariants.{Done as OutcomeDone}
 use Rattle.packet.specs.declared.writer.Wrote.{Wrote as Opened}
 use Rattle.command.specs.Write.{error_written}
 use Rattle.stream.specs.State.{fresh}
@@ -15,15 +18,9 @@ use Rattle.stream.specs.Answers.{sizes_out}
 use Rattle.stream.specs.Ends.{send_answer, poll_answer}
 use Rattle.stream.specs.Writing.{write_answer}
 use Rattle.stream.specs.declared.stream.DataStream.{DataStream}
-use Rattle.stream.specs.declared.stream.Sent.{Sent}
-use Rattle.stream.specs.declared.stream.Told.{Told}
 use Rattle.stream.specs.declared.stream.Wrote.{Wrote}
 use Rattle.load.specs.Load.{next, words_of}
 use Rattle.link_rules.specs.Arriving.{Arrived, arrived_of, handed_in, losses_in, event_loss, error_in}
-use Rattle.link_rules.specs.declared.run.Waiting.{Waiting}
-use Rattle.link_rules.specs.declared.run.Waiting.TheVariants.{Nothing, Error}
-use Rattle.link_rules.specs.declared.run.Ran.{Ran}
-use Rattle.link_rules.specs.declared.run.Ran.TheVariants.{Done, Refused}
 
 -- ---- what there is before a step
 
@@ -34,7 +31,7 @@ pub record Ends : Type 0 where
   pub chamber : DataStream
   pub chamber_ring : List ℕ
   -- the error that stands first in the console's next payload
-  pub waiting : Waiting
+  pub waiting : (Option RetransmitError)
   -- the last values drawn, at first the seeds
   pub load : ℕ
   pub line : ℕ
@@ -51,7 +48,7 @@ start_of window words places seed drop =
       console_ring = replicate words 0;
       chamber = fresh window words places;
       chamber_ring = replicate words 0;
-      waiting = Nothing;
+      waiting = None;
       load = seed;
       line = drop;
       steps = 0;
@@ -72,9 +69,9 @@ abbrev pub blank : List ℕ
 blank = replicate limit 0
 
 -- a payload with its buffer: empty, or with the error that waits
-abbrev pub opened_by : Waiting → Opened × List ℕ
-opened_by Nothing = (record { payload = empty; answer = OutcomeDone }, blank)
-opened_by (Error e) = error_written e empty blank
+abbrev pub opened_by : Option RetransmitError → Opened × List ℕ
+opened_by None = (record { payload = empty; answer = Ok tt }, blank)
+opened_by (Some e) = error_written e empty blank
 
 -- the bytes that a write leaves in its payload
 abbrev pub payload_of : Wrote × List ℕ × List ℕ → List ℕ
@@ -90,7 +87,7 @@ carried figure draw bytes = cond (ltb (draw % 256) figure) [] (items_of bytes)
 -- run is refused: `NoneRefused`).
 pub record Calls : Type 0 where
   -- the console queues the load's words,
-  pub queued : Sent × List ℕ
+  pub queued : StreamAnswer ⊤ × List ℕ
   -- opens a payload, in which an error that waits stands first,
   pub opened : Opened × List ℕ
   -- and writes
@@ -98,7 +95,7 @@ pub record Calls : Type 0 where
   -- the chamber reads what the line carries,
   pub heard : Arrived
   -- polls
-  pub polled : Told
+  pub polled : (StreamAnswer (Option StreamEvent))
   -- and writes
   pub replied : Wrote × List ℕ × List ℕ
   -- and the console reads that
@@ -126,12 +123,12 @@ step_of cfg figure e =
       console_ring = c.wrote.2;
       chamber = c.replied.0.stream;
       chamber_ring = c.replied.2;
-      waiting = error_in Nothing c.read.answers;
+      waiting = error_in None c.read.answers;
       load = next e.load;
       line = next e.line;
       steps = e.steps + 1;
       handed = e.handed + handed_in c.heard.answers;
-      losses = e.losses + losses_in c.heard.answers + event_loss c.polled.event;
+      losses = e.losses + losses_in c.heard.answers + event_loss c.polled.answer;
     }
 
 -- ---- a run
@@ -151,12 +148,12 @@ refuses_sizes window words places budget ring other =
     sizes_out window words places ring || (sizes_out window words places other || ltb most_steps budget)
 
 -- steps done, commands handed on and losses reported, with both lent histories
-abbrev pub report_of : Ends → Ran × List ℕ × List ℕ
-report_of e = (Done record { steps = e.steps; handed = e.handed; losses = e.losses }, e.console_ring, e.chamber_ring)
+abbrev pub report_of : Ends → Result Report Refusal × List ℕ × List ℕ
+report_of e = (Ok record { steps = e.steps; handed = e.handed; losses = e.losses }, e.console_ring, e.chamber_ring)
 
 -- 9, 7, 8, then 12; a run that is refused changes nothing
-unfoldable pub run_answer : StreamConfig → ℕ → ℕ → ℕ → ℕ → ℕ → ℕ → ℕ → List ℕ → List ℕ → Ran × List ℕ × List ℕ
+unfoldable pub run_answer : StreamConfig → ℕ → ℕ → ℕ → ℕ → ℕ → ℕ → ℕ → List ℕ → List ℕ → Result Report Refusal × List ℕ × List ℕ
 run_answer cfg window words places seed drop figure budget ring other =
-    tested (check_of cfg) (λ (why : Refusal). (Refused why, ring, other))
-    (cond (refuses_sizes window words places budget ring other) (Refused SizeNotAllowed, ring, other)
+    tested (check_of cfg) (λ (why : Refusal). (Err why, ring, other))
+    (cond (refuses_sizes window words places budget ring other) (Err SizeNotAllowed, ring, other)
     (report_of (run_of cfg figure (start_of window words places seed drop) budget)))

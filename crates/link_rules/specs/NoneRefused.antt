@@ -1,43 +1,41 @@
 -- 02, 7/14: the console drops the words that are refused with 6. In a run none are: no call of any step is refused.
-use Rattle.std.specs.Prelude.{ℕ, ◌≡◌, Bool, true, false, List, [], ◌∷◌}
+use Rattle.std.specs.Prelude.{ℕ, ◌≡◌, Bool, true, false, List, [], ◌∷◌, Option, Some, None, Result, Ok, Err}
+use Rattle.config.specs.declared.refusal.Refusal.{Refusal}
+use Rattle.receiver.specs.declared.receiver.Delivery.{Delivery}
+use Rattle.writing.specs.declared.writing.Written.{Written}
 use Rattle.config.specs.Settings.{check_of}
-use Rattle.config.specs.declared.answer.Outcome.TheVariants.{Done}
 use Rattle.config.specs.declared.settings.StreamConfig.{StreamConfig}
-use Rattle.receiver.specs.declared.receiver.Hearing.{Hearing}
-use Rattle.receiver.specs.declared.receiver.Hearing.TheVariants.{Delivery as Delivered, Refused as NotHeard}
 use Rattle.receiver.specs.declared.receiver.StreamEvent.{StreamEvent}
-use Rattle.receiver.specs.declared.receiver.StreamEvent.TheVariants.{Nothing as NoEvent, DataLoss, ErrorLoss, RetransmitError as ErrorOnly, Refused as NotTold}
+use Rattle.receiver.specs.declared.receiver.StreamEvent.TheVariants.{DataLoss, ErrorLoss, RetransmitError as ErrorOnly}
 use Rattle.sender.specs.declared.sender.RequestOutcome.{RequestOutcome}
-use Rattle.sender.specs.declared.sender.RequestOutcome.TheVariants.{Queued, Ignored, Error, NotSupported, Refused as NotTaken}
-use Rattle.writing.specs.declared.writing.Writing.{Writing}
-use Rattle.writing.specs.declared.writing.Writing.TheVariants.{Written, Refused as NotWritten}
+use Rattle.sender.specs.declared.sender.RequestOutcome.TheVariants.{Queued, Ignored, Error, NotSupported}
 use Rattle.sender_log.specs.Calls.{TypedConfig}
 use Rattle.stream.specs.Answers.{sizes_out}
 use Rattle.link_rules.specs.Arriving.{Answer, heard, told, requested}
 use Rattle.link_rules.specs.Link.{start_of, Calls, calls_of, run_of}
 
 -- ---- an answer that refuses
-abbrev pub write_refuses : Writing → Bool
-write_refuses (Written w) = false
-write_refuses (NotWritten why) = true
+abbrev pub write_refuses : Result Written Refusal → Bool
+write_refuses (Ok w) = false
+write_refuses (Err why) = true
 
-abbrev pub event_refuses : StreamEvent → Bool
-event_refuses NoEvent = false
-event_refuses (DataLoss range) = false
-event_refuses (ErrorLoss range e) = false
-event_refuses (ErrorOnly e) = false
-event_refuses (NotTold why) = true
+abbrev pub event_refuses : Result (Option StreamEvent) Refusal → Bool
+event_refuses (Ok None) = false
+event_refuses (Ok (Some (DataLoss range))) = false
+event_refuses (Ok (Some (ErrorLoss range e))) = false
+event_refuses (Ok (Some (ErrorOnly e))) = false
+event_refuses (Err why) = true
 
-abbrev pub hearing_refuses : Hearing → Bool
-hearing_refuses (Delivered d) = false
-hearing_refuses (NotHeard why) = true
+abbrev pub hearing_refuses : Result Delivery Refusal → Bool
+hearing_refuses (Ok d) = false
+hearing_refuses (Err why) = true
 
-abbrev pub outcome_refuses : RequestOutcome → Bool
-outcome_refuses Queued = false
-outcome_refuses (Ignored why) = false
-outcome_refuses (Error e) = false
-outcome_refuses NotSupported = false
-outcome_refuses (NotTaken why) = true
+abbrev pub outcome_refuses : Result RequestOutcome Refusal → Bool
+outcome_refuses (Ok Queued) = false
+outcome_refuses (Ok (Ignored why)) = false
+outcome_refuses (Ok (Error e)) = false
+outcome_refuses (Ok NotSupported) = false
+outcome_refuses (Err why) = true
 
 abbrev pub refuses : Answer → Bool
 refuses (heard h) = hearing_refuses h
@@ -50,11 +48,11 @@ NoneRefuses (a ∷ rest) = (refuses a ≡ false) × NoneRefuses rest
 
 -- ---- the calls of a step
 pub record Taken (c : Calls) : Type 0 where
-  pub queued : c.queued.0.answer ≡ Done
-  pub opened : c.opened.0.answer ≡ Done
+  pub queued : c.queued.0.answer ≡ Ok tt
+  pub opened : c.opened.0.answer ≡ Ok tt
   pub wrote : write_refuses c.wrote.0.answer ≡ false
   pub heard : NoneRefuses c.heard.answers
-  pub polled : event_refuses c.polled.event ≡ false
+  pub polled : event_refuses c.polled.answer ≡ false
   pub replied : write_refuses c.replied.0.answer ≡ false
   pub read : NoneRefuses c.read.answers
 
@@ -62,7 +60,7 @@ pub record Taken (c : Calls) : Type 0 where
 abbrev pub NoneRefused : Type 0
 NoneRefused =
     (cfg : StreamConfig) (window words places seed drop figure : ℕ) (ring : List ℕ)
-    → check_of cfg ≡ Done
+    → check_of cfg ≡ Ok tt
     → TypedConfig cfg
     → sizes_out window words places ring ≡ false
     → (n : ℕ)

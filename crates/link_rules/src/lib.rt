@@ -4,7 +4,7 @@
 //               ^                                                      |
 //               +---------------- its payload, in the same step -------+
 //
-//   run        `Ran` and `Report`, what a run answers; `Waiting`, the error for the console's next payload
+//   run        `Report`, what a run answers where it isn't refused
 //   theorems   `steps_done`, `none_refused`, `cleared`, `cases`: each function does nothing, and its contract is the theorem
 //
 // specs/Link.antt has a step's calls in order (`calls_of`), the step, the run and its answer (`run_answer`), which

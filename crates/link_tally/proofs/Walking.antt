@@ -1,5 +1,7 @@
 -- The walk over a payload's commands: what is left to read from here, after what was counted, is the whole payload.
 use Prim.Native.Nat.{ℕ, suc, ◌+◌, ◌≤◌}
+use Rattle.std.proofs.Common.{Option, Result, Ok, Err}
+use Rattle.command.specs.declared.retransmit.RetransmitError.{RetransmitError}
 use mathlib.Core.Path.{◌≡◌, refl, sym, ap, ◌∙◌}
 use mathlib.Core.List.{List, [], ◌∷◌, ◌++◌}
 use native.Mathlib.Omega.{arith}
@@ -15,8 +17,6 @@ use Rattle.packet.specs.Layout.{packet}
 use Rattle.packet.specs.Read.{header, signed, open_of, next_of, body_of, Item, whole, items_from, items_of, follow, walked}
 use Rattle.packet.specs.declared.cursor.Header.{Header}
 use Rattle.packet.specs.declared.cursor.Cursor.{Cursor}
-use Rattle.packet.specs.declared.cursor.Packets.{Packets}
-use Rattle.packet.specs.declared.cursor.Packets.TheVariants.{At, Refused}
 use Rattle.packet.specs.declared.cursor.PacketItem.{PacketItem}
 use Rattle.packet.specs.declared.cursor.PacketItem.TheVariants.{Command as WholeCommand, Truncated, End}
 use Rattle.packet.proofs.RoundTrip.{walked_items, items_enough}
@@ -27,7 +27,6 @@ use Rattle.stream.specs.declared.stream.DataStream.{DataStream}
 use Rattle.link_rules.specs.Arriving.{Answer, Arrived, nothing, behind, command_of, arrived_by, item_by, arrived_of, handed_by, handed_in, loss_by, losses_in, error_by, error_in}
 use Rattle.link_tally.specs.Tally.{rest_at, tallied, unread}
 use Rattle.link_tally.specs.declared.arriving.Tally.{Tally}
-use Rattle.link_rules.specs.declared.run.Waiting.{Waiting}
 use Rattle.link_tally.proofs.Tallies.{handed_few}
 
 -- ---- the items from a place on
@@ -48,7 +47,7 @@ follows b at =
 
 -- ---- counts
 
-errors_behind : (xs ys : List Answer) (w : Waiting) → error_in w (xs ++ ys) ≡ error_in (error_in w xs) ys
+errors_behind : (xs ys : List Answer) (w : Option RetransmitError) → error_in w (xs ++ ys) ≡ error_in (error_in w xs) ys
 unfolding error_in
 errors_behind [] ys w = refl
 errors_behind (x ∷ xs) ys w = errors_behind xs ys (error_by w x)
@@ -82,7 +81,7 @@ tallied_none a = zeros a.handed a.losses
 pub walk_far : (b : List ℕ) (at : ℕ) (x : PacketItem) → x ≡ next_of b at → (h : Header) (here : ℕ) (next : Cursor) → x ≡ WholeCommand h here next → (at + 4 ≤ next.at) × (next.at ≤ length b)
 walk_far b at x e h here next f = let n = next_found b at h here next (sym e ∙ f) in (omega arith, n.2)
 
-pub walk_few : (a : Tally) (cfg : StreamConfig) (time : ℕ) (ring : List ℕ) (c : Command) (r : Tally) → r ≡ tallied a (arrived_by a.stream cfg time ring c) → (r.handed ≤ a.handed + 1) × (r.losses ≤ a.losses + 1)
+pub walk_few : (a : Tally) (cfg : StreamConfig) (time : ℕ) (ring : List ℕ) (c : Result Command Refusal) (r : Tally) → r ≡ tallied a (arrived_by a.stream cfg time ring c) → (r.handed ≤ a.handed + 1) × (r.losses ≤ a.losses + 1)
 walk_few a cfg time ring c r e =
     let f = handed_few a.stream cfg time ring c in
     let x : r.handed ≡ a.handed + handed_in (arrived_by a.stream cfg time ring c).answers = ap (λ (y : Tally). y.handed) e in
@@ -130,27 +129,27 @@ module _ (cfg : StreamConfig) (time : ℕ) (ring : List ℕ) where
       walk_cut x e h f = sym (ended_by (Truncated h) (sym e ∙ f) ∙ tallied_none a)
 
       pub walk_on : (x : PacketItem) → x ≡ next_of b at → (h : Header) (here : ℕ) (next : Cursor) → x ≡ WholeCommand h here next → (part : List ℕ) → part ≡ body_of b here h
-          → (c : Command) → c ≡ parsed_of h (words_of part) → (r : Tally) → r ≡ tallied a (arrived_by a.stream cfg time ring c) → ended r next.at ≡ ended a at
+          → (c : Result Command Refusal) → c ≡ parsed_of h (words_of part) → (r : Tally) → r ≡ tallied a (arrived_by a.stream cfg time ring c) → ended r next.at ≡ ended a at
       unfolding arrived_of
       walk_on x e h here next f part p c q r t =
           let w : List ℕ = words_of (body_of b here h) in
           let k : c ≡ parsed_of h w = q ∙ ap (λ (y : List ℕ). parsed_of h (words_of y)) p in
           let one : Arrived = item_by a.stream cfg time ring (whole here (packet h.code h.csd1 h.csd2 w)) in
-          let same : r ≡ tallied a one = t ∙ ap (λ (y : Command). tallied a (arrived_by a.stream cfg time ring y)) k ∙ ap (tallied a) (sym (command_same a.stream h w)) in
+          let same : r ≡ tallied a one = t ∙ ap (λ (y : Result Command Refusal). tallied a (arrived_by a.stream cfg time ring y)) k ∙ ap (tallied a) (sym (command_same a.stream h w)) in
           ap (λ (y : Tally). ended y next.at) same
           ∙ sym (ended_by (WholeCommand h here next) (sym e ∙ f) ∙ tallied_behind a one (arrived_of one.stream cfg time ring (rest_at b next.at)))
 
     -- ---- the signature
-    pub arrive_unsigned : (s : DataStream) (p : Packets) → p ≡ open_of b → (why : Refusal) → p ≡ Refused why → unread s ≡ tallied (unread s) (arrived_of s cfg time ring (items_of b))
+    pub arrive_unsigned : (s : DataStream) (p : Result Cursor Refusal) → p ≡ open_of b → (why : Refusal) → p ≡ Err why → unread s ≡ tallied (unread s) (arrived_of s cfg time ring (items_of b))
     unfolding open_of items_of arrived_of
     arrive_unsigned s p e why f = elim (split (signed b)) [
-      | inl k ↦ absurd (let x : At record { at = 4 } ≡ Refused why = rw k at (sym e ∙ f) in let z : ◌≡◌ {A = ℕ} 0 1 = cc in let y : ⊥ = omega arith in y)
+      | inl k ↦ absurd (let x : Ok record { at = 4 } ≡ Err why = rw k at (sym e ∙ f) in let z : ◌≡◌ {A = ℕ} 0 1 = cc in let y : ⊥ = omega arith in y)
       | inr k ↦ rw k (sym (tallied_none (unread s)))
     ]
 
-    pub arrive_signed : (s : DataStream) (p : Packets) → p ≡ open_of b → (at : Cursor) → p ≡ At at → (r : Tally) → r ≡ ended (unread s) 4 → r ≡ tallied (unread s) (arrived_of s cfg time ring (items_of b))
+    pub arrive_signed : (s : DataStream) (p : Result Cursor Refusal) → p ≡ open_of b → (at : Cursor) → p ≡ Ok at → (r : Tally) → r ≡ ended (unread s) 4 → r ≡ tallied (unread s) (arrived_of s cfg time ring (items_of b))
     unfolding open_of items_of rest_at
     arrive_signed s p e at f r t = elim (split (signed b)) [
       | inl k ↦ rw k t
-      | inr k ↦ absurd (let x : Refused BadSignature ≡ At at = rw k at (sym e ∙ f) in let z : ◌≡◌ {A = ℕ} 0 1 = cc in let y : ⊥ = omega arith in y)
+      | inr k ↦ absurd (let x : Err BadSignature ≡ Ok at = rw k at (sym e ∙ f) in let z : ◌≡◌ {A = ℕ} 0 1 = cc in let y : ⊥ = omega arith in y)
     ]

@@ -1,10 +1,9 @@
 -- What is counted while an end reads a payload.
-use Rattle.std.specs.Prelude.{ℕ, ◌+◌, ◌≤◌, List, length, drop}
+use Rattle.std.specs.Prelude.{ℕ, ◌+◌, ◌≤◌, List, length, drop, None}
 use Rattle.packet.specs.Read.{Item, items_from}
 use Rattle.stream.specs.declared.stream.DataStream.{DataStream}
 use Rattle.link_rules.specs.Arriving.{Arrived, handed_in, losses_in, error_in}
 use Rattle.link_tally.specs.declared.arriving.Tally.{Tally}
-use Rattle.link_rules.specs.declared.run.Waiting.TheVariants.{Nothing}
 
 -- the counts so far are small
 pub record Few (a : Tally) : Type 0 where
@@ -13,7 +12,7 @@ pub record Few (a : Tally) : Type 0 where
 
 -- before the first command
 abbrev pub unread : DataStream → Tally
-unread s = record { stream = s; waiting = Nothing; handed = 0; losses = 0 }
+unread s = record { stream = s; waiting = None; handed = 0; losses = 0 }
 
 -- with the answers to further commands
 abbrev pub tallied : Tally → Arrived → Tally

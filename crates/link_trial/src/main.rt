@@ -11,27 +11,19 @@
 // answers `refused N`. Empty lines and those that begin with # answer nothing; a line that is none of these answers `bad`.
 #![tactic(auto)]
 
-ghost use Rattle.std.specs.Prelude.{◌≤◌};
-
+use config::refusal::Refusal;
 use config::settings::StreamConfig;
 use link::link::run;
-use link_rules::run::Ran;
+use link_rules::run::Report;
 use std::io;
-use text::forms::Answer;
-use text::lines::Input;
-use text::{blocks, forms, lines, out};
+use std::io::Write;
+use text::fields::Fields;
+use text::lines::Lines;
+use text::out::Output;
+use text::{blocks, lines};
 
 // The most words of a history.
 const MOST: usize = 32768;
-
-// A figure as wide as its field; the reading has kept it within.
-fn byte(n: u64) -> u8 {
-    (n % 0x100) as u8
-}
-
-fn wide(n: u64) -> u32 {
-    (n % 0x1_0000_0000) as u32
-}
 
 // The run that a line asks for.
 #[derive(Clone, Copy)]
@@ -46,49 +38,52 @@ struct Given {
     budget: u32,
 }
 
+fn byte(fields: &mut Fields<'_>) -> Option<u8> {
+    Some(fields.figure(0xFF)? as u8)
+}
+
+fn word(fields: &mut Fields<'_>) -> Option<u32> {
+    Some(fields.figure(0xFFFF_FFFF)? as u32)
+}
+
 // T1 G K R X D M SIZE
-fn settings(f: &[u64; 15]) -> StreamConfig {
-    StreamConfig {
-        idle_interval_ms: wide(f[0]),
-        idle_growth: wide(f[1]),
-        idle_further: byte(f[2]),
-        fec_repeats: byte(f[3]),
-        retransmit: f[4] == 1,
-        request_delay_ms: wide(f[5]),
-        max_requests: byte(f[6]),
-        max_command_words: wide(f[7]) as usize,
-    }
+fn settings(fields: &mut Fields<'_>) -> Option<StreamConfig> {
+    Some(StreamConfig {
+        idle_interval_ms: word(fields)?,
+        idle_growth: word(fields)?,
+        idle_further: byte(fields)?,
+        fec_repeats: byte(fields)?,
+        retransmit: fields.figure(1)? == 1,
+        request_delay_ms: word(fields)?,
+        max_requests: byte(fields)?,
+        max_command_words: word(fields)? as usize,
+    })
 }
 
-// The rest: W C Q SEED DROP FIGURE BUDGET
-fn asked(f: &[u64; 15]) -> Given {
-    Given {
-        settings: settings(f),
-        window: wide(f[8]),
-        words: wide(f[9]) as usize,
-        places: wide(f[10]) as usize,
-        seed: wide(f[11]),
-        drop: wide(f[12]),
-        figure: wide(f[13]),
-        budget: wide(f[14]),
+// The settings, and the rest: W C Q SEED DROP FIGURE BUDGET
+fn asked(line: &[u8]) -> Option<Given> {
+    if lines::LIMIT < line.len() {
+        return None;
     }
+    let mut fields = Fields::new(line);
+    let given = Given {
+        settings: settings(&mut fields)?,
+        window: word(&mut fields)?,
+        words: word(&mut fields)? as usize,
+        places: word(&mut fields)? as usize,
+        seed: word(&mut fields)?,
+        drop: word(&mut fields)?,
+        figure: fields.figure(0xFFFF)? as u32,
+        budget: word(&mut fields)?,
+    };
+    fields.is_done().then_some(given)
 }
 
-// How many words are lent of so many. With more than a start takes, a run is refused by its size.
-fn lent(n: usize) -> usize
-    ensures { result ≤ 32768 }
-{
-    if MOST < n {
-        return MOST;
-    }
-    n
-}
-
-// The run. This function alone holds the histories.
-fn trial(t: Given) -> Ran {
+// The run. This function alone holds the histories. With more words than a start takes, a run is refused by their number.
+fn trial(t: Given) -> Result<Report, Refusal> {
     let mut ring = [0u32; MOST];
     let mut other = [0u32; MOST];
-    let n = lent(t.words);
+    let n = t.words.min(MOST);
     run(
         t.settings,
         t.window,
@@ -103,107 +98,28 @@ fn trial(t: Given) -> Ran {
     )
 }
 
-fn said(ran: Ran) -> Answer {
+fn said(out: &mut impl Write, ran: Result<Report, Refusal>) -> io::Result<()> {
     match ran {
-        Ran::Done(report) => Answer {
-            form: 1,
-            a: report.steps as u64,
-            b: report.handed as u64,
-            c: report.losses as u64,
-            d: 0,
-        },
-        Ran::Refused(why) => Answer {
-            form: 2,
-            a: why.number() as u64,
-            b: 0,
-            c: 0,
-            d: 0,
-        },
+        Ok(r) => writeln!(out, "{} {} {}", r.steps, r.handed, r.losses),
+        Err(why) => writeln!(out, "refused {}", why.number()),
     }
-}
-
-// Whether the figures of a line are those of a run. A blank stands before the line, so that its first field is empty,
-// which is the name of the one call.
-fn reads(line: &[u8], f: &mut [u64]) -> bool {
-    let mut words = [0u32; 1];
-    if lines::LIMIT + 1 < line.len() {
-        return false;
-    }
-    let call = forms::read(b" 441114144444424|", line, f, &mut words);
-    call.kind == 1
 }
 
 // The answer to a line.
-fn answer(line: &[u8]) -> Answer {
-    let mut f = [0u64; 15];
-    if reads(line, &mut f) {
-        if f[4] <= 1 {
-            return said(trial(asked(&f)));
-        }
+fn answer(out: &mut impl Write, line: &[u8]) -> io::Result<()> {
+    match asked(line) {
+        Some(given) => said(out, trial(given)),
+        None => writeln!(out, "bad"),
     }
-    Answer {
-        form: 0,
-        a: 0,
-        b: 0,
-        c: 0,
-        d: 0,
-    }
-}
-
-fn answered(rt: &impl Print, to: &mut [u8], used: usize, line: &[u8]) -> io::Result<usize> {
-    if line.len() == 0 {
-        return Ok(used);
-    }
-    if lines::skipped(&line[1..]) {
-        return Ok(used);
-    }
-    forms::say(rt, to, used, b"bad\n|# # #\n|refused #\n|", answer(line))
-}
-
-// The answer to the line of `n` bytes behind the blank; none where fewer are there.
-fn whole(rt: &impl Print, to: &mut [u8], used: usize, line: &[u8], n: usize) -> io::Result<usize> {
-    if line.len() <= n {
-        return Ok(used);
-    }
-    let m = lines::lent(line, n + 1);
-    answered(rt, to, used, &line[..m])
-}
-
-// Gathers the next line after the blank.
-fn next(
-    rt: &(impl Print + io::Input),
-    from: Input,
-    input: &mut [u8],
-    line: &mut [u8],
-    to: &[u8],
-) -> io::Result<Input> {
-    if line.len() == 0 {
-        return Ok(from);
-    }
-    lines::next(rt, from, from.waits, input, &mut line[1..], to)
-}
-
-// Line after line. A proved loop has to end, and nothing says that the input does: it counts down from a
-// number that no run uses up.
-fn all(
-    rt: &(impl Print + io::Input),
-    input: &mut [u8],
-    line: &mut [u8],
-    to: &mut [u8],
-) -> io::Result<()> {
-    let mut from = Input::new();
-    let mut turns = u64::MAX;
-    while 0 < turns {
-        from = next(rt, from, input, line, &to[..])?;
-        from.waits = whole(rt, to, from.waits, &line[..], from.line)?;
-        turns = lines::to_go(turns, from.more);
-    }
-    out::flush(rt, &to[..], from.waits)
 }
 
 fn main(rt: HostRuntime) -> io::Result<()> {
     let mut input = [0u8; blocks::SIZE];
     let mut to = [0u8; blocks::SIZE];
-    let mut line = [b' '; 4099];
-    all(&rt, &mut input, &mut line, &mut to)
+    let mut line = [0u8; 4098];
+    let mut lines = Lines::new(&rt, &mut input, &mut line);
+    lines.each(
+        &mut Output::new(&rt, &mut to),
+        |out, line| answer(out, line),
+    )
 }

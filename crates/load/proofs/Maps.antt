@@ -1,5 +1,5 @@
 -- Maps of x to (x * a + b) % 2^32: one of them twice is one of them, so that a count can be halved.
-use Rattle.std.proofs.Common.{◌≡◌, ℕ, zero, suc, ◌+◌, ◌*◌, ◌/◌, ◌%◌, ◌^◌, ◌<◌, Bool, true, false, cond, eqb, sym, refl, ap, ◌∙◌, lt_of_le_of_lt, le_of_lt, add_assoc, mul_assoc, mul_comm, add-mul, mul-le-mul_left, mul-lt-mul_of_pos_right, div-add-mod', arith, pow_pos, ne_eqb, eqb-true}
+use Rattle.std.proofs.Common.{◌≡◌, ℕ, zero, suc, ◌+◌, ◌*◌, ◌/◌, ◌%◌, ◌^◌, Bool, true, false, cond, eqb, sym, refl, ap, ◌∙◌, add_assoc, mul_assoc, mul_comm, add-mul, div-add-mod', arith, eqb-true}
 use native.Mathlib.Nat.{mul-add-mod_self_right, mod-add-mod, add-mod-mod}
 use borrow.Author.Tests.{eqb-false}
 use Rattle.load.specs.Load.{iterate}
@@ -64,14 +64,3 @@ unfolding iterate
 ended f x left e = rw e refl
 
 -- ---- the code's steps
-pub product_lt : (a b : ℕ) → a < 2 ^ 32 → b < 2 ^ 32 → a * b < 2 ^ 64
-product_lt a b ha hb = lt_of_le_of_lt (mul-le-mul_left a (le_of_lt hb)) (mul-lt-mul_of_pos_right ha (pow_pos 32))
-
-pub sum_is : (a b x p r : ℕ) → p ≡ (x * a) % 2 ^ 32 → r ≡ (p + b) % 2 ^ 32 → r ≡ (x * a + b) % 2 ^ 32
-sum_is a b x p r e f = f ∙ ap (λ (z : ℕ). (z + b) % 2 ^ 32) e ∙ mod-add-mod (x * a) (2 ^ 32) b
-
-pub odd_is : (y x left : ℕ) → left % 2 ≡ 1 → y ≡ cond (eqb (left % 2) 1) y x
-odd_is y x left e = rw e refl
-
-pub even_is : (y x left : ℕ) → (left % 2 ≡ 1 → ⊥) → x ≡ cond (eqb (left % 2) 1) y x
-even_is y x left f = rw (ne_eqb (left % 2) 1 f) refl

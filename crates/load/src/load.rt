@@ -37,29 +37,18 @@ pub struct Words {
     pub count: usize,
 }
 
-// The low 32 bits of the product.
-fn times(a: u32, b: u32) -> u32
-    ensures { result ≡ (a * b) % 2 ^ 32 }
-{
-    let wide = (a as u64) * (b as u64);
-    (wide % 0x1_0000_0000) as u32
-}
-
 // x times a plus b, modulo 2^32.
 fn mapped(a: u32, b: u32, x: u32) -> u32
     ensures { result ≡ (x * a + b) % 2 ^ 32 }
 {
-    std::num::wrapping_add_u32(times(x, a), b)
+    x.wrapping_mul(a).wrapping_add(b)
 }
 
 // x times a plus b, modulo 2^32, where `left` is odd; else x.
 fn if_odd(a: u32, b: u32, x: u32, left: u16) -> u32
     ensures { result ≡ (if nat_eq (left % 2) 1 then (x * a + b) % 2 ^ 32 else x) }
 {
-    if left % 2 == 1 {
-        return mapped(a, b, x);
-    }
-    x
+    if left % 2 == 1 { mapped(a, b, x) } else { x }
 }
 
 impl Load {
@@ -82,12 +71,13 @@ impl Load {
         let mut x = self.last;
         let mut left = n;
         let mut rounds = 0;
+        // A `while`: what is left halves, which no range does.
         while 0 < left {
             x = if_odd(a, b, x, left);
-            let square = times(a, a);
+            let square = a.wrapping_mul(a);
             b = mapped(a, b, b);
             a = square;
-            left = left / 2;
+            left /= 2;
             rounds += 1;
         }
         Jump {
@@ -101,14 +91,11 @@ impl Load {
     pub fn words(self) -> Words
         ensures { result ≡ asked_of self }
     {
-        let words = [WORD; 8];
         let top = self.last / 0x1000_0000;
-        if top < 8 {
-            return Words { words, count: 0 };
-        }
+        let count = if top < 8 { 0 } else { top % 8 + 1 };
         Words {
-            words,
-            count: (top % 8 + 1) as usize,
+            words: [WORD; 8],
+            count: count as usize,
         }
     }
 }

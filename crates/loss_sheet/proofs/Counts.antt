@@ -2,11 +2,11 @@
 use mathlib.Core.Path.{◌≡◌, refl, sym, ◌∙◌}
 use mathlib.Core.Bool.{Bool, true, false, cond}
 use mathlib.Core.List.{List, [], ◌∷◌, ◌++◌}
-use Prim.Native.Nat.{ℕ, zero, suc, ◌+◌, ◌*◌, ◌-◌, ◌/◌, ◌%◌, ◌≤◌, ◌<◌}
+use Prim.Native.Nat.{ℕ, zero, suc, ◌+◌, ◌*◌, ◌/◌, ◌%◌, ◌≤◌, ◌<◌}
 use native.Mathlib.Omega.{arith}
 use native.Mathlib.Numerals.{add-one}
-use lib.ListN.{length, set, take, drop, get_or, length-set}
-use lib.Seq.{drop-cons, drop-length, take-suc-set, take_all}
+use lib.ListN.{length, set, take, get_or, length-set}
+use lib.Seq.{take-suc-set, take_all}
 use lib.Dec.{eqb}
 use Rattle.sheet_blocks.specs.Bytes.{spliced, word_bytes}
 use Rattle.sheet_blocks.proofs.Splice.{spliced_append}
@@ -140,20 +140,6 @@ four_words b b₁ b₂ b₃ b₄ i f h p q r s =
     s ∙ rw three (spliced_append b i (i + 12) (word_bytes f.new (word_bytes f.late (word_bytes f.duplicate []))) (word_bytes f.lost []) (omega arith) (omega arith))
 
 -- ---- a turn of the loop that sums up from the end
-
-pub figures_turn : (ws : List ℕ) (f : Figures) (i : ℕ) → 0 < i → i ≤ length ws → f ≡ figures (drop i ws)
-    → plus f (get_or ws (i - 1) 0) ≡ figures (drop (i - 1) ws)
-figures_turn ws f i p q e =
-    let s : suc (i - 1) ≡ i = omega arith in
-    rw (e, drop-cons ws (i - 1) 0 (omega arith), s) (sym (figures_cons (get_or ws (i - 1) 0) (drop i ws)))
-
--- the loop's start and its end
-pub figures_none : (ws : List ℕ) → ◌≡◌ {A = Figures} (record { new = 0; late = 0; duplicate = 0; lost = 0 }) (figures (drop (length ws) ws))
-unfolding figures classes losses
-figures_none ws = rw (drop-length ws)
-
-pub figures_all : (ws : List ℕ) (f : Figures) (i : ℕ) → i ≤ 0 → f ≡ figures (drop i ws) → f ≡ figures ws
-figures_all ws f i h e = let z : i ≡ 0 = omega arith in rw z at e
 
 pub few_of : (ws : List ℕ) (f : Figures) → f ≡ figures ws → length ws ≤ 4096 → Few f
 few_of ws f e h = rw e (few ws h)

@@ -7,33 +7,18 @@ use native.Mathlib.Numerals.{add-one}
 use native.Mathlib.Omega.{arith}
 use borrow.Author.Tests.{lt-ltb, le-ltb, ltb-true, ltb-false}
 use mathlib.Core.Logic.{⊎_elim}
-use lib.ListN.{length, set, take, drop, get_or, replicate, drop_of_length-le, length-append, length-set, length-drop, length-take, take-append-drop}
+use lib.ListN.{length, set, take, drop, replicate, drop_of_length-le, length-append, length-set, length-drop, length-take, take-append-drop}
 use lib.Seq.{drop-cons, drop-append-le, drop-drop, drop-set-lt, take-suc-set, take_all, take-take}
 use lib.Dec.{ltb}
 use Rattle.config.specs.inner.Tests.{split}
 use Rattle.sheet_blocks.specs.Bytes.{spliced}
 use Rattle.sheet_blocks.proofs.Splice.{spliced_append}
 use Rattle.loss_sheet.specs.Figures.{figures, figure_bytes}
-use Rattle.loss_sheet.specs.Sheet.{all_below, next_of, pushed, held, last_of, sheet_bytes}
+use Rattle.loss_sheet.specs.Sheet.{next_of, pushed, held, last_of, sheet_bytes}
 use Rattle.loss_sheet.specs.inner.Fits.{Good}
 use Rattle.loss_sheet.specs.declared.sheet.Sheet.{Sheet}
 use Rattle.loss_sheet.specs.declared.figures.Figures.{Figures}
 use Rattle.loss_sheet.proofs.Counts.{figures_swap, length_figures}
-
--- ---- tests of words
-
-module _ (ws : List ℕ) (m i : ℕ) where
-  pub below_bad : i < length ws → m ≤ get_or ws i 0 → false ≡ all_below m (drop i ws)
-  unfolding all_below
-  below_bad h k = rw (drop-cons ws i 0 h, le-ltb (get_or ws i 0) m k)
-
-  pub below_next : i < length ws → get_or ws i 0 < m → all_below m (drop (i + 1) ws) ≡ all_below m (drop i ws)
-  unfolding all_below
-  below_next h k = rw (drop-cons ws i 0 h, lt-ltb (get_or ws i 0) m k, add-one)
-
-  pub below_end : length ws ≤ i → true ≡ all_below m (drop i ws)
-  unfolding all_below
-  below_end h = rw (drop_of_length-le ws h)
 
 -- ---- the next place
 

@@ -1,89 +1,35 @@
 -- The state test and the answers, each from the tests that lead to it.
-use mathlib.Core.Path.{◌≡◌, refl, sym, ap, ◌∙◌}
+use mathlib.Core.Path.{◌≡◌, refl, sym, ◌∙◌}
 use mathlib.Core.Bool.{Bool, true, false, cond, ◌||◌}
 use mathlib.Core.List.{List}
 use Prim.Native.Nat.{ℕ, ◌-◌, ◌≤◌, ◌<◌}
 use native.Mathlib.Omega.{arith}
-use borrow.Author.Tests.{eq-eqb, ne_eqb, lt-ltb, le-ltb, le-leb, lt-leb, eqb-true, ltb-true, leb-true, not-true}
-use lib.ListN.{length, take, drop, replicate, length-drop}
+use borrow.Author.Tests.{eq-eqb, ne_eqb, lt-ltb, le-leb, eqb-true, ltb-true, leb-true}
+use lib.ListN.{length, take, drop, length-drop}
 use lib.Seq.{take_all}
 use lib.Dec.{ltb, leb, eqb}
-use Rattle.config.specs.Range.{within, outside}
+use Rattle.config.specs.Range.{outside}
 use mathlib.Core.Logic.{◌⊎◌, inl, inr}
-use Rattle.config.specs.inner.Ranges.{outside_not, not_outside}
+use Rattle.config.specs.inner.Ranges.{not_outside}
 use Rattle.config.specs.inner.Tests.{split, and_left, and_right}
 use Rattle.sheet_blocks.specs.Bytes.{spliced}
 use Rattle.sheet_blocks.specs.Records.{all_records, is_block, rows}
-use Rattle.loss_sheet.specs.Sheet.{all_below, state_ok, fresh, start_of, taken_of, answer_of, arrivals, block_of, pushed_all, sheet_bytes, held}
+use Rattle.loss_sheet.specs.Sheet.{all_below, state_ok, taken_of, answer_of, arrivals, block_of, pushed_all, sheet_bytes, held}
 use Rattle.loss_sheet.specs.inner.Fits.{Good}
 use Rattle.loss_sheet.specs.declared.sheet.Sheet.{Sheet}
 
 -- ---- the state test
 
-pub head_first : (h l n : ℕ) → h ≡ 0 → true ≡ (eqb h 0 || eqb l n)
-head_first h l n e = rw (eq-eqb h 0 e)
-
-pub head_later : (h l n : ℕ) → (h ≡ 0 → ⊥) → eqb l n ≡ (eqb h 0 || eqb l n)
-head_later h l n e = rw (ne_eqb h 0 e)
-
-module _ (s : Sheet) (b : List ℕ) where
-  pub state_ring : (length b ≡ s.n → ⊥) → false ≡ state_ok s b
+module _ (s : Sheet) (b : List ℕ) (r : length b ≡ s.n) (i : s.head < s.n) (l : s.len ≤ s.n) (f : (eqb s.head 0 || eqb s.len s.n) ≡ true) where
+  pub state_rest : (t : Bool) → all_below 196608 (take s.len b) ≡ true → t ≡ all_below 1 (drop s.len b) → t ≡ state_ok s b
   unfolding state_ok
-  state_ring h = rw (ne_eqb (length b) s.n h)
-
-  module _ (r : length b ≡ s.n) where
-    pub state_head : s.n ≤ s.head → false ≡ state_ok s b
-    unfolding state_ok
-    state_head h = rw (eq-eqb (length b) s.n r, le-ltb s.head s.n h)
-
-    module _ (i : s.head < s.n) where
-      pub state_len : s.n < s.len → false ≡ state_ok s b
-      unfolding state_ok
-      state_len h = rw (eq-eqb (length b) s.n r, lt-ltb s.head s.n i, lt-leb s.len s.n h)
-
-      module _ (l : s.len ≤ s.n) where
-        pub state_first : (eqb s.head 0 || eqb s.len s.n) ≡ false → false ≡ state_ok s b
-        unfolding state_ok
-        state_first h = rw (eq-eqb (length b) s.n r, lt-ltb s.head s.n i, le-leb s.len s.n l, h)
-
-        module _ (f : (eqb s.head 0 || eqb s.len s.n) ≡ true) where
-          pub state_words : all_below 196608 (take s.len b) ≡ false → false ≡ state_ok s b
-          unfolding state_ok
-          state_words h = rw (eq-eqb (length b) s.n r, lt-ltb s.head s.n i, le-leb s.len s.n l, f, h)
-
-          pub state_rest : (t : Bool) → all_below 196608 (take s.len b) ≡ true → t ≡ all_below 1 (drop s.len b) → t ≡ state_ok s b
-          unfolding state_ok
-          state_rest t h e = rw (eq-eqb (length b) s.n r, lt-ltb s.head s.n i, le-leb s.len s.n l, f, h) e
+  state_rest t h e = rw (eq-eqb (length b) s.n r, lt-ltb s.head s.n i, le-leb s.len s.n l, f, h) e
 
 -- what a part up to the end is
-pub state_part : (b : List ℕ) (l : ℕ) (t : Bool) → t ≡ all_below 1 (take (length b - l) (drop l b)) → t ≡ all_below 1 (drop l b)
-state_part b l t e = e ∙ rw (take_all (length b - l) (drop l b) (rw length-drop (omega arith)))
+pub rest_is : (b : List ℕ) (l : ℕ) → take (length b - l) (drop l b) ≡ drop l b
+rest_is b l = take_all _ _ (simp length-drop (omega arith))
 
 -- ---- the answers
-
-module _ (s : Sheet) (b bs : List ℕ) (room : ℕ) where
-  pub answer_12 : outside 1 4096 s.n ≡ true → 12 ≡ answer_of s b bs room
-  unfolding answer_of
-  answer_12 o = rw o
-
-  module _ (o : outside 1 4096 s.n ≡ false) where
-    pub answer_13 : state_ok s b ≡ false → 13 ≡ answer_of s b bs room
-    unfolding answer_of
-    answer_13 t = rw (o, t)
-
-    module _ (t : state_ok s b ≡ true) where
-      pub answer_16 : is_block (length bs) room ≡ false → 16 ≡ answer_of s b bs room
-      unfolding answer_of taken_of
-      answer_16 i = rw (o, t, i)
-
-      module _ (i : is_block (length bs) room ≡ true) where
-        pub answer_17 : all_records bs (rows bs) 0 ≡ false → 17 ≡ answer_of s b bs room
-        unfolding answer_of taken_of
-        answer_17 r = rw (o, t, i, r)
-
-        pub answer_0 : all_records bs (rows bs) 0 ≡ true → 0 ≡ answer_of s b bs room
-        unfolding answer_of taken_of
-        answer_0 r = rw (o, t, i, r)
 
 none_of : (o t : Bool) (k : ℕ) → cond o 12 (cond t k 13) ≡ 0 → (o ≡ false) × (t ≡ true) × (k ≡ 0)
 none_of true t k e = absurd (let z : ⊥ = omega arith in z)
@@ -125,22 +71,6 @@ good s b o t =
       room = leb-true s.len s.n (and_left (leb s.len s.n) _ t₂);
       first = either s.head s.len s.n (and_left (eqb s.head 0 || eqb s.len s.n) _ t₃);
     }
-
--- ---- the start
-
-module _ (n : ℕ) (b : List ℕ) where
-  pub start_size : (a : ℕ) → a ≡ 12 → outside 1 4096 n ≡ true → (record { sheet = fresh n; refusal = a }, b) ≡ start_of n b
-  unfolding start_of
-  start_size a e o = rw (not-true (within 1 4096 n) o, e)
-
-  module _ (o : outside 1 4096 n ≡ false) where
-    pub start_ring : (a : ℕ) → a ≡ 12 → (length b ≡ n → ⊥) → (record { sheet = fresh n; refusal = a }, b) ≡ start_of n b
-    unfolding start_of
-    start_ring a e h = rw (outside_not 1 4096 n o, ne_eqb (length b) n h, e)
-
-    pub started : (b' : List ℕ) → length b ≡ n → b' ≡ replicate (length b) 0 → (record { sheet = fresh n; refusal = 0 }, b') ≡ start_of n b
-    unfolding start_of
-    started b' h e = rw (outside_not 1 4096 n o, eq-eqb (length b) n h) (ap (λ (l : List ℕ). (record { sheet = fresh n; refusal = 0 }, l)) (e ∙ ap (λ (k : ℕ). replicate k 0) h))
 
 -- ---- the block
 

@@ -1,5 +1,5 @@
 // Figures over words of class * 65,536 + loss count.
-ghost use Rattle.std.specs.Prelude.{◌≡◌, cond, ℕ, ◌*◌, ◌+◌, ◌≤◌, ◌<◌, length};
+ghost use Rattle.std.specs.Prelude.{◌≡◌, ◌+◌, ◌≤◌, length};
 ghost use Rattle.sheet_blocks.specs.Bytes.{spliced};
 ghost use Rattle.loss_sheet.specs.Figures.{figures, plus, minus, figure_bytes};
 ghost use Rattle.loss_sheet.specs.inner.Fits.{Few, Within};
@@ -16,36 +16,32 @@ pub struct Figures {
     pub lost: u32,
 }
 
-fn one(b: bool) -> u32
-    ensures { (result ≡ cond b 1 0) × (result ≤ 1) }
-{
-    if b { 1 } else { 0 }
-}
-
 // The figures with one word more.
+#[tactic(auto, unfolding(crate::specs::Figures::plus))]
 pub fn add(f: Figures, w: u32) -> Figures
     requires { Few f }
     ensures { result ≡ plus f w }
 {
     let class = w / 0x1_0000;
     Figures {
-        new: f.new + one(class == 0),
-        late: f.late + one(class == 1),
-        duplicate: f.duplicate + one(class == 2),
+        new: f.new + u32::from(class == 0),
+        late: f.late + u32::from(class == 1),
+        duplicate: f.duplicate + u32::from(class == 2),
         lost: f.lost + w % 0x1_0000,
     }
 }
 
 // The figures with one word, which is among theirs, less.
+#[tactic(auto, unfolding(crate::specs::Figures::minus))]
 pub fn sub(f: Figures, w: u32) -> Figures
     requires { Within f w }
     ensures { result ≡ minus f w }
 {
     let class = w / 0x1_0000;
     Figures {
-        new: f.new - one(class == 0),
-        late: f.late - one(class == 1),
-        duplicate: f.duplicate - one(class == 2),
+        new: f.new - u32::from(class == 0),
+        late: f.late - u32::from(class == 1),
+        duplicate: f.duplicate - u32::from(class == 2),
         lost: f.lost - w % 0x1_0000,
     }
 }
@@ -61,10 +57,8 @@ pub fn of(words: &[u32]) -> Figures
         duplicate: 0,
         lost: 0,
     };
-    let mut i = words.len();
-    while 0 < i {
-        i -= 1;
-        f = add(f, words[i]);
+    for &w in words {
+        f = add(f, w);
     }
     f
 }

@@ -1,9 +1,10 @@
 // Figures over the last n arrivals, while a file goes by in blocks.
-ghost use Rattle.std.specs.Prelude.{◌≡◌, ◌||◌, eqb, ℕ, ◌*◌, ◌+◌, ◌≤◌, ◌<◌, length, take, replicate};
+ghost use Rattle.std.specs.Prelude.{◌≡◌, ◌||◌, eqb, ◌*◌, ◌+◌, ◌≤◌, ◌<◌, length, take, IfOk, IfErr};
 ghost use Rattle.sheet_blocks.specs.Bytes.{spliced};
 ghost use Rattle.loss_sheet.specs.Figures.{figures};
 ghost use Rattle.loss_sheet.specs.inner.Fits.{Good};
 ghost use Rattle.sheet_blocks.specs.Records.{entries};
+ghost use Rattle.config.specs.Refusals.{number_of};
 ghost use Rattle.loss_sheet.specs.Sheet.{all_below, state_ok, answer_of, start_of, block_of, next_of, pushed, pushed_all, held, sheet_bytes};
 
 use super::figures;
@@ -42,35 +43,20 @@ pub struct Running {
     pub figures: Figures,
 }
 
-fn zero(ring: &mut [u32])
-    ensures { ring.new ≡ replicate (length ring.old) 0 }
-{
-    let mut k = 0;
-    while k < ring.len() {
-        ring[k] = 0;
-        k += 1;
-    }
-}
-
 // Nothing held, and every word of the lent ring 0. 12 when `n` is not 1 to 4,096, or not the ring's
 // length.
+#[tactic(auto, unfolding(crate::specs::Sheet::start_of))]
 pub fn start(n: usize, ring: &mut [u32]) -> Answered
     ensures { (result, ring.new) ≡ start_of n ring.old }
 {
     let sheet = Sheet { n, head: 0, len: 0 };
-    if outside(1, MAX_ARRIVALS, n) {
+    if outside(1, MAX_ARRIVALS, n) || ring.len() != n {
         return Answered {
             sheet,
             refusal: Refusal::SizeNotAllowed.number(),
         };
     }
-    if ring.len() != n {
-        return Answered {
-            sheet,
-            refusal: Refusal::SizeNotAllowed.number(),
-        };
-    }
-    zero(ring);
+    ring.fill(0);
     Answered { sheet, refusal: 0 }
 }
 
@@ -78,14 +64,7 @@ pub fn start(n: usize, ring: &mut [u32]) -> Answered
 fn all_below(words: &[u32], limit: u32) -> bool
     ensures { result ≡ all_below limit words.now }
 {
-    let mut i = 0;
-    while i < words.len() {
-        if limit <= words[i] {
-            return false;
-        }
-        i += 1;
-    }
-    true
+    words.iter().all(|&w| w < limit)
 }
 
 // The place after `i` in a ring of `n`.
@@ -101,27 +80,23 @@ fn push(g: Running, ring: &mut [u32], w: u32) -> Running
     requires { Good g.sheet ring.old × (g.figures ≡ figures (take g.sheet.len ring.old)) }
     ensures { ((result.sheet, ring.new) ≡ pushed g.sheet ring.old w) × (result.figures ≡ figures (take result.sheet.len ring.new)) }
 {
-    let n = g.sheet.n;
-    let head = g.sheet.head;
-    let len = g.sheet.len;
-    if len < n {
-        ring[len] = w;
+    let sheet = g.sheet;
+    if sheet.len < sheet.n {
+        ring[sheet.len] = w;
         return Running {
             sheet: Sheet {
-                n,
-                head,
-                len: len + 1,
+                len: sheet.len + 1,
+                ..sheet
             },
             figures: figures::add(g.figures, w),
         };
     }
-    let less = figures::sub(g.figures, ring[head]);
-    ring[head] = w;
+    let less = figures::sub(g.figures, ring[sheet.head]);
+    ring[sheet.head] = w;
     Running {
         sheet: Sheet {
-            n,
-            head: next(n, head),
-            len,
+            head: next(sheet.n, sheet.head),
+            ..sheet
         },
         figures: figures::add(less, w),
     }
@@ -138,13 +113,9 @@ fn run(s: Sheet, ring: &mut [u32], block: &[u8], k: usize, out: &mut [u8]) -> Sh
         sheet: s,
         figures: figures::of(&ring[..used]),
     };
-    let mut at = 0;
-    let mut left = k;
-    while 0 < left {
-        g = push(g, ring, records::entry(block, at));
-        figures::put(out, at, g.figures);
-        at += RECORD;
-        left -= 1;
+    for i in 0..k {
+        g = push(g, ring, records::entry(block, i * RECORD));
+        figures::put(out, i * RECORD, g.figures);
     }
     g.sheet
 }
@@ -154,68 +125,59 @@ impl Sheet {
     fn head_ok(self) -> bool
         ensures { result ≡ (eqb self.head 0 || eqb self.len self.n) }
     {
-        if self.head == 0 {
-            return true;
-        }
-        self.len == self.n
+        self.head == 0 || self.len == self.n
     }
 
     // The state test, over the lent ring.
+    #[tactic(auto, using(crate::proofs::States::rest_is), unfolding(crate::specs::Sheet::state_ok))]
     fn state_ok(self, ring: &[u32]) -> bool
         ensures { result ≡ state_ok self ring.now }
     {
-        let len = self.len;
-        if ring.len() != self.n {
-            return false;
-        }
-        if self.n <= self.head {
-            return false;
-        }
-        if self.n < len {
-            return false;
-        }
-        if self.head_ok() {
-            if all_below(&ring[..len], 0x3_0000) {
-                return all_below(&ring[len..], 1);
-            }
-            return false;
-        }
-        false
+        ring.len() == self.n
+            && self.head < self.n
+            && self.len <= self.n
+            && self.head_ok()
+            && all_below(&ring[..self.len], 0x3_0000)
+            && all_below(&ring[self.len..], 1)
     }
 
-    // 0, or why a block is refused.
-    fn test(self, ring: &[u32], block: &[u8], room: usize) -> u8
-        ensures { result ≡ answer_of self ring.now block.now room }
+    // Why a block is refused, if it is.
+    #[tactic(auto, unfolding(crate::specs::Sheet::answer_of, crate::specs::Sheet::taken_of))]
+    fn test(self, ring: &[u32], block: &[u8], room: usize) -> Result<(), Refusal>
+        ensures ok { IfOk result (λ _. answer_of self ring.now block.now room ≡ 0) }
+        ensures err { IfErr result (λ why. answer_of self ring.now block.now room ≡ number_of why) }
     {
         if outside(1, MAX_ARRIVALS, self.n) {
-            return Refusal::SizeNotAllowed.number();
+            return Err(Refusal::SizeNotAllowed);
         }
-        if self.state_ok(ring) {
-            if records::is_block(block.len(), room) {
-                if records::are_records(block, block.len() / RECORD) {
-                    return 0;
-                }
-                return Refusal::InvalidRecord.number();
-            }
-            return Refusal::InvalidBlock.number();
+        if !self.state_ok(ring) {
+            return Err(Refusal::InvalidState);
         }
-        Refusal::InvalidState.number()
+        if !records::is_block(block.len(), room) {
+            return Err(Refusal::InvalidBlock);
+        }
+        if !records::are_records(block, block.len() / RECORD) {
+            return Err(Refusal::InvalidRecord);
+        }
+        Ok(())
     }
 
     // The figures of each record of a block, in order. 12 when `n` is not 1 to 4,096; 13 for a state
     // that no call has left; 16 when the block's length is not a multiple of 16, or exceeds 65,536
     // bytes or the output; 17 when a class is above 2 or a zero byte is not zero.
+    #[tactic(auto, unfolding(crate::specs::Sheet::block_of))]
     pub fn block(self, ring: &mut [u32], block: &[u8], out: &mut [u8]) -> Answered
         ensures { (result, ring.new, out.new) ≡ block_of self ring.old block.now out.old }
     {
-        let refusal = self.test(&ring[..], block, out.len());
-        if refusal != 0 {
-            return Answered {
+        match self.test(&ring[..], block, out.len()) {
+            Ok(()) => {
+                let sheet = run(self, ring, block, block.len() / RECORD, out);
+                Answered { sheet, refusal: 0 }
+            }
+            Err(why) => Answered {
                 sheet: self,
-                refusal,
-            };
+                refusal: why.number(),
+            },
         }
-        let sheet = run(self, ring, block, block.len() / RECORD, out);
-        Answered { sheet, refusal: 0 }
     }
 }

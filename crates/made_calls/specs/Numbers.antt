@@ -6,6 +6,7 @@ use Rattle.c_answers.specs.declared.answers.CDeadline.{CDeadline}
 use Rattle.c_answers.specs.declared.answers.CDelivery.{CDelivery}
 use Rattle.c_answers.specs.declared.answers.CEvent.{CEvent}
 use Rattle.c_answers.specs.declared.answers.COutcome.{COutcome}
+use Rattle.c_answers.specs.declared.answers.CWants.{CWants}
 
 -- queued, pending, full, an error, not supported
 abbrev pub outcome_entry : COutcome → Answer
@@ -22,3 +23,7 @@ delivery_entry d = unless_refused d.refusal (entry_of (16 + d.class) d.skipped d
 -- none, a loss, a loss by an error, an error
 abbrev pub event_entry : CEvent → Answer
 event_entry e = unless_refused e.refusal (entry_of (19 + e.kind) e.first e.count 0)
+
+-- 1 or 0
+abbrev pub wants_entry : CWants → Answer
+wants_entry w = unless_refused w.refusal (entry_of 4 w.wants 0 0)

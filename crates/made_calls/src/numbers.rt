@@ -1,6 +1,6 @@
-// What a C function answers, as an entry of the table of answers: its numbers say which.
+// What a C function answers, as an entry of the table of answers: its numbers say which, in C and in the contracts.
 ghost use Rattle.std.specs.Prelude.{◌≡◌};
-ghost use Rattle.made_calls.specs.Numbers.{outcome_entry, deadline_entry, delivery_entry, event_entry};
+ghost use Rattle.made_calls.specs.Numbers.{outcome_entry, deadline_entry, delivery_entry, event_entry, wants_entry};
 
 use c_answers::answers::{CDeadline, CDelivery, CEvent, COutcome, CRequest, CWants, CWritten};
 use script::answers;
@@ -42,7 +42,9 @@ pub fn deadline(d: CDeadline) -> Answer
     )
 }
 
-pub fn wants(w: CWants) -> Answer {
+pub fn wants(w: CWants) -> Answer
+    ensures { result ≡ wants_entry w }
+{
     answers::figure(w.refusal, w.wants as u64)
 }
 

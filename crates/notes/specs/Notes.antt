@@ -1,5 +1,5 @@
 -- 02, 4/14: what one message does to the notes of a group. A note is its channel times 128 plus its key, so that notes by channel, then key, are notes in order.
-use Rattle.std.specs.Prelude.{ℕ, ◌+◌, ◌*◌, ◌/◌, ◌%◌, Bool, true, false, cond, ◌&&◌, ◌||◌, List, [], ◌∷◌, leb, ltb, eqb}
+use Rattle.std.specs.Prelude.{ℕ, ◌+◌, ◌*◌, ◌/◌, ◌%◌, Bool, false, cond, ◌&&◌, ◌||◌, List, [], ◌∷◌, leb, ltb, eqb}
 
 -- ---- a message's first word: type, group, status, channel (4 bits each), note and velocity (a byte each)
 

@@ -6,6 +6,6 @@
 //   message   `is_ours`, `is_on`, `is_off`, `note_of`
 //
 // There is no state, and nothing is refused.
-#![tactic(auto)]
+#![tactic(auto, unfolding(crate::specs::Notes::is_ours, crate::specs::Notes::is_on, crate::specs::Notes::is_off, crate::specs::Notes::note_of))]
 
 pub mod message;

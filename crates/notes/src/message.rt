@@ -6,39 +6,25 @@ ghost use Rattle.notes.specs.Notes.{is_ours, is_on, is_off, note_of};
 pub fn is_ours(group: u32, first: u32) -> bool
     ensures { result ≡ is_ours group first }
 {
-    if first / 0x1000_0000 != 2 {
-        return false;
-    }
-    if first / 0x100_0000 % 0x10 != group {
-        return false;
-    }
-    if first / 0x100 % 0x100 > 0x7F {
-        return false;
-    }
-    first % 0x100 <= 0x7F
+    first / 0x1000_0000 == 2
+        && first / 0x100_0000 % 0x10 == group
+        && first / 0x100 % 0x100 <= 0x7F
+        && first % 0x100 <= 0x7F
 }
 
 // Status 9 with velocity above 0.
 pub fn is_on(first: u32) -> bool
     ensures { result ≡ is_on first }
 {
-    if first / 0x10_0000 % 0x10 != 9 {
-        return false;
-    }
-    0 < first % 0x100
+    first / 0x10_0000 % 0x10 == 9 && 0 < first % 0x100
 }
 
 // Status 8, or 9 with velocity 0.
 pub fn is_off(first: u32) -> bool
     ensures { result ≡ is_off first }
 {
-    if first / 0x10_0000 % 0x10 == 8 {
-        return true;
-    }
-    if first / 0x10_0000 % 0x10 != 9 {
-        return false;
-    }
-    first % 0x100 == 0
+    let status = first / 0x10_0000 % 0x10;
+    status == 8 || status == 9 && first % 0x100 == 0
 }
 
 // Its channel times 128 plus its note byte.

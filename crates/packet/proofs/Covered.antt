@@ -1,13 +1,12 @@
 -- What the theorems are said of: every payload's bytes and every place in them, every write, and every command that a payload can hold.
 use mathlib.Core.Path.{◌≡◌}
-use mathlib.Core.List.{List, [], ◌∷◌}
+use mathlib.Core.List.{List, ◌∷◌}
 use Prim.Native.Nat.{ℕ, ◌≤◌}
 use lib.ListN.{length, drop}
 use Rattle.packet.specs.Layout.{Packet, packet, payload_of, Words32, AllEncodable}
 use Rattle.packet.specs.Read.{items_from, items_of, walked, placed}
 use Rattle.packet.specs.Write.{written_of}
 use Rattle.packet.specs.Theorems.{CursorWalks, Untouched, ReadsBack}
-use Rattle.packet.specs.declared.writer.PayloadWriter.{PayloadWriter}
 
 -- any bytes, signed or not, whole or cut, from any place on, past the end too
 pub every_place : CursorWalks → (b : List ℕ) (at : ℕ) → walked (length b) b at ≡ items_from (length b) at (drop at b)

@@ -1,20 +1,19 @@
 -- What a write leaves: its outcomes, a valid payload, untouched bytes, and a payload that has grown by one command.
-use mathlib.Core.Path.{◌≡◌, refl, sym, ap, ◌∙◌, subst}
-use mathlib.Core.Bool.{Bool, true, false, cond, not, ◌&&◌, ◌||◌}
-use mathlib.Core.Logic.{◌⊎◌, inl, inr}
+use mathlib.Core.Path.{◌≡◌, refl, sym, ap, ◌∙◌}
+use mathlib.Core.Bool.{true, false, ◌&&◌}
+use mathlib.Core.Logic.{inl, inr}
 use mathlib.Core.List.{List, [], ◌∷◌, ◌++◌, append_assoc, append-nil}
-use Prim.Native.Nat.{ℕ, ◌+◌, ◌-◌, ◌*◌, ◌%◌, ◌≤◌, ◌<◌, min}
+use Prim.Native.Nat.{ℕ, ◌+◌, ◌%◌, ◌≤◌, min}
 use native.Mathlib.Omega.{arith}
 use lib.Dec.{eqb, leb, ltb}
-use lib.ListN.{length, take, drop, length-append}
+use lib.ListN.{length, take, drop}
 use lib.Seq.{length-take-le}
 use borrow.Author.Tests.{leb-true, eqb-true}
 use Rattle.config.specs.Range.{within}
 use Rattle.config.specs.declared.refusal.Refusal.TheVariants.{InvalidValue, InvalidState}
 use Rattle.config.specs.inner.Tests.{split, tests, lifts, and_left, and_right}
-use Rattle.packet.specs.Bytes.{bytes_of, spliced}
 use Rattle.packet.specs.Layout.{Packet, signature, encoded, size_of, encoded_all, payload_of}
-use Rattle.packet.specs.Write.{limit_of, valid_of, start_of, no_fit, refused_of, done_of, placed_of, written_of, bytes_in, WriteEnds, refused, done}
+use Rattle.packet.specs.Write.{limit_of, valid_of, start_of, no_fit, placed_of, written_of, bytes_in, WriteEnds, refused, done}
 use Rattle.packet.specs.declared.writer.PayloadWriter.{PayloadWriter}
 use Rattle.packet.specs.declared.writer.Wrote.{Wrote}
 use Rattle.packet.proofs.Splice.{length_spliced, take_spliced, drop_spliced, take_before_spliced}

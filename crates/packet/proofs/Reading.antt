@@ -1,23 +1,23 @@
 -- What stands at a place of a payload, from the bytes there.
 use mathlib.Core.Path.{◌≡◌, refl, sym, ap, ◌∙◌}
-use mathlib.Core.Bool.{true, false, ◌&&◌}
-use mathlib.Core.Logic.{◌⊎◌, inl, inr}
-use mathlib.Core.List.{List, [], ◌∷◌, ◌++◌}
-use Prim.Native.Nat.{ℕ, zero, suc, ◌+◌, ◌-◌, ◌*◌, ◌/◌, ◌≤◌, ◌<◌}
+use Rattle.std.proofs.Common.{Some, None, Ok, Err}
+use mathlib.Core.Bool.{Bool, true, false, ◌&&◌}
+use mathlib.Core.Logic.{inl, inr}
+use mathlib.Core.List.{List, [], ◌∷◌}
+use Prim.Native.Nat.{ℕ, zero, suc, ◌+◌, ◌-◌, ◌*◌, ◌/◌, ◌≤◌, ◌<◌, min}
 use native.Mathlib.Numerals.{add-one, add-two, add-three, add-four}
 use native.Mathlib.Omega.{arith}
 use lib.Dec.{leb, ltb, eqb}
 use lib.ListN.{length, take, drop, get_or, length-drop, drop_of_length-le}
-use lib.Seq.{drop-cons, drop-length, take-nil, take_all}
-use borrow.Author.Tests.{le-leb, lt-leb, lt-ltb, le-ltb, eq-eqb, ne_eqb, ltb-true, ltb-false, leb-true}
+use lib.Seq.{drop-cons, take_all}
+use borrow.Author.Tests.{le-leb, lt-leb, lt-ltb, le-ltb, ltb-true, ltb-false, leb-true}
 use Rattle.config.specs.declared.refusal.Refusal.TheVariants.{BadSignature}
-use Rattle.config.specs.inner.Tests.{split}
+use Rattle.config.specs.inner.Tests.{split, tests, lifts}
+use Rattle.std.specs.List.{starts_with}
 use Rattle.packet.specs.Bytes.{word_of, words_of}
 use Rattle.packet.specs.Read.{header, signed, open_of, item_of, next_of, body_of, word_at}
 use Rattle.packet.specs.declared.cursor.Cursor.{Cursor}
 use Rattle.packet.specs.declared.cursor.Header.{Header}
-use Rattle.packet.specs.declared.cursor.Packets.TheVariants.{At, Refused}
-use Rattle.packet.specs.declared.cursor.Lookup.TheVariants.{Word, Absent}
 use Rattle.packet.specs.declared.cursor.PacketItem.TheVariants.{Command, Truncated, End}
 
 -- four bytes that are there stand at the front
@@ -36,29 +36,28 @@ signed_short (a ∷ b ∷ []) h = refl
 signed_short (a ∷ b ∷ c ∷ []) h = refl
 signed_short (a ∷ b ∷ c ∷ d ∷ rest) h = absurd (let z : ⊥ = omega arith in z)
 
-signed_four : (b : List ℕ) → 4 ≤ length b
-    → signed b ≡ (eqb (get_or b 0 0) 0x4D && (eqb (get_or b 1 0) 0x49 && (eqb (get_or b 2 0) 0x44 && eqb (get_or b 3 0) 0x49)))
+eqb_turned : (a b : ℕ) → eqb a b ≡ eqb b a
+eqb_turned a b = elim (split (eqb a b)) [
+  | inl e ↦ let f : eqb b a ≡ true = omega (arith, tests, lifts) in cc
+  | inr e ↦ let f : eqb b a ≡ false = omega (arith, tests, lifts) in cc
+]
+
+and_false : (t : Bool) → (t && false) ≡ false
+and_false true = refl
+and_false false = refl
+
+and_true : (t : Bool) → (t && true) ≡ t
+and_true true = refl
+and_true false = refl
+
+pub signed_starts : (b : List ℕ) → starts_with eqb b (0x4D ∷ 0x49 ∷ 0x44 ∷ 0x49 ∷ []) ≡ signed b
 unfolding signed
-signed_four [] h = absurd (let z : ⊥ = omega arith in z)
-signed_four (a ∷ []) h = absurd (let z : ⊥ = omega arith in z)
-signed_four (a ∷ b ∷ []) h = absurd (let z : ⊥ = omega arith in z)
-signed_four (a ∷ b ∷ c ∷ []) h = absurd (let z : ⊥ = omega arith in z)
-signed_four (a ∷ b ∷ c ∷ d ∷ rest) h = refl
-
-module _ (b : List ℕ) (h : 4 ≤ length b) where
-  pub signed_not_first : (get_or b 0 0 ≡ 0x4D → ⊥) → false ≡ signed b
-  signed_not_first n = rw (signed_four b h, ne_eqb _ _ n)
-
-  module _ (e₀ : get_or b 0 0 ≡ 0x4D) where
-    pub signed_not_second : (get_or b 1 0 ≡ 0x49 → ⊥) → false ≡ signed b
-    signed_not_second n = rw (signed_four b h, eq-eqb _ _ e₀, ne_eqb _ _ n)
-
-    module _ (e₁ : get_or b 1 0 ≡ 0x49) where
-      pub signed_not_third : (get_or b 2 0 ≡ 0x44 → ⊥) → false ≡ signed b
-      signed_not_third n = rw (signed_four b h, eq-eqb _ _ e₀, eq-eqb _ _ e₁, ne_eqb _ _ n)
-
-      pub signed_by_last : get_or b 2 0 ≡ 0x44 → eqb (get_or b 3 0) 0x49 ≡ signed b
-      signed_by_last e₂ = rw (signed_four b h, eq-eqb _ _ e₀, eq-eqb _ _ e₁, eq-eqb _ _ e₂)
+signed_starts [] = refl
+signed_starts (a ∷ []) = and_false (eqb 0x4D a)
+signed_starts (a ∷ b ∷ []) = rw (and_false (eqb 0x49 b), and_false (eqb 0x4D a))
+signed_starts (a ∷ b ∷ c ∷ []) = rw (and_false (eqb 0x44 c), and_false (eqb 0x49 b), and_false (eqb 0x4D a))
+signed_starts (a ∷ b ∷ c ∷ d ∷ rest) =
+    rw (eqb_turned a 0x4D, eqb_turned b 0x49, eqb_turned c 0x44, eqb_turned d 0x49, and_true (eqb 0x49 d))
 
 -- ---- the next item
 item_short : (at : ℕ) (xs : List ℕ) → length xs < 4 → End ≡ item_of at xs
@@ -73,33 +72,50 @@ module _ (b : List ℕ) (at : ℕ) where
   unfolding next_of
   next_end h = item_short at (drop at b) (simp length-drop (omega arith))
 
-  module _ (h : at + 4 ≤ length b) where
-    pub next_cut : length b < at + 4 + 4 * get_or b (at + 1) 0
-        → Truncated (header (get_or b at 0) (get_or b (at + 1) 0) (get_or b (at + 2) 0) (get_or b (at + 3) 0)) ≡ next_of b at
-    unfolding next_of
-    next_cut k = rw (drop_four b at h, lt-leb (4 * get_or b (at + 1) 0) (length (drop (at + 4) b)) (simp length-drop (omega arith)))
+pub length_past_four : (xs : List ℕ) → length (take (length xs - 4) (drop 4 xs)) ≡ length xs - 4
+length_past_four xs = ap length (take_all (length xs - 4) (drop 4 xs) (simp length-drop (omega arith))) ∙ length-drop 4 xs
 
-    pub next_whole : (n : ℕ) → n ≡ 4 * get_or b (at + 1) 0 → at + 4 + n ≤ length b
-        → Command (header (get_or b at 0) (get_or b (at + 1) 0) (get_or b (at + 2) 0) (get_or b (at + 3) 0)) at record { at = at + 4 + n } ≡ next_of b at
+-- ---- the next item, from the bytes r that are left
+module _ (b r : List ℕ) (at : ℕ) (e : r ≡ drop at b) where
+  pub next_short : length r < 4 → End ≡ next_of b at
+  unfolding next_of
+  next_short h = rw (← e) (item_short at r h)
+
+  module _ (h : 4 ≤ length r) (n : ℕ) (ne : n ≡ 4 * get_or r 1 0) where
+    pub next_more : length r < 4 + n → Truncated (header (get_or r 0 0) (get_or r 1 0) (get_or r 2 0) (get_or r 3 0)) ≡ next_of b at
     unfolding next_of
-    next_whole n e k = rw (e) (rw (drop_four b at h, le-leb (4 * get_or b (at + 1) 0) (length (drop (at + 4) b)) (simp length-drop (omega arith))))
+    next_more k = rw (← e, drop_four r 0 h, lt-leb (4 * get_or r 1 0) (length (drop 4 r)) (simp length-drop (omega arith)))
+
+    pub next_all : 4 + n ≤ length r
+        → Command (header (get_or r 0 0) (get_or r 1 0) (get_or r 2 0) (get_or r 3 0)) at record { at = at + 4 + n } ≡ next_of b at
+    unfolding next_of
+    next_all k = rw (ne, ← e, drop_four r 0 h, le-leb (4 * get_or r 1 0) (length (drop 4 r)) (simp length-drop (omega arith)))
 
 -- ---- the bytes of a command's words
+rest_of : (b : List ℕ) (at i : ℕ) → i ≡ min at (length b) → take (length b - i) (drop i b) ≡ drop at b
+rest_of b at i e = take_all (length b - i) (drop i b) (simp length-drop (omega arith)) ∙ (elim (split (leb at (length b))) [
+  | inl l ↦ let f : i ≡ at = omega (arith, tests) in rw f
+  | inr g ↦ rw (drop_of_length-le b {i = i} (omega (arith, tests)), drop_of_length-le b {i = at} (omega (arith, tests)))
+])
+
+take_most : (xs : List ℕ) (k n : ℕ) → n ≡ min k (length xs) → take n xs ≡ take k xs
+take_most xs k n e = elim (split (leb k (length xs))) [
+  | inl l ↦ let f : n ≡ k = omega (arith, tests) in rw f
+  | inr g ↦ take_all n xs (omega (arith, tests)) ∙ sym (take_all k xs (omega (arith, tests)))
+]
+
+pub body_most : (b : List ℕ) (at : ℕ) (h : Header) (i n : ℕ) → i ≡ min (at + 4) (length b)
+    → n ≡ min (4 * h.len) (length (take (length b - i) (drop i b)))
+    → take n (take (length b - i) (drop i b)) ≡ body_of b at h
+unfolding body_of
+body_most b at h i n e f =
+    let r = rest_of b (at + 4) i e in
+    take_most (take (length b - i) (drop i b)) (4 * h.len) n f ∙ rw r
+
 module _ (b : List ℕ) (at : ℕ) (h : Header) where
-  pub body_none : length b < at + 4 → take (length b - length b) (drop (length b) b) ≡ body_of b at h
+  pub body_part : at + 4 ≤ length b → (n : ℕ) → n ≡ 4 * h.len → take (at + 4 + n - (at + 4)) (drop (at + 4) b) ≡ body_of b at h
   unfolding body_of
-  body_none k = rw (drop-length b, drop_of_length-le b {i = at + 4} (omega arith), take-nil (length b - length b)) (sym (take-nil (4 * h.len)))
-
-  module _ (k : at + 4 ≤ length b) where
-    pub body_rest : length b < at + 4 + 4 * h.len → take (length b - (at + 4)) (drop (at + 4) b) ≡ body_of b at h
-    unfolding body_of
-    body_rest l =
-        take_all (length b - (at + 4)) (drop (at + 4) b) (simp length-drop (omega arith))
-        ∙ sym (take_all (4 * h.len) (drop (at + 4) b) (simp length-drop (omega arith)))
-
-    pub body_part : (n : ℕ) → n ≡ 4 * h.len → take (at + 4 + n - (at + 4)) (drop (at + 4) b) ≡ body_of b at h
-    unfolding body_of
-    body_part n e = let f : at + 4 + n - (at + 4) ≡ 4 * h.len = omega arith in rw f
+  body_part k n e = let f : at + 4 + n - (at + 4) ≡ 4 * h.len = omega arith in rw f
 
 -- ---- words of bytes
 pub length_words_of : (b : List ℕ) → length (words_of b) ≡ length b / 4
@@ -128,35 +144,35 @@ get_d_words_of (a ∷ b ∷ c ∷ d ∷ rest) (suc i) h =
 module _ (b : List ℕ) (i : ℕ) where
   pub word_here : i < length b / 4
       → (r : ℕ) → r ≡ word_of (get_or b (4 * i) 0) (get_or b (4 * i + 1) 0) (get_or b (4 * i + 2) 0) (get_or b (4 * i + 3) 0)
-      → Word r ≡ word_at b i
+      → Some r ≡ word_at b i
   unfolding word_at
-  word_here h r e = rw (lt-ltb i (length (words_of b)) (omega (arith, length_words_of b))) (ap Word (e ∙ get_d_words_of b i (omega arith)))
+  word_here h r e = rw (lt-ltb i (length (words_of b)) (omega (arith, length_words_of b))) (ap Some (e ∙ get_d_words_of b i (omega arith)))
 
-  pub word_absent : length b / 4 ≤ i → Absent ≡ word_at b i
+  pub word_absent : length b / 4 ≤ i → None ≡ word_at b i
   unfolding word_at
   word_absent h = rw (le-ltb i (length (words_of b)) (omega (arith, length_words_of b)))
 
   -- and from what was found
-  pub word_found : (w : ℕ) → word_at b i ≡ Word w → (i < length (words_of b)) × (w ≡ get_or (words_of b) i 0)
+  pub word_found : (w : ℕ) → word_at b i ≡ Some w → (i < length (words_of b)) × (w ≡ get_or (words_of b) i 0)
   unfolding word_at
   word_found w e = elim (split (ltb i (length (words_of b)))) [
-    | inl k ↦ (ltb-true _ _ k, let f : Word (get_or (words_of b) i 0) ≡ Word w = rw k at e in cc)
-    | inr k ↦ absurd (let f : Absent ≡ Word w = rw k at e in let z : ◌≡◌ {A = ℕ} 0 1 = cc in let y : ⊥ = omega arith in y)
+    | inl k ↦ (ltb-true _ _ k, let f : Some (get_or (words_of b) i 0) ≡ Some w = rw k at e in cc)
+    | inr k ↦ absurd (let f : None ≡ Some w = rw k at e in let z : ◌≡◌ {A = ℕ} 0 1 = cc in let y : ⊥ = omega arith in y)
   ]
 
-  pub word_missed : word_at b i ≡ Absent → length (words_of b) ≤ i
+  pub word_missed : word_at b i ≡ None → length (words_of b) ≤ i
   unfolding word_at
   word_missed e = elim (split (ltb i (length (words_of b)))) [
     | inr k ↦ ltb-false _ _ k
-    | inl k ↦ absurd (let f : Word (get_or (words_of b) i 0) ≡ Absent = rw k at e in let z : ◌≡◌ {A = ℕ} 0 1 = cc in let y : ⊥ = omega arith in y)
+    | inl k ↦ absurd (let f : Some (get_or (words_of b) i 0) ≡ None = rw k at e in let z : ◌≡◌ {A = ℕ} 0 1 = cc in let y : ⊥ = omega arith in y)
   ]
 
 -- ---- opening
-pub open_signed : (b : List ℕ) → signed b ≡ true → At record { at = 4 } ≡ open_of b
+pub open_signed : (b : List ℕ) → signed b ≡ true → Ok record { at = 4 } ≡ open_of b
 unfolding open_of
 open_signed b e = rw e
 
-pub open_unsigned : (b : List ℕ) → signed b ≡ false → Refused BadSignature ≡ open_of b
+pub open_unsigned : (b : List ℕ) → signed b ≡ false → Err BadSignature ≡ open_of b
 unfolding open_of
 open_unsigned b e = rw e
 

@@ -1,17 +1,17 @@
 -- Reading gives back what was written, and the cursor walks all of it.
 use mathlib.Core.Path.{◌≡◌, refl, sym, ap, ap₂, ◌∙◌}
-use mathlib.Core.Bool.{Bool, true, false, cond}
-use mathlib.Core.Logic.{◌⊎◌, inl, inr}
-use mathlib.Core.List.{List, [], ◌∷◌, ◌++◌, append_assoc, append-nil}
-use Prim.Native.Nat.{ℕ, zero, suc, ◌+◌, ◌-◌, ◌*◌, ◌/◌, ◌%◌, ◌≤◌, ◌<◌}
+use mathlib.Core.Bool.{true}
+use mathlib.Core.Logic.{inl, inr}
+use mathlib.Core.List.{List, [], ◌∷◌, ◌++◌, append_assoc}
+use Prim.Native.Nat.{ℕ, zero, suc, ◌+◌, ◌*◌, ◌/◌, ◌%◌, ◌≤◌, ◌<◌}
 use native.Mathlib.Omega.{arith}
-use lib.Dec.{eqb, leb, ltb}
-use lib.ListN.{length, take, drop, length-append, length-drop}
+use lib.Dec.{leb}
+use lib.ListN.{length, drop, length-append, length-drop}
 use lib.Seq.{take_at, drop_at, drop-drop}
-use Rattle.config.specs.inner.Tests.{split, tests, lifts}
-use Rattle.packet.specs.Bytes.{word_bytes, bytes_of, word_of, words_of}
-use Rattle.packet.specs.Layout.{Packet, packet, signature, encoded, size_of, encoded_all, payload_of, Words32, Encodable, AllEncodable}
-use Rattle.packet.specs.Read.{header, signed, item_of, next_of, body_of, Item, whole, cut, items_from, items_of, follow, walked, placed}
+use Rattle.config.specs.inner.Tests.{split, lifts}
+use Rattle.packet.specs.Bytes.{bytes_of, word_of, words_of}
+use Rattle.packet.specs.Layout.{Packet, signature, encoded, size_of, encoded_all, payload_of, Words32, AllEncodable}
+use Rattle.packet.specs.Read.{signed, item_of, next_of, body_of, Item, whole, items_from, items_of, follow, walked, placed}
 use Rattle.packet.proofs.Words.{length_bytes_of}
 
 -- ---- words

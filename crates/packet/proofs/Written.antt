@@ -1,22 +1,22 @@
 -- The state test of a payload, and the answers of `written_of`, each from the facts that lead to it.
-use mathlib.Core.Path.{◌≡◌, refl, sym, ap, ◌∙◌}
-use mathlib.Core.Bool.{true, false, not, ◌&&◌, ◌||◌}
+use mathlib.Core.Path.{◌≡◌, refl, ap, ◌∙◌}
+use Rattle.std.proofs.Common.{Ok}
+use mathlib.Core.Bool.{true, false}
 use mathlib.Core.List.{List, [], ◌∷◌, ◌++◌}
-use mathlib.Core.Logic.{◌⊎◌, inl, inr}
-use Prim.Native.Nat.{ℕ, ◌+◌, ◌*◌, ◌%◌, ◌≤◌, ◌<◌, min}
+use mathlib.Core.Logic.{inl, inr}
+use Prim.Native.Nat.{ℕ, ◌+◌, ◌*◌, ◌%◌, ◌≤◌, ◌<◌}
 use native.Mathlib.Omega.{arith}
-use lib.Dec.{eqb, leb, ltb}
+use lib.Dec.{eqb}
 use lib.ListN.{length, length-append}
 use borrow.Author.Tests.{le-ltb, lt-ltb, eq-eqb, ne_eqb, not-true, not-false}
 use Rattle.config.specs.Range.{within, outside}
 use Rattle.config.specs.declared.refusal.Refusal.TheVariants.{InvalidValue, InvalidState}
-use Rattle.config.specs.inner.Tests.{split, tests, lifts, and_left, and_right}
+use Rattle.config.specs.inner.Tests.{split}
 use Rattle.packet.specs.Bytes.{bytes_of, spliced}
 use Rattle.packet.specs.Layout.{Packet, packet, signature, encoded, size_of}
-use Rattle.packet.specs.Write.{limit_of, valid_of, start_of, begun_of, no_fit, refused_of, done_of, placed_of, written_of}
+use Rattle.packet.specs.Write.{limit_of, valid_of, start_of, begun_of, no_fit, refused_of, placed_of, written_of}
 use Rattle.packet.specs.declared.writer.PayloadWriter.{PayloadWriter}
 use Rattle.packet.specs.declared.writer.Wrote.{Wrote}
-use Rattle.config.specs.declared.answer.Outcome.TheVariants.{Done}
 use Rattle.packet.proofs.Splice.{length_spliced, spliced_append}
 use Rattle.packet.proofs.Words.{length_bytes_of, bytes_of_append}
 
@@ -40,21 +40,6 @@ module _ (p : PayloadWriter) (room : ℕ) where
       unfolding valid_of
       valid_length l = rw (not-false (within 8 1400 p.max) o, ne_eqb _ _ z, ← e, not-false (within 8 most p.len) l)
 
--- ---- where the next command goes
-module _ (p : PayloadWriter) where
-  pub start_empty : p.len ≡ 0 → 4 ≡ start_of p
-  start_empty z = rw (eq-eqb _ _ z)
-
-  pub start_after : (p.len ≡ 0 → ⊥) → p.len ≡ start_of p
-  start_after z = rw (ne_eqb _ _ z)
-
-module _ (p : PayloadWriter) (b : List ℕ) where
-  pub begun_empty : p.len ≡ 0 → (e : List ℕ) → e ≡ spliced b 0 signature → e ≡ begun_of p b
-  begun_empty z e h = rw (eq-eqb _ _ z) h
-
-  pub begun_after : (p.len ≡ 0 → ⊥) → b ≡ begun_of p b
-  begun_after z = rw (ne_eqb _ _ z)
-
 -- ---- the answers
 module _ (p : PayloadWriter) (b : List ℕ) (c : Packet) where
   pub written_invalid : valid_of p (length b) ≡ false → (refused_of p InvalidState, b) ≡ written_of p b c
@@ -72,7 +57,7 @@ module _ (p : PayloadWriter) (b : List ℕ) (c : Packet) where
       written_long l = rw (v, le-ltb _ _ f, lt-ltb _ _ l)
 
       pub written_done : (n : ℕ) (e : List ℕ) → length c.words ≤ 255 → n ≡ start_of p + size_of c → e ≡ placed_of p b c
-          → (record { payload = record { len = n; max = p.max }; answer = Done }, e) ≡ written_of p b c
+          → (record { payload = record { len = n; max = p.max }; answer = Ok tt }, e) ≡ written_of p b c
       unfolding written_of
       written_done n e l ne ee = rw (v, le-ltb _ _ f, le-ltb _ _ l, ne, ee)
 
@@ -109,17 +94,6 @@ begun_encoded p b c fits = elim (split (eqb p.len 0)) [
 ]
 
 module _ (p : PayloadWriter) (b : List ℕ) (code csd1 csd2 at : ℕ) where
-  pub placed_words : (xs b₁ b₂ b₃ : List ℕ) → at ≡ start_of p → b₁ ≡ begun_of p b
-      → b₂ ≡ spliced b₁ at (code ∷ length xs ∷ csd1 ∷ csd2 ∷ [])
-      → b₃ ≡ spliced b₂ (at + 4) (bytes_of xs)
-      → start_of p + (4 + 4 * length xs) ≤ length b
-      → b₃ ≡ placed_of p b (packet code csd1 csd2 xs)
-  placed_words xs b₁ b₂ b₃ e₀ e₁ e₂ e₃ fits =
-      let same = begun_length p b (omega arith) in
-      rw (e₃, e₂, e₁, e₀)
-      (header_words (begun_of p b) (start_of p) code (length xs) csd1 csd2 xs (omega arith)
-      ∙ begun_encoded p b (packet code csd1 csd2 xs) fits)
-
   pub placed_runs : (xs ys b₁ b₂ b₃ b₄ : List ℕ) → at ≡ start_of p → b₁ ≡ begun_of p b
       → b₂ ≡ spliced b₁ at (code ∷ (length xs + length ys) ∷ csd1 ∷ csd2 ∷ [])
       → b₃ ≡ spliced b₂ (at + 4) (bytes_of xs)

@@ -1,16 +1,13 @@
 -- 01, "Numbers of each operation", Read: what reading a payload's bytes finds.
-use Rattle.std.specs.Prelude.{ℕ, zero, suc, ◌+◌, ◌*◌, Bool, false, cond, ◌&&◌, List, [], ◌∷◌, length, get_or, take, drop, leb, ltb, eqb}
+use Rattle.std.specs.Prelude.{ℕ, zero, suc, ◌+◌, ◌*◌, Bool, false, cond, ◌&&◌, List, [], ◌∷◌, length, get_or, take, drop, leb, ltb, eqb, Option, Some, None, Result, Ok, Err}
+use Rattle.config.specs.declared.refusal.Refusal.{Refusal}
 use Rattle.config.specs.declared.refusal.Refusal.TheVariants.{BadSignature}
 use Rattle.packet.specs.Bytes.{words_of}
 use Rattle.packet.specs.Layout.{Packet, packet, size_of}
 use Rattle.packet.specs.declared.cursor.Header.{Header}
 use Rattle.packet.specs.declared.cursor.Cursor.{Cursor}
-use Rattle.packet.specs.declared.cursor.Packets.{Packets}
-use Rattle.packet.specs.declared.cursor.Packets.TheVariants.{At, Refused}
 use Rattle.packet.specs.declared.cursor.PacketItem.{PacketItem}
 use Rattle.packet.specs.declared.cursor.PacketItem.TheVariants.{Command, Truncated, End}
-use Rattle.packet.specs.declared.cursor.Lookup.{Lookup}
-use Rattle.packet.specs.declared.cursor.Lookup.TheVariants.{Word, Absent}
 
 abbrev pub header : ℕ → ℕ → ℕ → ℕ → Header
 header code n a b = record { code = code; len = n; csd1 = a; csd2 = b }
@@ -27,8 +24,8 @@ signed (a ∷ b ∷ c ∷ []) = false
 signed (a ∷ b ∷ c ∷ d ∷ rest) = eqb a 0x4D && (eqb b 0x49 && (eqb c 0x44 && eqb d 0x49))
 
 -- 1 when they aren't, shorter payloads included
-unfoldable pub open_of : List ℕ → Packets
-open_of b = cond (signed b) (At record { at = 4 }) (Refused BadSignature)
+unfoldable pub open_of : List ℕ → Result Cursor Refusal
+open_of b = cond (signed b) (Ok record { at = 4 }) (Err BadSignature)
 
 -- what the bytes from place `at` on begin with: a command that isn't longer than the rest, or a cut one; fewer than four bytes are the end
 abbrev pub item_of : ℕ → List ℕ → PacketItem
@@ -46,8 +43,8 @@ next_of b at = item_of at (drop at b)
 unfoldable pub body_of : List ℕ → ℕ → Header → List ℕ
 body_of b at h = take (4 * h.len) (drop (at + 4) b)
 
-unfoldable pub word_at : List ℕ → ℕ → Lookup
-word_at b i = cond (ltb i (length (words_of b))) (Word (get_or (words_of b) i 0)) Absent
+unfoldable pub word_at : List ℕ → ℕ → Option ℕ
+word_at b i = cond (ltb i (length (words_of b))) (Some (get_or (words_of b) i 0)) None
 
 -- a payload's item: a whole command with its place, or the header of a cut one
 pub data Item : Type 0 where

@@ -1,20 +1,16 @@
 -- 01, "Numbers of each operation": Open a payload, Write one command; "State test", its part on payloads.
-use Rattle.std.specs.Prelude.{ℕ, ◌+◌, ◌-◌, ◌*◌, ◌/◌, ◌%◌, ◌≤◌, min, Bool, true, cond, not, ◌&&◌, ◌||◌, List, ◌++◌, length, take, leb, ltb, eqb}
+use Rattle.std.specs.Prelude.{ℕ, ◌+◌, ◌-◌, ◌/◌, ◌%◌, ◌≤◌, min, Bool, cond, not, ◌&&◌, ◌||◌, List, ◌++◌, length, take, ltb, eqb, Result, Ok, Err}
 use Rattle.config.specs.Range.{within, outside}
 use Rattle.config.specs.declared.refusal.Refusal.{Refusal}
 use Rattle.config.specs.declared.refusal.Refusal.TheVariants.{Overflow, TooLarge, InvalidValue, InvalidState}
 use Rattle.packet.specs.Bytes.{spliced}
 use Rattle.packet.specs.Layout.{Packet, signature, encoded, size_of}
 use Rattle.packet.specs.declared.writer.PayloadWriter.{PayloadWriter}
-use Rattle.packet.specs.declared.writer.Opened.{Opened}
-use Rattle.packet.specs.declared.writer.Opened.TheVariants.{Payload, Refused as OpenRefused}
-use Rattle.config.specs.declared.answer.Outcome.{Outcome}
-use Rattle.config.specs.declared.answer.Outcome.TheVariants.{Done, Refused}
 use Rattle.packet.specs.declared.writer.Wrote.{Wrote}
 
 -- 4 when the limit isn't 8 to 1,400 bytes
-unfoldable pub opened_of : ℕ → Opened
-opened_of max = cond (outside 8 1400 max) (OpenRefused InvalidValue) (Payload record { len = 0; max = max })
+unfoldable pub opened_of : ℕ → Result PayloadWriter Refusal
+opened_of max = cond (outside 8 1400 max) (Err InvalidValue) (Ok record { len = 0; max = max })
 
 -- the smaller of payload limit and buffer length
 abbrev pub limit_of : PayloadWriter → ℕ → ℕ
@@ -43,10 +39,10 @@ abbrev pub no_fit : PayloadWriter → Refusal
 no_fit p = cond (eqb p.len 0) TooLarge Overflow
 
 abbrev pub refused_of : PayloadWriter → Refusal → Wrote
-refused_of p r = record { payload = p; answer = Refused r }
+refused_of p r = record { payload = p; answer = Err r }
 
 abbrev pub done_of : PayloadWriter → Packet → Wrote
-done_of p c = record { payload = record { len = start_of p + size_of c; max = p.max }; answer = Done }
+done_of p c = record { payload = record { len = start_of p + size_of c; max = p.max }; answer = Ok tt }
 
 -- the buffer with the command's bytes
 abbrev pub placed_of : PayloadWriter → List ℕ → Packet → List ℕ

@@ -1,5 +1,5 @@
 // Words as four bytes, the highest first.
-ghost use Rattle.std.specs.Prelude.{◌≡◌, [], ◌+◌, ◌*◌, ◌≤◌, ◌<◌, length, get_or};
+ghost use Rattle.std.specs.Prelude.{◌≡◌, [], ◌+◌, ◌*◌, ◌≤◌, length, get_or};
 ghost use Rattle.packet.specs.Bytes.{word_bytes, bytes_of, word_of, spliced};
 
 // Stores the word `w` from index `at`.
@@ -7,10 +7,7 @@ pub fn put_word(buf: &mut [u8], at: usize, w: u32)
     requires { at + 4 ≤ length buf.old }
     ensures { buf.new ≡ spliced buf.old at (word_bytes w []) }
 {
-    buf[at] = (w / 0x100_0000) as u8;
-    buf[at + 1] = (w / 0x1_0000 % 0x100) as u8;
-    buf[at + 2] = (w / 0x100 % 0x100) as u8;
-    buf[at + 3] = (w % 0x100) as u8;
+    buf[at..at + 4].copy_from_slice(&w.to_be_bytes());
 }
 
 // Stores all the words, one after the other, from index `at`.
@@ -18,12 +15,8 @@ pub fn put_words(buf: &mut [u8], at: usize, words: &[u32])
     requires { at + 4 * length words.now ≤ length buf.old }
     ensures { buf.new ≡ spliced buf.old at (bytes_of words.now) }
 {
-    let mut j = 0;
-    let mut o = at;
-    while j < words.len() {
-        put_word(buf, o, words[j]);
-        o += 4;
-        j += 1;
+    for (j, w) in words.iter().enumerate() {
+        put_word(buf, at + 4 * j, *w);
     }
 }
 
@@ -32,14 +25,5 @@ pub fn get_word(s: &[u8], at: usize) -> u32
     requires { at + 4 ≤ length s.now }
     ensures { result ≡ word_of (get_or s.now at 0) (get_or s.now (at + 1) 0) (get_or s.now (at + 2) 0) (get_or s.now (at + 3) 0) }
 {
-    wide(s[at]) * 0x100_0000
-        + wide(s[at + 1]) * 0x1_0000
-        + wide(s[at + 2]) * 0x100
-        + wide(s[at + 3])
-}
-
-fn wide(b: u8) -> u32
-    ensures { (result ≡ b) × (result < 256) }
-{
-    b as u32
+    u32::from_be_bytes([s[at], s[at + 1], s[at + 2], s[at + 3]])
 }

@@ -27,26 +27,20 @@ impl Header {
     pub fn csd(self) -> u16
         ensures { result ≡ csd_of self }
     {
-        (self.csd1 as u16) * 0x100 + (self.csd2 as u16)
+        u16::from_be_bytes([self.csd1, self.csd2])
     }
 
     // The bytes of its words.
     fn size(self) -> usize
         ensures { (result ≡ 4 * self.len) × (result ≤ 1020) }
     {
-        4 * (self.len as usize)
+        4 * usize::from(self.len)
     }
 }
 
 #[derive(Clone, Copy)]
 pub struct Cursor {
     pub at: usize,
-}
-
-#[derive(Clone, Copy)]
-pub enum Packets {
-    At(Cursor),
-    Refused(Refusal),
 }
 
 #[derive(Clone, Copy)]
@@ -66,29 +60,17 @@ pub enum PacketItem {
 fn is_signed(payload: &[u8]) -> bool
     ensures { result ≡ signed payload.now }
 {
-    if payload.len() < 4 {
-        return false;
-    }
-    if payload[0] != 0x4D {
-        return false;
-    }
-    if payload[1] != 0x49 {
-        return false;
-    }
-    if payload[2] != 0x44 {
-        return false;
-    }
-    payload[3] == 0x49
+    payload.starts_with(b"MIDI")
 }
 
 // The place of the first command; 1 when the first four bytes are not the signature.
-pub fn command_packets(payload: &[u8]) -> Packets
+pub fn command_packets(payload: &[u8]) -> Result<Cursor, Refusal>
     ensures { result ≡ open_of payload.now }
 {
     if is_signed(payload) {
-        return Packets::At(Cursor { at: 4 });
+        return Ok(Cursor { at: 4 });
     }
-    Packets::Refused(Refusal::BadSignature)
+    Err(Refusal::BadSignature)
 }
 
 impl Cursor {
@@ -97,21 +79,20 @@ impl Cursor {
         ensures { result ≡ next_of payload.now self.at }
     {
         let at = self.at;
-        let n = payload.len();
-        if n < at {
+        let Some(unread) = payload.get(at..) else {
             return PacketItem::End;
-        }
-        if n - at < 4 {
+        };
+        let [code, len, csd1, csd2, rest @ ..] = unread else {
             return PacketItem::End;
-        }
+        };
         let header = Header {
-            code: payload[at],
-            len: payload[at + 1],
-            csd1: payload[at + 2],
-            csd2: payload[at + 3],
+            code: *code,
+            len: *len,
+            csd1: *csd1,
+            csd2: *csd2,
         };
         let size = header.size();
-        if n - at - 4 < size {
+        if rest.len() < size {
             return PacketItem::Truncated(header);
         }
         PacketItem::Command {
@@ -126,34 +107,17 @@ impl Cursor {
 pub fn body(payload: &[u8], at: usize, header: Header) -> &[u8]
     ensures { result.now ≡ body_of payload.now at header }
 {
-    let n = payload.len();
-    if n < 4 {
-        return &payload[n..];
-    }
-    if n - 4 < at {
-        return &payload[n..];
-    }
-    let from = at + 4;
-    let size = header.size();
-    if n - from < size {
-        return &payload[from..];
-    }
-    let end = from + size;
-    &payload[from..end]
-}
-
-#[derive(Clone, Copy)]
-pub enum Lookup {
-    Word(u32),
-    Absent,
+    let from = at.saturating_add(4).min(payload.len());
+    let rest = &payload[from..];
+    &rest[..header.size().min(rest.len())]
 }
 
 // The word at `index` of a command's bytes.
-pub fn word(body: &[u8], index: usize) -> Lookup
+pub fn word(body: &[u8], index: usize) -> Option<u32>
     ensures { result ≡ word_at body.now index }
 {
     if index < body.len() / 4 {
-        return Lookup::Word(get_word(body, 4 * index));
+        return Some(get_word(body, 4 * index));
     }
-    Lookup::Absent
+    None
 }

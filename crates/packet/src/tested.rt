@@ -1,13 +1,13 @@
 // Writing into a payload that has passed the state test. What stands here asks for that test; the
 // entry points are in `writer`.
-ghost use Rattle.std.specs.Prelude.{◌≡◌, true, ◌++◌, [], ◌∷◌, ◌+◌, ◌*◌, ◌≤◌, min, length};
+ghost use Rattle.std.specs.Prelude.{◌≡◌, true, ◌++◌, [], ◌∷◌, ◌+◌, ◌*◌, ◌≤◌, length};
 ghost use Rattle.packet.specs.Bytes.{spliced};
 ghost use Rattle.packet.specs.Layout.{packet, size_of};
 ghost use Rattle.packet.specs.Write.{valid_of, limit_of, start_of, free_of, begun_of, placed_of, refused_of, written_of, no_fit};
 
 use super::bytes::{put_word, put_words};
+use super::cursor::Header;
 use super::writer::{MAX_PAYLOAD, MIN_PAYLOAD, PayloadWriter, Wrote};
-use config::answer::Outcome;
 use config::range::{least, outside};
 use config::refusal::Refusal;
 
@@ -17,17 +17,8 @@ const SIGNATURE: u32 = 0x4D49_4449;
 pub fn is_valid(p: PayloadWriter, room: usize) -> bool
     ensures { result ≡ valid_of p room }
 {
-    let len = p.len;
-    if outside(MIN_PAYLOAD, MAX_PAYLOAD, p.max) {
-        return false;
-    }
-    if len == 0 {
-        return true;
-    }
-    if outside(MIN_PAYLOAD, limit(p, room), len) {
-        return false;
-    }
-    len % 4 == 0
+    !outside(MIN_PAYLOAD, MAX_PAYLOAD, p.max)
+        && (p.len == 0 || (!outside(MIN_PAYLOAD, limit(p, room), p.len) && p.len % 4 == 0))
 }
 
 // The limit in a buffer of `room` bytes.
@@ -48,12 +39,7 @@ fn start(p: PayloadWriter) -> usize
 pub fn free_words(p: PayloadWriter, room: usize) -> usize
     ensures { result ≡ free_of p room }
 {
-    let end = limit(p, room);
-    let from = start(p);
-    if end < from {
-        return 0;
-    }
-    (end - from) / 4
+    limit(p, room).saturating_sub(start(p)) / 4
 }
 
 // Stores the signature where the payload is empty, and gives the next header's place.
@@ -61,22 +47,23 @@ fn begin(p: PayloadWriter, buf: &mut [u8]) -> usize
     requires { start_of p ≤ length buf.old }
     ensures { (result ≡ start_of p) × (buf.new ≡ begun_of p buf.old) }
 {
-    let so_far = p.len;
-    if so_far == 0 {
+    if p.len == 0 {
         put_word(buf, 0, SIGNATURE);
-        return 4;
     }
-    so_far
+    start(p)
 }
 
-fn put_header(buf: &mut [u8], at: usize, code: u8, len: u8, csd1: u8, csd2: u8)
+fn put_header(buf: &mut [u8], at: usize, header: Header)
     requires { at + 4 ≤ length buf.old }
-    ensures { buf.new ≡ spliced buf.old at (code ∷ len ∷ csd1 ∷ csd2 ∷ []) }
+    ensures { buf.new ≡ spliced buf.old at (header.code ∷ header.len ∷ header.csd1 ∷ header.csd2 ∷ []) }
 {
-    buf[at] = code;
-    buf[at + 1] = len;
-    buf[at + 2] = csd1;
-    buf[at + 3] = csd2;
+    let Header {
+        code,
+        len,
+        csd1,
+        csd2,
+    } = header;
+    buf[at..at + 4].copy_from_slice(&[code, len, csd1, csd2]);
 }
 
 // The answer to a command that does not fit.
@@ -86,25 +73,13 @@ fn refuse_fit(p: PayloadWriter) -> Wrote
     if p.len == 0 {
         return Wrote {
             payload: p,
-            answer: Outcome::Refused(Refusal::TooLarge),
+            answer: Err(Refusal::TooLarge),
         };
     }
     Wrote {
         payload: p,
-        answer: Outcome::Refused(Refusal::Overflow),
+        answer: Err(Refusal::Overflow),
     }
-}
-
-// Puts a command that fits behind what the payload holds, and gives the new length.
-fn put(p: PayloadWriter, buf: &mut [u8], code: u8, csd1: u8, csd2: u8, words: &[u32]) -> usize
-    requires { (start_of p + size_of (packet code csd1 csd2 words.now) ≤ limit_of p (length buf.old)) × (length words.now ≤ 255) }
-    ensures { (result ≡ start_of p + size_of (packet code csd1 csd2 words.now)) × (buf.new ≡ placed_of p buf.old (packet code csd1 csd2 words.now)) }
-{
-    let at = begin(p, buf);
-    let n = words.len();
-    put_header(buf, at, code, n as u8, csd1, csd2);
-    put_words(buf, at + 4, words);
-    at + 4 + 4 * n
 }
 
 // Puts a command that fits behind what the payload holds, its words those of `first` and then those of
@@ -123,7 +98,13 @@ fn put_runs(
 {
     let at = begin(p, buf);
     let n = first.len() + second.len();
-    put_header(buf, at, code, n as u8, csd1, csd2);
+    let header = Header {
+        code,
+        len: n as u8,
+        csd1,
+        csd2,
+    };
+    put_header(buf, at, header);
     put_words(buf, at + 4, first);
     put_words(buf, at + 4 + 4 * first.len(), second);
     at + 4 + 4 * n
@@ -142,24 +123,20 @@ pub fn command_runs(
     requires { valid_of p (length buf.old) ≡ true }
     ensures { (result, buf.new) ≡ written_of p buf.old (packet code csd1 csd2 (first.now ++ second.now)) }
 {
-    let free = free_words(p, buf.len());
-    if free <= first.len() {
-        return refuse_fit(p);
-    }
-    if free - first.len() <= second.len() {
-        return refuse_fit(p);
-    }
     let n = first.len() + second.len();
+    if free_words(p, buf.len()) <= n {
+        return refuse_fit(p);
+    }
     if 255 < n {
         return Wrote {
             payload: p,
-            answer: Outcome::Refused(Refusal::InvalidValue),
+            answer: Err(Refusal::InvalidValue),
         };
     }
     let len = put_runs(p, buf, code, csd1, csd2, first, second);
     Wrote {
         payload: PayloadWriter { len, max: p.max },
-        answer: Outcome::Done,
+        answer: Ok(()),
     }
 }
 
@@ -175,18 +152,5 @@ pub fn command(
     requires { valid_of p (length buf.old) ≡ true }
     ensures { (result, buf.new) ≡ written_of p buf.old (packet code csd1 csd2 words.now) }
 {
-    if free_words(p, buf.len()) <= words.len() {
-        return refuse_fit(p);
-    }
-    if 255 < words.len() {
-        return Wrote {
-            payload: p,
-            answer: Outcome::Refused(Refusal::InvalidValue),
-        };
-    }
-    let len = put(p, buf, code, csd1, csd2, words);
-    Wrote {
-        payload: PayloadWriter { len, max: p.max },
-        answer: Outcome::Done,
-    }
+    command_runs(p, buf, code, csd1, csd2, words, &[])
 }

@@ -9,7 +9,6 @@ ghost use Rattle.packet.specs.Write.{opened_of, written_of};
 ghost use Rattle.packet.specs.Layout.{packet};
 
 use super::tested;
-use config::answer::Outcome;
 use config::range::outside;
 use config::refusal::Refusal;
 
@@ -26,28 +25,22 @@ pub struct PayloadWriter {
     pub max: usize,
 }
 
-#[derive(Clone, Copy)]
-pub enum Opened {
-    Payload(PayloadWriter),
-    Refused(Refusal),
-}
-
 // The payload after a write, as it was where the write was refused.
 #[derive(Clone, Copy)]
 pub struct Wrote {
     pub payload: PayloadWriter,
-    pub answer: Outcome,
+    pub answer: Result<(), Refusal>,
 }
 
 impl PayloadWriter {
     // An empty payload; 4 when the limit is not 8 to 1,400 bytes.
-    pub fn new(max: usize) -> Opened
+    pub fn new(max: usize) -> Result<PayloadWriter, Refusal>
         ensures { result ≡ opened_of max }
     {
         if outside(MIN_PAYLOAD, MAX_PAYLOAD, max) {
-            return Opened::Refused(Refusal::InvalidValue);
+            return Err(Refusal::InvalidValue);
         }
-        Opened::Payload(PayloadWriter { len: 0, max })
+        Ok(PayloadWriter { len: 0, max })
     }
 
     // Writes one command after what the payload holds. 13 for a payload that no call has left; 3
@@ -61,7 +54,7 @@ impl PayloadWriter {
         }
         Wrote {
             payload: self,
-            answer: Outcome::Refused(Refusal::InvalidState),
+            answer: Err(Refusal::InvalidState),
         }
     }
 }

@@ -1,5 +1,6 @@
 -- What `next` answers, by what was found.
 use mathlib.Core.Path.{◌≡◌, refl, sym, ap, ◌∙◌}
+use Rattle.std.proofs.Common.{Result, Ok, Err}
 use mathlib.Core.Logic.{inl, inr}
 use mathlib.Core.Bool.{true, false, not, ◌||◌}
 use mathlib.Core.List.{List, [], ◌∷◌}
@@ -16,14 +17,13 @@ use Rattle.packet.specs.Bytes.{words_of, spliced}
 use Rattle.packet.specs.Read.{csd_of, signed, open_of, next_of, body_of}
 use Rattle.packet.specs.declared.cursor.Cursor.{Cursor}
 use Rattle.packet.specs.declared.cursor.Header.{Header}
-use Rattle.packet.specs.declared.cursor.Packets.TheVariants.{At, Refused}
 use Rattle.packet.specs.declared.cursor.PacketItem.TheVariants.{Command, Truncated, End}
 use Rattle.packet.proofs.Reading.{open_signed, open_unsigned, next_found, body_part}
 use Rattle.packet.proofs.Splice.{take_spliced}
 use Rattle.command.specs.Parse.{parsed_of, request_in, error_in}
 use Rattle.command.specs.declared.data.UmpData.{UmpData}
 use Rattle.command.specs.declared.parse.Command.{Command as ParsedCommand}
-use Rattle.command.specs.declared.parse.Command.TheVariants.{UmpData as Data, RetransmitRequest, RetransmitError, Raw, Refused as NotParsed}
+use Rattle.command.specs.declared.parse.Command.TheVariants.{UmpData as Data, RetransmitRequest, RetransmitError, Raw}
 use Rattle.command.proofs.Parsing.{parsed_data}
 use Rattle.read_command.specs.Words.{whole_count, lengths_of}
 use Rattle.read_command.specs.Next.{read_of, refused_read, first_of, command_read, whole_read, item_read, read_at}
@@ -33,13 +33,13 @@ abbrev Answer : Type 0
 Answer = Read × List ℕ × List ℕ
 
 -- ---- opening
-pub opened_signed : (b : List ℕ) (c : Cursor) → open_of b ≡ At c → signed b ≡ true
+pub opened_signed : (b : List ℕ) (c : Cursor) → open_of b ≡ Ok c → signed b ≡ true
 opened_signed b c e = elim (split (signed b)) [
   | inl k ↦ k
   | inr k ↦ absurd (let f = open_unsigned b k in let z : ◌≡◌ {A = ℕ} 0 1 = cc in let y : ⊥ = omega arith in y)
 ]
 
-pub refused_unsigned : (b : List ℕ) (why : Refusal) → open_of b ≡ Refused why → signed b ≡ false
+pub refused_unsigned : (b : List ℕ) (why : Refusal) → open_of b ≡ Err why → signed b ≡ false
 refused_unsigned b why e = elim (split (signed b)) [
   | inl k ↦ absurd (let f = open_signed b k in let z : ◌≡◌ {A = ℕ} 0 1 = cc in let y : ⊥ = omega arith in y)
   | inr k ↦ k
@@ -47,12 +47,12 @@ refused_unsigned b why e = elim (split (signed b)) [
 
 -- ---- a whole command
 -- no code but FF is data
-abbrev mark : ParsedCommand → ℕ
-mark (Data d) = 1
-mark (RetransmitRequest r) = 0
-mark (RetransmitError e) = 0
-mark (Raw h) = 0
-mark (NotParsed why) = 0
+abbrev mark : Result ParsedCommand Refusal → ℕ
+mark (Ok (Data d)) = 1
+mark (Ok (RetransmitRequest r)) = 0
+mark (Ok (RetransmitError e)) = 0
+mark (Ok (Raw h)) = 0
+mark (Err why) = 0
 
 request_mark : (h : Header) (ws : List ℕ) → mark (request_in h ws) ≡ 0
 request_mark h [] = refl
@@ -72,7 +72,7 @@ other_mark h ws n = rw (ne_eqb h.code 0xFF n) (elim (split (eqb h.code 0x80)) [
   ]
 ])
 
-pub other_data : {A : Type 0} (h : Header) (ws : List ℕ) (d : UmpData) → (h.code ≡ 0xFF → ⊥) → parsed_of h ws ≡ Data d → A
+pub other_data : {A : Type 0} (h : Header) (ws : List ℕ) (d : UmpData) → (h.code ≡ 0xFF → ⊥) → parsed_of h ws ≡ Ok (Data d) → A
 other_data h ws d n e =
     let z : ◌≡◌ {A = ℕ} 0 1 = sym (other_mark h ws n) ∙ ap mark e in
     absurd (let y : ⊥ = omega arith in y)

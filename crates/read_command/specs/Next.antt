@@ -1,5 +1,6 @@
 -- 01, "Numbers of each operation", Read, as numbers: what stands at a place of a payload, with the command's words and the lengths of its messages.
-use Rattle.std.specs.Prelude.{ℕ, cond, not, ◌||◌, List, length, eqb, ltb}
+use Rattle.std.specs.Prelude.{ℕ, cond, not, ◌||◌, List, length, eqb, ltb, Result, Ok, Err}
+use Rattle.config.specs.declared.refusal.Refusal.{Refusal}
 use Rattle.config.specs.Refusals.{number_of}
 use Rattle.config.specs.declared.refusal.Refusal.TheVariants.{BadSignature, InvalidState}
 use Rattle.packet.specs.Bytes.{words_of, spliced}
@@ -9,7 +10,7 @@ use Rattle.packet.specs.declared.cursor.PacketItem.{PacketItem}
 use Rattle.packet.specs.declared.cursor.PacketItem.TheVariants.{Command as WholeCommand, Truncated, End}
 use Rattle.command.specs.Parse.{parsed_of}
 use Rattle.command.specs.declared.parse.Command.{Command}
-use Rattle.command.specs.declared.parse.Command.TheVariants.{UmpData, RetransmitRequest, RetransmitError, Raw, Refused}
+use Rattle.command.specs.declared.parse.Command.TheVariants.{UmpData, RetransmitRequest, RetransmitError, Raw}
 use Rattle.read_command.specs.Words.{whole_count, lengths_of}
 use Rattle.read_command.specs.declared.next.Read.{Read}
 
@@ -25,12 +26,12 @@ abbrev pub first_of : ℕ → ℕ
 first_of at = cond (eqb at 0) 4 at
 
 -- what a command of `len` words is, and of data how many words its whole messages have; 10 when a Request or Error has no word, and reading goes on
-abbrev pub command_read : ℕ → ℕ → ℕ → Command → Read
-command_read len next whole (UmpData d) = read_of next 3 0 len d.seq whole
-command_read len next whole (RetransmitRequest r) = read_of next 4 0 len r.seq r.count
-command_read len next whole (RetransmitError e) = read_of next 5 e.reason len e.seq 0
-command_read len next whole (Raw h) = read_of next 2 h.code len (csd_of h) 0
-command_read len next whole (Refused why) = record { next = next; refusal = number_of why; kind = 0; code = 0; len = len; seq = 0; count = 0 }
+abbrev pub command_read : ℕ → ℕ → ℕ → Result Command Refusal → Read
+command_read len next whole (Ok (UmpData d)) = read_of next 3 0 len d.seq whole
+command_read len next whole (Ok (RetransmitRequest r)) = read_of next 4 0 len r.seq r.count
+command_read len next whole (Ok (RetransmitError e)) = read_of next 5 e.reason len e.seq 0
+command_read len next whole (Ok (Raw h)) = read_of next 2 h.code len (csd_of h) 0
+command_read len next whole (Err why) = record { next = next; refusal = number_of why; kind = 0; code = 0; len = len; seq = 0; count = 0 }
 
 -- a whole command with its words: these come to the front of `words`, and of UMP Data, FF, the lengths of its whole messages to the front of `lens`
 unfoldable pub whole_read : Header → ℕ → List ℕ → List ℕ → List ℕ → Read × List ℕ × List ℕ

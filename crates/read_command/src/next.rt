@@ -10,13 +10,14 @@ use super::words;
 use command::parse;
 use command::parse::Command;
 use packet::cursor;
-use packet::cursor::{Cursor, Header, PacketItem, Packets};
+use packet::cursor::{Cursor, Header, PacketItem};
 
 // The words of the longest command.
 const MOST: usize = 255;
 
 // What stands at a place: 0 the end, 1 a command that is cut, 2 one of any other code, 3 data, 4 a
-// request, 5 an error. Where `refusal` is 10 there is a next place too: reading goes on.
+// request, 5 an error. Where `refusal` is 10 there is a next place too: reading goes on. Kinds and
+// refusals are numbers, since C reads them.
 #[repr(C)]
 #[derive(Clone, Copy)]
 pub struct Read {
@@ -54,8 +55,8 @@ pub fn opens(payload: &[u8], at: usize) -> bool
 {
     if at == 0 {
         match cursor::command_packets(payload) {
-            Packets::At(_) => return true,
-            Packets::Refused(_) => return false,
+            Ok(_) => return true,
+            Err(_) => return false,
         }
     }
     true
@@ -75,7 +76,7 @@ fn other(header: Header, next: u64, body: &[u8]) -> Read
 {
     let len = header.len;
     match parse::parse(header, body) {
-        Command::UmpData(d) => Read {
+        Ok(Command::UmpData(d)) => Read {
             next,
             refusal: 0,
             kind: 3,
@@ -84,7 +85,7 @@ fn other(header: Header, next: u64, body: &[u8]) -> Read
             seq: d.seq,
             count: 0,
         },
-        Command::RetransmitRequest(r) => Read {
+        Ok(Command::RetransmitRequest(r)) => Read {
             next,
             refusal: 0,
             kind: 4,
@@ -93,7 +94,7 @@ fn other(header: Header, next: u64, body: &[u8]) -> Read
             seq: r.seq,
             count: r.count,
         },
-        Command::RetransmitError(e) => Read {
+        Ok(Command::RetransmitError(e)) => Read {
             next,
             refusal: 0,
             kind: 5,
@@ -102,7 +103,7 @@ fn other(header: Header, next: u64, body: &[u8]) -> Read
             seq: e.seq,
             count: 0,
         },
-        Command::Raw(h) => Read {
+        Ok(Command::Raw(h)) => Read {
             next,
             refusal: 0,
             kind: 2,
@@ -111,7 +112,7 @@ fn other(header: Header, next: u64, body: &[u8]) -> Read
             seq: h.csd(),
             count: 0,
         },
-        Command::Refused(why) => Read {
+        Err(why) => Read {
             next,
             refusal: why.number(),
             kind: 0,
@@ -182,14 +183,11 @@ fn item(payload: &[u8], at: usize, words: &mut [u32], lens: &mut [u8]) -> Read
 pub fn next(payload: &[u8], at: usize, words: &mut [u32], lens: &mut [u8]) -> Read
     ensures { (result, words.new, lens.new) ≡ read_at payload.now at words.old lens.old }
 {
-    if words.len() < MOST {
+    if words.len() < MOST || lens.len() < MOST {
         return refused(13);
     }
-    if lens.len() < MOST {
-        return refused(13);
+    if !opens(payload, at) {
+        return refused(1);
     }
-    if opens(payload, at) {
-        return item(payload, first(at), words, lens);
-    }
-    refused(1)
+    item(payload, first(at), words, lens)
 }

@@ -11,10 +11,8 @@ pub fn put(body: &[u8], out: &mut [u32]) -> usize
     ensures { (result ≡ length (words_of body.now)) × (out.new ≡ spliced out.old 0 (words_of body.now)) }
 {
     let n = body.len() / 4;
-    let mut j = 0;
-    while j < n {
+    for j in 0..n {
         out[j] = word_at(body, j);
-        j += 1;
     }
     n
 }
@@ -28,6 +26,7 @@ pub fn lengths(words: &[u32], out: &mut [u8]) -> usize
     let mut k = 0;
     // The length of the message before, as in `command::message::whole_words`.
     let mut same = 1;
+    // A `while`, as there.
     while i < words.len() {
         let n = message_at(words, i);
         if n != same {

@@ -13,11 +13,7 @@ use window::window::Class;
 pub fn delivers(class: Class) -> bool
     ensures { result ≡ hands_on class }
 {
-    match class {
-        Class::New(_) => true,
-        Class::Late => true,
-        Class::Duplicate => false,
-    }
+    matches!(class, Class::New(_) | Class::Late)
 }
 
 // The part of a data command's bytes that is handed on: its whole messages, or nothing for a
@@ -25,19 +21,17 @@ pub fn delivers(class: Class) -> bool
 pub fn handed_on(class: Class, body: &[u8]) -> &[u8]
     ensures { result.now ≡ handed_bytes class body.now }
 {
-    if delivers(class) {
-        let end = 4 * whole_words_in(body);
-        return &body[..end];
-    }
-    &body[..0]
+    let end = if delivers(class) {
+        4 * whole_words_in(body)
+    } else {
+        0
+    };
+    &body[..end]
 }
 
 // The cut mark of what is handed on: the bytes end inside a message.
 pub fn is_cut(class: Class, body: &[u8]) -> bool
     ensures { result ≡ handed_cut class body.now }
 {
-    if delivers(class) {
-        return whole_words_in(body) < body.len() / 4;
-    }
-    false
+    delivers(class) && whole_words_in(body) < body.len() / 4
 }

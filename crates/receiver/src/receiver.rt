@@ -1,16 +1,19 @@
 // The receiver and its calls. Each takes the receiver by value and hands it back with its answer.
-ghost use Rattle.std.specs.Prelude.{◌≡◌};
-ghost use Rattle.receiver.specs.Answers.{new_answer, reset_answer, data_answer, poll_answer, error_answer, nak_answer, take_answer, deadline_answer, due_answer};
+ghost use Rattle.std.specs.Prelude.{◌≡◌, ◌&&◌, Ok, Err};
+ghost use Rattle.config.specs.Entry.{on_state, entry};
+ghost use Rattle.config.specs.Settings.{check_of};
+ghost use Rattle.packet.specs.Write.{valid_of as payload_valid};
+ghost use Rattle.receiver.specs.Receiver.{valid_of};
+ghost use Rattle.receiver.specs.Answers.{refused_of, new_answer, reset_answer, data_answer, poll_answer, error_answer, nak_answer, take_answer, deadline_answer, due_answer};
 
 use super::tested;
 use command::data::UmpData;
 use command::retransmit::{RetransmitError, RetransmitRequest};
-use config::answer::{Answered, Deadline, Outcome};
 use config::refusal::Refusal;
 use config::sequence::SeqNum;
 use config::settings::StreamConfig;
 use packet::writer::PayloadWriter;
-use window::window::{Class, ReceiveWindow, SeqRange, Span, Started};
+use window::window::{Class, ReceiveWindow, SeqRange};
 
 #[derive(Clone, Copy)]
 pub struct RequestTimer {
@@ -21,27 +24,15 @@ pub struct RequestTimer {
 }
 
 #[derive(Clone, Copy)]
-pub enum Timer {
-    Stopped,
-    Running(RequestTimer),
-}
-
-#[derive(Clone, Copy)]
-pub enum Asked {
-    Nothing,
-    Request(RetransmitRequest),
-}
-
-#[derive(Clone, Copy)]
 pub struct Receiver {
     pub window: ReceiveWindow,
-    pub timer: Timer,
+    pub timer: Option<RequestTimer>,
     // A request waits to be taken.
     pub request_due: bool,
     // The peer has answered that it serves no requests.
     pub refused: bool,
     // The last request that was taken and has no answer yet.
-    pub asked: Asked,
+    pub asked: Option<RetransmitRequest>,
 }
 
 // What a data command was.
@@ -50,39 +41,19 @@ pub struct Delivery {
     pub seq: SeqNum,
     pub class: Class,
     // The numbers that were skipped before it.
-    pub gap: Span,
+    pub gap: Option<SeqRange>,
     // From the oldest to the newest number that left the window unprocessed.
-    pub lost: Span,
-}
-
-#[derive(Clone, Copy)]
-pub enum Hearing {
-    Delivery(Delivery),
-    Refused(Refusal),
-}
-
-#[derive(Clone, Copy)]
-pub struct Heard {
-    pub receiver: Receiver,
-    pub answer: Hearing,
+    pub lost: Option<SeqRange>,
 }
 
 #[derive(Clone, Copy)]
 pub enum StreamEvent {
-    Nothing,
     // The numbers of the range that were not processed before are lost.
     DataLoss(SeqRange),
     // These numbers are lost, as a Retransmit Error told.
     ErrorLoss(SeqRange, RetransmitError),
     // A Retransmit Error by which nothing was lost.
     RetransmitError(RetransmitError),
-    Refused(Refusal),
-}
-
-#[derive(Clone, Copy)]
-pub struct Told {
-    pub receiver: Receiver,
-    pub event: StreamEvent,
 }
 
 #[derive(Clone, Copy)]
@@ -92,130 +63,140 @@ pub enum Request {
     Written,
     // It does not fit in what is left of the payload.
     More,
-    Refused(Refusal),
 }
 
 #[derive(Clone, Copy)]
 pub struct RequestWritten {
     pub receiver: Receiver,
     pub payload: PayloadWriter,
-    pub answer: Request,
+    pub answer: Result<Request, Refusal>,
 }
 
+// The receiver after a call, as it was where the call was refused, and what the call answers.
 #[derive(Clone, Copy)]
-pub enum Start {
-    Receiver(Receiver),
-    Refused(Refusal),
-}
-
-#[derive(Clone, Copy)]
-pub struct WasReset {
+pub struct ReceiverAnswer<T> {
     pub receiver: Receiver,
-    pub answer: Outcome,
+    pub answer: Result<T, Refusal>,
+}
+
+impl<T> ReceiverAnswer<T> {
+    // A refused call leaves the receiver as it was.
+    fn refused(receiver: Receiver, why: Refusal) -> ReceiverAnswer<T>
+        ensures { result ≡ refused_of receiver why }
+    {
+        ReceiverAnswer {
+            receiver,
+            answer: Err(why),
+        }
+    }
 }
 
 impl Receiver {
     // A fresh receiver; 12 when the window's size is not 1 to 128.
-    pub fn new(size: u32) -> Start
+    #[tactic(auto, unfolding(crate::specs::Answers::new_answer, window::specs::Answers::start_answer))]
+    pub fn new(size: u32) -> Result<Receiver, Refusal>
         ensures { result ≡ new_answer size }
     {
-        match ReceiveWindow::new(size) {
-            Started::Window(window) => Start::Receiver(Receiver {
-                window,
-                timer: Timer::Stopped,
-                request_due: false,
-                refused: false,
-                asked: Asked::Nothing,
-            }),
-            Started::Refused(why) => Start::Refused(why),
+        let window = ReceiveWindow::new(size)?;
+        Ok(tested::rest(false, window))
+    }
+
+    // 13 for a state that no call has left.
+    fn check(self) -> Result<(), Refusal>
+        ensures { result ≡ on_state (valid_of self) Err (Ok tt) }
+    {
+        if tested::is_valid(self) {
+            Ok(())
+        } else {
+            Err(Refusal::InvalidState)
+        }
+    }
+
+    // The settings' own number first, then the state.
+    fn ready(self, cfg: StreamConfig) -> Result<(), Refusal>
+        ensures { result ≡ entry (check_of cfg) (valid_of self) Err (Ok tt) }
+    {
+        cfg.check()?;
+        self.check()
+    }
+
+    // As `ready`, and the payload's state.
+    fn ready_to_write(self, cfg: StreamConfig, p: PayloadWriter, lent: usize) -> Result<(), Refusal>
+        ensures { result ≡ entry (check_of cfg) (valid_of self && payload_valid p lent) Err (Ok tt) }
+    {
+        self.ready(cfg)?;
+        if packet::tested::is_valid(p, lent) {
+            Ok(())
+        } else {
+            Err(Refusal::InvalidState)
         }
     }
 
     // Back to the fresh receiver of the same size.
-    pub fn reset(self) -> WasReset
+    #[tactic(auto, unfolding(crate::specs::Answers::reset_answer))]
+    pub fn reset(self) -> ReceiverAnswer<()>
         ensures { result ≡ reset_answer self }
     {
-        if tested::is_valid(self) {
-            return WasReset {
+        match self.check() {
+            Ok(()) => ReceiverAnswer {
                 receiver: tested::reset(self),
-                answer: Outcome::Done,
-            };
-        }
-        WasReset {
-            receiver: self,
-            answer: Outcome::Refused(Refusal::InvalidState),
+                answer: Ok(()),
+            },
+            Err(why) => ReceiverAnswer::refused(self, why),
         }
     }
 
     // A data command arrives.
-    pub fn on_ump_data(self, cfg: StreamConfig, time: u64, data: UmpData) -> Heard
+    #[tactic(auto, unfolding(crate::specs::Answers::data_answer))]
+    pub fn on_ump_data(
+        self,
+        cfg: StreamConfig,
+        time: u64,
+        data: UmpData,
+    ) -> ReceiverAnswer<Delivery>
         ensures { result ≡ data_answer self cfg time «data».seq }
     {
-        match cfg.check() {
-            Outcome::Refused(why) => Heard {
-                receiver: self,
-                answer: Hearing::Refused(why),
-            },
-            Outcome::Done => {
-                if tested::is_valid(self) {
-                    return tested::on_ump_data(self, cfg, time, data.seq);
-                }
-                Heard {
-                    receiver: self,
-                    answer: Hearing::Refused(Refusal::InvalidState),
-                }
-            }
+        match self.ready(cfg) {
+            Ok(()) => tested::on_ump_data(self, cfg, time, data.seq),
+            Err(why) => ReceiverAnswer::refused(self, why),
         }
     }
 
     // Runs the timer: makes a request due, or gives up and reports what is missing.
-    pub fn poll(self, cfg: StreamConfig, time: u64) -> Told
+    #[tactic(auto, unfolding(crate::specs::Answers::poll_answer))]
+    pub fn poll(self, cfg: StreamConfig, time: u64) -> ReceiverAnswer<Option<StreamEvent>>
         ensures { result ≡ poll_answer self cfg time }
     {
-        match cfg.check() {
-            Outcome::Refused(why) => Told {
-                receiver: self,
-                event: StreamEvent::Refused(why),
-            },
-            Outcome::Done => {
-                if tested::is_valid(self) {
-                    return tested::poll(self, cfg, time);
-                }
-                Told {
-                    receiver: self,
-                    event: StreamEvent::Refused(Refusal::InvalidState),
-                }
-            }
+        match self.ready(cfg) {
+            Ok(()) => tested::poll(self, cfg, time),
+            Err(why) => ReceiverAnswer::refused(self, why),
         }
     }
 
     // A Retransmit Error arrives: what the unanswered request asked for and is missing is lost.
-    pub fn on_retransmit_error(self, err: RetransmitError) -> Told
+    #[tactic(auto, unfolding(crate::specs::Answers::error_answer))]
+    pub fn on_retransmit_error(self, err: RetransmitError) -> ReceiverAnswer<Option<StreamEvent>>
         ensures { result ≡ error_answer self err }
     {
-        if tested::is_valid(self) {
-            return tested::on_retransmit_error(self, err);
-        }
-        Told {
-            receiver: self,
-            event: StreamEvent::Refused(Refusal::InvalidState),
+        match self.check() {
+            Ok(()) => tested::on_retransmit_error(self, err),
+            Err(why) => ReceiverAnswer::refused(self, why),
         }
     }
 
     // A NAK arrives: no requests until a reset; with one unanswered, all that is missing is lost.
-    pub fn on_retransmit_nak(self) -> Told
+    #[tactic(auto, unfolding(crate::specs::Answers::nak_answer))]
+    pub fn on_retransmit_nak(self) -> ReceiverAnswer<Option<StreamEvent>>
         ensures { result ≡ nak_answer self }
     {
-        if tested::is_valid(self) {
-            return tested::on_retransmit_nak(self);
-        }
-        Told {
-            receiver: self,
-            event: StreamEvent::Refused(Refusal::InvalidState),
+        match self.check() {
+            Ok(()) => tested::on_retransmit_nak(self),
+            Err(why) => ReceiverAnswer::refused(self, why),
         }
     }
 
     // Takes a due request into a payload; 3 when it does not fit and the payload is empty.
+    #[tactic(auto, unfolding(crate::specs::Answers::take_answer))]
     pub fn write_request(
         self,
         cfg: StreamConfig,
@@ -224,44 +205,31 @@ impl Receiver {
     ) -> RequestWritten
         ensures { (result, buf.new) ≡ take_answer self cfg p buf.old }
     {
-        match cfg.check() {
-            Outcome::Refused(why) => RequestWritten {
+        match self.ready_to_write(cfg, p, buf.len()) {
+            Ok(()) => tested::write_request(self, cfg, p, buf),
+            Err(why) => RequestWritten {
                 receiver: self,
                 payload: p,
-                answer: Request::Refused(why),
+                answer: Err(why),
             },
-            Outcome::Done => {
-                if tested::is_valid(self) {
-                    if packet::tested::is_valid(p, buf.len()) {
-                        return tested::write_request(self, cfg, p, buf);
-                    }
-                }
-                RequestWritten {
-                    receiver: self,
-                    payload: p,
-                    answer: Request::Refused(Refusal::InvalidState),
-                }
-            }
         }
     }
 
     // When the timer's next step is due.
-    pub fn next_deadline(self) -> Deadline
+    #[tactic(auto, unfolding(crate::specs::Answers::deadline_answer))]
+    pub fn next_deadline(self) -> Result<Option<u64>, Refusal>
         ensures { result ≡ deadline_answer self }
     {
-        if tested::is_valid(self) {
-            return tested::next_deadline(self);
-        }
-        Deadline::Refused(Refusal::InvalidState)
+        self.check()?;
+        tested::next_deadline(self)
     }
 
     // Whether a request waits to be taken.
-    pub fn request_due(self) -> Answered
+    #[tactic(auto, unfolding(crate::specs::Answers::due_answer))]
+    pub fn request_due(self) -> Result<bool, Refusal>
         ensures { result ≡ due_answer self }
     {
-        if tested::is_valid(self) {
-            return Answered::Is(self.request_due);
-        }
-        Answered::Refused(Refusal::InvalidState)
+        self.check()?;
+        Ok(self.request_due)
     }
 }

@@ -1,5 +1,7 @@
 -- A number arrives: the window after it is what the log says.
 use Prim.Native.Nat.{ℕ, ◌+◌, ◌-◌, ◌%◌, ◌≤◌, ◌<◌, max}
+use Rattle.std.proofs.Common.{Option, None}
+use Rattle.window.specs.declared.window.SeqRange.{SeqRange}
 use mathlib.Core.Path.{◌≡◌, refl, ap, sym, ◌∙◌}
 use mathlib.Core.Logic.{inl, inr}
 use mathlib.Core.Bool.{Bool, true, false, cond, not, ◌||◌, ◌&&◌, or-true, or-false}
@@ -12,8 +14,6 @@ use Rattle.window.specs.Window.{processed}
 use Rattle.window.specs.Arrival.{reach, new_of, late_at}
 use Rattle.window.specs.declared.window.ReceiveWindow.{ReceiveWindow}
 use Rattle.window.specs.declared.window.Class.TheVariants.{New, Late, Duplicate}
-use Rattle.window.specs.declared.window.Span.{Span}
-use Rattle.window.specs.declared.window.Span.TheVariants.{Nothing}
 use Rattle.window.proofs.Positions.{processed_beyond, unprocessed_in}
 use Rattle.window.proofs.AfterNew.{shifted, processed_new}
 use Rattle.window.proofs.AfterMark.{processed_late}
@@ -39,7 +39,7 @@ module _ (w : ReceiveWindow) (t : List Report) (seq : ℕ) (ws : List ℕ) (i : 
   hi = high_behind (high t) seq e
 
   pub held_late : seq < turn → processed w (ahead seq (high t % turn)) ≡ false
-      → Held (late_at w (ahead seq (high t % turn) - 1)).window (heard seq ws Late Nothing ∷ t)
+      → Held (late_at w (ahead seq (high t % turn) - 1)).window (heard seq ws Late None ∷ t)
   held_late l f =
       let back : ℕ = ahead seq (high t % turn) in
       let pl : place (high t) seq ≡ high t - ahead seq (high t % turn) = place_behind (high t) seq e in
@@ -72,7 +72,7 @@ module _ (w : ReceiveWindow) (t : List Report) (seq : ℕ) (ws : List ℕ) (i : 
             rw (pl, v) (i.before x m);
       }
 
-  pub held_duplicate : Held w (heard seq ws Duplicate Nothing ∷ t)
+  pub held_duplicate : Held w (heard seq ws Duplicate None ∷ t)
   held_duplicate = record {
     valid = i.valid;
     highest = rw hi i.highest;
@@ -143,7 +143,7 @@ module _ (w : ReceiveWindow) (t : List Report) (d : ℕ) (i : Held w t) (some : 
   lost_between a x b p q r ea eb ex = let j = lost_near b (omega arith) eb in open_shifted x (omega arith) (omega (arith, j.0)) ∙ ap not ex
 
   module _ (seq gap : ℕ) (ws : List ℕ) (hi : max (high t) (place (high t) seq) ≡ high t + d) (pl : place (high t) seq ≡ high t + d) (nm : (high t + d) % turn ≡ seq) where
-    abbrev left : Span
+    abbrev left : (Option SeqRange)
     left = span_from (high t + d) (ends_of (λ b. unprocessed t (high t + d - b)) (w.size + 1) (high t + d - origin - w.size))
 
     left_marks : (b : ℕ) → b ≤ high t + d

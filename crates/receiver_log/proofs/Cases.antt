@@ -1,5 +1,7 @@
 -- 01, "Session cases" and "Position, window, loss", computed over logs: what lists of calls answer, and what the timer is after them.
 use mathlib.Core.Path.{◌≡◌, refl}
+use Rattle.std.proofs.Common.{Option, Some, None, Ok}
+use Rattle.window.specs.declared.window.SeqRange.{SeqRange}
 use mathlib.Core.Bool.{true, false}
 use mathlib.Core.List.{List, [], ◌∷◌}
 use Prim.Native.Nat.{ℕ}
@@ -11,13 +13,9 @@ use Rattle.window.specs.Window.{valid_of as window_valid, processed, missing_of,
 use Rattle.window.specs.Set.{val, set_of, top_in, top_of, bottom_of}
 use Rattle.window.specs.Arrival.{class_of, moved_of, lost_of, new_of, accept_of}
 use Rattle.window.specs.declared.window.Class.TheVariants.{New, Late, Duplicate}
-use Rattle.window.specs.declared.window.Span.{Span}
-use Rattle.window.specs.declared.window.Span.TheVariants.{Nothing, Of}
 use Rattle.receiver.specs.Receiver.{valid_of as receiver_valid, due_after, settled_of, heard_of, gave_up, polled_of}
 use Rattle.receiver.specs.Answers.{data_answer, poll_answer}
-use Rattle.receiver.specs.declared.receiver.StreamEvent.TheVariants.{Nothing as NoEvent, DataLoss}
-use Rattle.receiver.specs.declared.receiver.Timer.TheVariants.{Stopped, Running}
-use Rattle.receiver.specs.declared.receiver.Asked.TheVariants.{Request as AskedFor}
+use Rattle.receiver.specs.declared.receiver.StreamEvent.TheVariants.{DataLoss}
 use Rattle.receiver_log.specs.Calls.{Call, data_command, poll, retransmit_error, nak, take_request, Entry, step_of, run_from, run}
 use Rattle.receiver_log.specs.Log.{heard, told, reports, is_ahead, place, start, unprocessed}
 use Rattle.receiver_log.specs.Spans.{ends_of, class_in, lost_at, lost_in, missing_ends, missing_in, asked_for}
@@ -28,13 +26,13 @@ use Rattle.receiver_log.specs.RequestTimes.{Poll, polled, polls_of, delayed, req
 abbrev hear : ℕ → ℕ → Call
 hear time seq = data_command defaults time seq []
 
-abbrev range : ℕ → ℕ → Span
-range first count = Of record { first = first; count = count }
+abbrev range : ℕ → ℕ → Option SeqRange
+range first count = Some record { first = first; count = count }
 
 -- ---- numbers
 
 -- P1 to P3: W 64, fresh, 0 twice; W 4, fresh, 5
-pub p12_reports : reports (said_of 64 [] (hear 0 0 ∷ hear 0 0 ∷ [])) ≡ (heard 0 [] Duplicate Nothing ∷ heard 0 [] (New 0) Nothing ∷ [])
+pub p12_reports : reports (said_of 64 [] (hear 0 0 ∷ hear 0 0 ∷ [])) ≡ (heard 0 [] Duplicate None ∷ heard 0 [] (New 0) None ∷ [])
 unfolding said_of answer_of check_of class_in is_ahead place lost_in lost_at ends_of unprocessed start
 p12_reports = refl
 
@@ -46,7 +44,7 @@ p3_reports = refl
 abbrev p456 : List Entry
 p456 = said_of 4 [] (hear 0 4 ∷ hear 0 2 ∷ hear 0 6 ∷ [])
 
-pub p456_reports : reports p456 ≡ (heard 6 [] (New 1) (range 0 2) ∷ heard 2 [] Late Nothing ∷ heard 4 [] (New 4) Nothing ∷ [])
+pub p456_reports : reports p456 ≡ (heard 6 [] (New 1) (range 0 2) ∷ heard 2 [] Late None ∷ heard 4 [] (New 4) None ∷ [])
 unfolding said_of answer_of check_of class_in is_ahead place lost_in lost_at ends_of unprocessed start
 p456_reports = refl
 
@@ -55,27 +53,27 @@ unfolding said_of answer_of check_of class_in is_ahead place lost_in lost_at mis
 p456_missing = refl
 
 -- P8: W 64, fresh, 0x7FFF
-pub p8_reports : reports (said_of 64 [] (hear 0 32767 ∷ [])) ≡ (heard 32767 [] Duplicate Nothing ∷ [])
+pub p8_reports : reports (said_of 64 [] (hear 0 32767 ∷ [])) ≡ (heard 32767 [] Duplicate None ∷ [])
 unfolding said_of answer_of check_of class_in is_ahead place lost_in lost_at ends_of unprocessed start
 p8_reports = refl
 
 -- ---- timer and requests
 
 -- D 10, M 3: a gap at 0, polls at each due time, and at the last the missing span
-pub doubling : timer_in 64 (said_of 64 [] (hear 0 1 ∷ poll defaults 10 ∷ poll defaults 30 ∷ [])) ≡ Running record { due = 70; sent = 2 }
+pub doubling : timer_in 64 (said_of 64 [] (hear 0 1 ∷ poll defaults 10 ∷ poll defaults 30 ∷ [])) ≡ Some record { due = 70; sent = 2 }
 unfolding said_of answer_of check_of class_in is_ahead place lost_in lost_at missing_ends ends_of unprocessed start due_after
 doubling = refl
 
 pub given_up : reports (said_of 64 [] (hear 0 1 ∷ poll defaults 10 ∷ poll defaults 30 ∷ poll defaults 70 ∷ poll defaults 150 ∷ []))
-    ≡ (told (range 0 1) ∷ told Nothing ∷ told Nothing ∷ told Nothing ∷ heard 1 [] (New 1) Nothing ∷ [])
+    ≡ (told (range 0 1) ∷ told None ∷ told None ∷ told None ∷ heard 1 [] (New 1) None ∷ [])
 unfolding said_of answer_of check_of class_in is_ahead place lost_in lost_at missing_ends ends_of unprocessed start due_after
 given_up = refl
 
 -- the same times by their definition, and of a receiver with a window of 4 that is polled at each due time
 abbrev asked_at : List Poll
-asked_at = polled 10 NoEvent true ∷ polled 30 NoEvent true ∷ polled 70 NoEvent true ∷ polled 150 (DataLoss record { first = 0; count = 1 }) false ∷ []
+asked_at = polled 10 (Ok None) true ∷ polled 30 (Ok None) true ∷ polled 70 (Ok None) true ∷ polled 150 (Ok (Some (DataLoss record { first = 0; count = 1 }))) false ∷ []
 
-pub requests_by_definition : requests_from 10 0 3 0 (DataLoss record { first = 0; count = 1 }) ≡ asked_at
+pub requests_by_definition : requests_from 10 0 3 0 (Ok (Some (DataLoss record { first = 0; count = 1 }))) ≡ asked_at
 unfolding requests_from
 requests_by_definition = refl
 
@@ -97,14 +95,14 @@ zeros = 0 ∷ 0 ∷ 0 ∷ 0 ∷ 0 ∷ 0 ∷ 0 ∷ 0 ∷ 0 ∷ 0 ∷ 0 ∷ 0 ∷ 
 abbrev asking : List Call
 asking = hear 0 2 ∷ poll defaults 10 ∷ take_request defaults payload zeros ∷ []
 
-pub taken : asked_in 64 (said_of 64 [] asking) ≡ AskedFor record { seq = 0; count = 2 }
+pub taken : asked_in 64 (said_of 64 [] asking) ≡ Some record { seq = 0; count = 2 }
 unfolding said_of answer_of check_of class_in is_ahead place lost_in lost_at missing_ends ends_of unprocessed start due_after valid_of written_of
 taken = refl
 
 abbrev failing : List Call
 failing = hear 0 2 ∷ poll defaults 10 ∷ take_request defaults payload zeros ∷ retransmit_error record { reason = 1; seq = 0 } ∷ []
 
-pub failed : reports (said_of 64 [] failing) ≡ (told (range 0 2) ∷ told Nothing ∷ told Nothing ∷ heard 2 [] (New 2) Nothing ∷ [])
+pub failed : reports (said_of 64 [] failing) ≡ (told (range 0 2) ∷ told None ∷ told None ∷ heard 2 [] (New 2) None ∷ [])
 unfolding said_of answer_of check_of class_in is_ahead place lost_in lost_at missing_ends ends_of unprocessed start due_after asked_for valid_of written_of
 failed = refl
 
@@ -112,6 +110,6 @@ failed = refl
 abbrev refusing : List Entry
 refusing = said_of 64 [] (hear 0 1 ∷ poll defaults 10 ∷ nak ∷ hear 0 3 ∷ [])
 
-pub refused_missing : (missing_in 64 (reports refusing) ≡ range 0 3) × (timer_in 64 refusing ≡ Stopped) × (nak_in refusing ≡ true)
+pub refused_missing : (missing_in 64 (reports refusing) ≡ range 0 3) × (timer_in 64 refusing ≡ None) × (nak_in refusing ≡ true)
 unfolding said_of answer_of check_of class_in is_ahead place lost_in lost_at missing_ends ends_of unprocessed start due_after
 refused_missing = (refl, refl, refl)

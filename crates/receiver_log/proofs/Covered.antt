@@ -1,5 +1,6 @@
 -- What the theorems are said of: every call, with any arguments of its types, every list of them, and every window.
 use Prim.Native.Nat.{ℕ, ◌+◌, ◌≤◌, ◌<◌}
+use Rattle.std.proofs.Common.{None, Ok}
 use mathlib.Core.Path.{◌≡◌, ap, ◌∙◌}
 use mathlib.Core.Bool.{true, false, not}
 use mathlib.Core.List.{List, [], ◌∷◌}
@@ -13,8 +14,6 @@ use Rattle.window.specs.declared.window.Class.TheVariants.{New}
 use Rattle.receiver.specs.Receiver.{fresh_of, loss_of, restarts}
 use Rattle.receiver.specs.Answers.{data_answer}
 use Rattle.receiver.specs.declared.receiver.Delivery.{Delivery}
-use Rattle.receiver.specs.declared.receiver.Hearing.TheVariants.{Delivery as Delivered}
-use Rattle.receiver.specs.declared.receiver.Timer.TheVariants.{Stopped}
 use Rattle.receiver.specs.declared.receiver.Receiver.{Receiver}
 use Rattle.receiver_log.specs.Calls.{Call, data_command, poll, retransmit_error, nak, take_request, Entry, data_entry, step_of, run_from, run, AllTyped}
 use Rattle.receiver_log.specs.Log.{reports}
@@ -55,7 +54,7 @@ asking D M =
 pub every_gap : RequestTimes → (W : ℕ) → 1 ≤ W → W ≤ 128 → (calls : List Call) → AllTyped calls → (D M time seq : ℕ) → seq < 65536 → (d : Delivery) (gap : ℕ)
     → (let cfg = asking D M in
     let a = data_answer (run W calls).receiver cfg time seq in
-    a.answer ≡ Delivered d → d.class ≡ New (gap + 1) → nak_in (log_of W calls) ≡ false → timer_in W (log_of W calls) ≡ Stopped
-    → polls_of (M + 1) cfg a.receiver ≡ requests_from D 0 M time (loss_of (missing_in W (reports (data_entry cfg time seq [] (Delivered d) ∷ log_of W calls)))))
+    a.answer ≡ Ok d → d.class ≡ New (gap + 1) → nak_in (log_of W calls) ≡ false → timer_in W (log_of W calls) ≡ None
+    → polls_of (M + 1) cfg a.receiver ≡ requests_from D 0 M time (loss_of (missing_in W (reports (data_entry cfg time seq [] (Ok d) ∷ log_of W calls)))))
 every_gap p W l m calls typed D M time seq few d gap answered class none stopped =
     p W l m calls typed (asking D M) time seq [] few d (gap + 1) (M + 1) answered class (omega arith) (ap not none) (ap restarts stopped) (omega arith)

@@ -1,12 +1,12 @@
 -- The missing span is reported, and all is processed.
 use mathlib.Core.Path.{◌≡◌, refl, ap, sym, ◌∙◌, subst}
+use Rattle.std.proofs.Common.{Option, Some, None}
+use Rattle.window.specs.declared.window.SeqRange.{SeqRange}
 use mathlib.Core.Bool.{Bool}
 use mathlib.Core.List.{List, ◌∷◌}
 use Rattle.command.specs.declared.retransmit.RetransmitError.{RetransmitError}
 use Rattle.window.specs.Window.{fresh_of as all_processed, missing_span}
 use Rattle.window.specs.declared.window.ReceiveWindow.{ReceiveWindow}
-use Rattle.window.specs.declared.window.Span.{Span}
-use Rattle.window.specs.declared.window.Span.TheVariants.{Nothing, Of}
 use Rattle.receiver.specs.Receiver.{rest_of, loss_of, error_event}
 use Rattle.receiver.specs.declared.receiver.Receiver.{Receiver}
 use Rattle.receiver_log.specs.Calls.{Entry}
@@ -19,21 +19,21 @@ use Rattle.receiver_log.proofs.Follows.{Follows, all_none, follows_rest}
 
 -- ---- events and their losses
 
-pub loss_in_lem : (s : Span) → loss_in (loss_of s) ≡ s
-loss_in_lem Nothing = refl
-loss_in_lem (Of range) = refl
+pub loss_in_lem : (s : Option SeqRange) → loss_in (loss_of s) ≡ s
+loss_in_lem None = refl
+loss_in_lem (Some range) = refl
 
-pub loss_taken : {A : Type 0} (s : Span) (a b : A) → unless_refused (loss_of s) a b ≡ b
-loss_taken Nothing a b = refl
-loss_taken (Of range) a b = refl
+pub loss_taken : {A : Type 0} (s : Option SeqRange) (a b : A) → unless_refused (loss_of s) a b ≡ b
+loss_taken None a b = refl
+loss_taken (Some range) a b = refl
 
-pub error_in_lem : (e : RetransmitError) (s : Span) → loss_in (error_event e s) ≡ s
-error_in_lem e Nothing = refl
-error_in_lem e (Of range) = refl
+pub error_in_lem : (e : RetransmitError) (s : Option SeqRange) → loss_in (error_event e s) ≡ s
+error_in_lem e None = refl
+error_in_lem e (Some range) = refl
 
-pub error_taken : {A : Type 0} (e : RetransmitError) (s : Span) (a b : A) → unless_refused (error_event e s) a b ≡ b
-error_taken e Nothing a b = refl
-error_taken e (Of range) a b = refl
+pub error_taken : {A : Type 0} (e : RetransmitError) (s : Option SeqRange) (a b : A) → unless_refused (error_event e s) a b ≡ b
+error_taken e None a b = refl
+error_taken e (Some range) a b = refl
 
 -- ---- the receiver after it
 

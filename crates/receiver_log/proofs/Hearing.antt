@@ -1,5 +1,11 @@
 -- A data command.
 use Prim.Native.Nat.{ℕ, ◌<◌}
+use Rattle.std.proofs.Common.{Option, Some, Result, Ok, Err}
+use Rattle.receiver.specs.declared.receiver.Delivery.{Delivery}
+use Rattle.receiver.specs.declared.receiver.ReceiverAnswer.{ReceiverAnswer}
+use Rattle.receiver.specs.declared.receiver.RequestTimer.{RequestTimer}
+use Rattle.window.specs.declared.window.SeqRange.{SeqRange}
+use Rattle.std.specs.Bool.{⊤}
 use mathlib.Core.Path.{◌≡◌, refl, sym, ◌∙◌, subst}
 use mathlib.Core.Bool.{false, not, ◌&&◌}
 use mathlib.Core.List.{List, ◌∷◌}
@@ -8,20 +14,13 @@ use Rattle.config.specs.Sequence.{turn}
 use Rattle.config.specs.Settings.{check_of}
 use Rattle.config.specs.declared.refusal.Refusal.{Refusal}
 use Rattle.config.specs.declared.settings.StreamConfig.{StreamConfig}
-use Rattle.config.specs.declared.answer.Outcome.{Outcome}
-use Rattle.config.specs.declared.answer.Outcome.TheVariants.{Done, Refused}
 use Rattle.window.specs.Window.{missing_of}
 use Rattle.window.specs.Arrival.{accept_of}
 use Rattle.window.specs.declared.window.Arrival.{Arrival}
 use Rattle.window.specs.declared.window.Class.{Class}
-use Rattle.window.specs.declared.window.Span.{Span}
 use Rattle.receiver.specs.Receiver.{enabled_of, gap_of, is_gap, restarts, due_after, settled_of, heard_of}
 use Rattle.receiver.specs.Answers.{data_answer, hearing_refused}
 use Rattle.receiver.specs.declared.receiver.Receiver.{Receiver}
-use Rattle.receiver.specs.declared.receiver.Timer.{Timer}
-use Rattle.receiver.specs.declared.receiver.Timer.TheVariants.{Running}
-use Rattle.receiver.specs.declared.receiver.Hearing.TheVariants.{Delivery as Delivered}
-use Rattle.receiver.specs.declared.receiver.Heard.{Heard}
 use Rattle.receiver_log.specs.Calls.{data_command, Entry, data_entry, Step, step_of}
 use Rattle.receiver_log.specs.Log.{reports}
 use Rattle.receiver_log.specs.Spans.{nothing_missing}
@@ -35,30 +34,30 @@ module _ (r : Receiver) (t : List Entry) (s : StreamConfig) (time seq : ℕ) (ws
   abbrev W : ℕ
   W = r.window.size
 
-  abbrev step_from : Heard → Step
+  abbrev step_from : ReceiverAnswer Delivery → Step
   step_from h = record { receiver = h.receiver; entry = data_entry s time seq ws h.answer }
 
-  abbrev Ok : Step → Type 0
-  Ok = StepOk W t (data_command s time seq ws)
+  abbrev Fine : Step → Type 0
+  Fine = StepOk W t (data_command s time seq ws)
 
   -- ---- refused
 
-  refused_answer : (why : Refusal) → check_of s ≡ Refused why → data_answer r s time seq ≡ hearing_refused r why
+  refused_answer : (why : Refusal) → check_of s ≡ Err why → data_answer r s time seq ≡ hearing_refused r why
   unfolding data_answer
   refused_answer why e = rw e
 
-  refused_ok : (why : Refusal) → check_of s ≡ Refused why → Ok (step_from (hearing_refused r why))
+  refused_ok : (why : Refusal) → check_of s ≡ Err why → Fine (step_from (hearing_refused r why))
   unfolding answer_of
   refused_ok why e = record { follows = follows_same W r _ t i refl refl refl refl refl; says = rw e }
 
   -- ---- heard
 
-  heard_answer : check_of s ≡ Done → data_answer r s time seq ≡ heard_of r s time seq
+  heard_answer : check_of s ≡ Ok tt → data_answer r s time seq ≡ heard_of r s time seq
   unfolding data_answer
   heard_answer e = rw (e, passes r i.held.valid)
 
-  abbrev entry_for : ℕ → Class → Span → Entry
-  entry_for highest c lost = data_entry s time seq ws (Delivered record { seq = seq; class = c; gap = gap_of highest c; lost = lost })
+  abbrev entry_for : ℕ → Class → Option SeqRange → Entry
+  entry_for highest c lost = data_entry s time seq ws (Ok record { seq = seq; class = c; gap = gap_of highest c; lost = lost })
 
   -- the timer starts by the same test
   starts : (c : Class) → (is_gap c && (enabled_of r s && restarts r.timer)) ≡ (is_gap c && (enabled_in t s && restarts (timer_in W t)))
@@ -71,11 +70,11 @@ module _ (r : Receiver) (t : List Entry) (s : StreamConfig) (time seq : ℕ) (ws
     missing : eqb (missing_of k.window) 0 ≡ nothing_missing W (reports (entry ∷ t))
     missing = none_missing_lem W a.held a.size
 
-    abbrev started : Timer
-    started = Running record { due = due_after s.request_delay_ms 0 time; sent = 0 }
+    abbrev started : (Option RequestTimer)
+    started = Some record { due = due_after s.request_delay_ms 0 time; sent = 0 }
 
     -- something is missing
-    going : (timer : Timer) → nothing_missing W (reports (entry ∷ t)) ≡ false → timer ≡ timer_after t (timer_in W t) entry
+    going : (timer : Option RequestTimer) → nothing_missing W (reports (entry ∷ t)) ≡ false → timer ≡ timer_after t (timer_in W t) entry
         → Follows W (record { window = k.window; timer = timer; request_due = r.request_due; refused = r.refused; asked = r.asked }) (entry ∷ t)
     going timer n f =
         follows_on W k.window entry t a.held a.size timer r.request_due r.refused r.asked n f i.due i.refused i.asked i.few
@@ -90,7 +89,7 @@ module _ (r : Receiver) (t : List Entry) (s : StreamConfig) (time seq : ℕ) (ws
         (λ g. going started (sym missing ∙ n) (cond_true started (timer_in W t) (sym (starts k.class) ∙ g)))
         (λ g. going r.timer (sym missing ∙ n) (i.timer ∙ cond_false started (timer_in W t) (sym (starts k.class) ∙ g))))
 
-  heard_ok : seq < turn → check_of s ≡ Done → Ok (step_from (heard_of r s time seq))
+  heard_ok : seq < turn → check_of s ≡ Ok tt → Fine (step_from (heard_of r s time seq))
   unfolding heard_of answer_of
   heard_ok l e =
       let a = accept_ok r.window (reports t) seq ws i.held l in
@@ -99,10 +98,10 @@ module _ (r : Receiver) (t : List Entry) (s : StreamConfig) (time seq : ℕ) (ws
         says = (λ j. entry_for (i.held.highest j) (a.class j) (a.lost j)) ∙ rw e;
       }
 
-  pub data_ok : seq < turn → Ok (step_of r (data_command s time seq ws))
+  pub data_ok : seq < turn → Fine (step_of r (data_command s time seq ws))
   unfolding step_of
   data_ok l = go (check_of s) refl
     where
-      go : (k : Outcome) → check_of s ≡ k → Ok (step_from (data_answer r s time seq))
-      go (Refused why) e = subst (λ (h : Heard). Ok (step_from h)) (sym (refused_answer why e)) (refused_ok why e)
-      go Done e = subst (λ (h : Heard). Ok (step_from h)) (sym (heard_answer e)) (heard_ok l e)
+      go : (k : Result ⊤ Refusal) → check_of s ≡ k → Fine (step_from (data_answer r s time seq))
+      go (Err why) e = subst (λ (h : ReceiverAnswer Delivery). Fine (step_from h)) (sym (refused_answer why e)) (refused_ok why e)
+      go (Ok _) e = subst (λ (h : ReceiverAnswer Delivery). Fine (step_from h)) (sym (heard_answer e)) (heard_ok l e)

@@ -1,5 +1,6 @@
 -- What ties a window to the log: its positions are processed exactly where the log settles them.
 use Prim.Native.Nat.{ℕ, ◌-◌, ◌%◌, ◌≤◌, ◌<◌}
+use Rattle.std.proofs.Common.{None}
 use mathlib.Core.Path.{◌≡◌, refl, ap, sym, ◌∙◌}
 use mathlib.Core.Logic.{inl, inr}
 use mathlib.Core.Bool.{true, false, not}
@@ -12,7 +13,6 @@ use Rattle.config.specs.inner.Tests.{split, tests, lifts}
 use Rattle.window.specs.Set.{max_window}
 use Rattle.window.specs.Window.{Valid, fresh, processed}
 use Rattle.window.specs.declared.window.ReceiveWindow.{ReceiveWindow}
-use Rattle.window.specs.declared.window.Span.TheVariants.{Nothing}
 use Rattle.window.proofs.Positions.{processed_fresh, unprocessed_in}
 use Rattle.window.proofs.Preserved.{valid_fresh}
 use Rattle.receiver_log.specs.Log.{Report, told, origin, high, times, unprocessed}
@@ -40,7 +40,7 @@ held_fresh W p q = record {
 }
 
 -- a call that reports nothing
-pub held_quiet : {w : ReceiveWindow} {t : List Report} → Held w t → Held w (told Nothing ∷ t)
+pub held_quiet : {w : ReceiveWindow} {t : List Report} → Held w t → Held w (told None ∷ t)
 held_quiet i =
     record { valid = i.valid; highest = i.highest; low = i.low; same = i.same; clear = i.clear; once = i.once; before = i.before }
 

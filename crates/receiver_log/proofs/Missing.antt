@@ -1,5 +1,6 @@
 -- Demand 3's second sentence and the missing span, from what ties a window to the log.
 use Prim.Native.Nat.{ℕ, ◌+◌, ◌-◌, ◌%◌, ◌≤◌}
+use Rattle.std.proofs.Common.{Some}
 use mathlib.Core.Path.{◌≡◌, ap, sym, ◌∙◌, subst}
 use mathlib.Core.Logic.{inl, inr}
 use mathlib.Core.Bool.{true, not}
@@ -10,7 +11,6 @@ use Rattle.config.specs.Sequence.{turn}
 use Rattle.config.specs.inner.Tests.{split, lifts}
 use Rattle.window.specs.Window.{missing_span}
 use Rattle.window.specs.declared.window.ReceiveWindow.{ReceiveWindow}
-use Rattle.window.specs.declared.window.Span.TheVariants.{Of}
 use Rattle.receiver_log.specs.Log.{Report, origin, high, times, lost, unprocessed, Missing}
 use Rattle.receiver_log.specs.Spans.{Ends, none, ends, ends_of, span_from, missing_ends}
 use Rattle.receiver_log.specs.Promise.{Promise, FromTo, nothing, from}
@@ -67,7 +67,7 @@ module _ {w : ReceiveWindow} {t : List Report} (i : Held w t) where
       never (ap (unprocessed t) (back_at t x l) ∙ missing_open w.size t x m)
       (h (high t - x) (omega (arith, m.below)) (omega (arith, m.within_W))))
   reaches (ends x y) h =
-      subst (λ (n : ℕ). FromTo w.size t (Of record { first = (high t - y) % turn; count = n })) (count (open_in i y h.oldest).2 h.order)
+      subst (λ (n : ℕ). FromTo w.size t (Some record { first = (high t - y) % turn; count = n })) (count (open_in i y h.oldest).2 h.order)
       (from (high t - y) (high t - x) (open_missing y h.oldest) (open_missing x h.newest)
       (λ z m.
       let l : z ≤ high t = omega (arith, m.below) in

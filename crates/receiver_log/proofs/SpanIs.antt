@@ -1,5 +1,6 @@
 -- The spans of the window are the spans of the log.
 use Prim.Native.Nat.{ℕ, ◌+◌, ◌-◌, ◌%◌, ◌≤◌, ◌<◌}
+use Rattle.std.proofs.Common.{Option, Some, None}
 use mathlib.Core.Path.{◌≡◌, ap, sym, ◌∙◌}
 use mathlib.Core.Logic.{inl, inr}
 use mathlib.Core.Bool.{Bool, true, false, cond, not, ◌&&◌}
@@ -16,7 +17,6 @@ use Rattle.window.specs.Arrival.{reach, lost_of, new_of}
 use Rattle.window.specs.Marking.{in_range, hits_of, mark_of}
 use Rattle.window.specs.declared.window.ReceiveWindow.{ReceiveWindow}
 use Rattle.window.specs.declared.window.SeqRange.{SeqRange}
-use Rattle.window.specs.declared.window.Span.TheVariants.{Nothing, Of}
 use Rattle.window.proofs.Digits.{has_pos, has_top, has_bottom, top_most, bottom_least}
 use Rattle.window.proofs.Positions.{has_missing}
 use Rattle.window.proofs.SpanEnds.{span_of_lem, span_nothing}
@@ -30,8 +30,8 @@ use Rattle.receiver_log.proofs.Numbers.{number_behind}
 use Rattle.receiver_log.proofs.Held.{Held, open_at, near}
 use Rattle.receiver_log.proofs.Arrivals.{shifted_far, open_shifted, lost_near}
 
-range_same : {a b c d : ℕ} → a ≡ b → c ≡ d → Of record { first = a; count = c } ≡ Of record { first = b; count = d }
-range_same p q = λ i. Of record { first = p i; count = q i }
+range_same : {a b c d : ℕ} → a ≡ b → c ≡ d → ◌≡◌ {A = Option SeqRange} (Some record { first = a; count = c }) (Some record { first = b; count = d })
+range_same p q = λ i. Some record { first = p i; count = q i }
 
 -- ---- a set of positions, and a test of positions
 
@@ -127,7 +127,7 @@ module _ {w : ReceiveWindow} {t : List Report} (i : Held w t) where
   request_is = go (ends_of missing_at 1 w.size) (ends_ok missing_at 1 w.size)
     where
       go : (s : Ends) → EndsOk missing_at 1 w.size s
-          → cond (eqb (missing_of w) 0) Nothing (Of record { first = behind w.highest (top_of (missing_of w) + 1); count = top_of (missing_of w) + 1 }) ≡ request_from (high t) s
+          → cond (eqb (missing_of w) 0) None (Some record { first = behind w.highest (top_of (missing_of w) + 1); count = top_of (missing_of w) + 1 }) ≡ request_from (high t) s
       go none h = rw (none_is (high t) 0 (missing_of w) w.size missing_at missing_agree missing_only none h)
       go (ends x y) h =
           let top = top_end (high t) 0 (missing_of w) w.size missing_at missing_agree missing_only x y h in

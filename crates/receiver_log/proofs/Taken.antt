@@ -1,5 +1,7 @@
 -- `accept` answers class and loss by the log, and leaves a window that the log says.
 use Prim.Native.Nat.{ℕ, ◌+◌, ◌-◌, ◌%◌, ◌<◌}
+use Rattle.std.proofs.Common.{Option}
+use Rattle.window.specs.declared.window.SeqRange.{SeqRange}
 use mathlib.Core.Path.{◌≡◌, refl, ap, sym, ◌∙◌, subst}
 use mathlib.Core.Logic.{inl, inr}
 use mathlib.Core.Bool.{Bool, true, false, cond, not, ◌&&◌}
@@ -13,7 +15,6 @@ use Rattle.window.specs.Arrival.{reach, new_of, late_at, unchanged, accept_of}
 use Rattle.window.specs.declared.window.ReceiveWindow.{ReceiveWindow}
 use Rattle.window.specs.declared.window.Arrival.{Arrival}
 use Rattle.window.specs.declared.window.Class.TheVariants.{New, Late, Duplicate}
-use Rattle.window.specs.declared.window.Span.{Span}
 use Rattle.config.specs.inner.Ranges.{within_yes}
 use Rattle.window.proofs.Positions.{unprocessed_in}
 use Rattle.window.proofs.Accepts.{accept_as_new, accept_as_late, accept_as_duplicate}
@@ -44,7 +45,7 @@ module _ (w : ReceiveWindow) (t : List Report) (seq : ℕ) (ws : List ℕ) (i : 
       lost_span i (ahead (high t % turn) seq) by.0 by.1 seq nm in
       record {
         held =
-            subst (λ (s : Span). Held (new_of w seq (ahead (high t % turn) seq)).window (heard seq ws (New (ahead (high t % turn) seq - 1)) s ∷ t)) (sym ls)
+            subst (λ (s : Option SeqRange). Held (new_of w seq (ahead (high t % turn) seq)).window (heard seq ws (New (ahead (high t % turn) seq - 1)) s ∷ t)) (sym ls)
             (held_new w t (ahead (high t % turn) seq) i by.0 by.1 seq (ahead (high t % turn) seq - 1) ws (high_ahead (high t) seq e) pl nm);
         size = refl;
         class = rw e;

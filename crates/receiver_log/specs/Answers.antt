@@ -1,26 +1,22 @@
 -- What the next call answers, from the past calls and answers alone. The receiver's state is never refused: 13 is left for a payload's.
-use Rattle.std.specs.Prelude.{ℕ, ◌%◌, Bool, cond, ◌&&◌, List, [], ◌∷◌, length}
+use Rattle.std.specs.Prelude.{ℕ, ◌%◌, Bool, cond, ◌&&◌, List, [], ◌∷◌, length, Option, Some, None, Result, Ok, Err, ⊤}
+use Rattle.command.specs.declared.retransmit.RetransmitRequest.{RetransmitRequest}
+use Rattle.config.specs.declared.refusal.Refusal.{Refusal}
+use Rattle.window.specs.declared.window.SeqRange.{SeqRange}
 use Rattle.config.specs.Entry.{entry}
 use Rattle.config.specs.Sequence.{turn}
 use Rattle.config.specs.Settings.{check_of, tested}
 use Rattle.config.specs.declared.settings.StreamConfig.{StreamConfig}
 use Rattle.packet.specs.Write.{written_of, valid_of as payload_valid}
 use Rattle.packet.specs.declared.writer.PayloadWriter.{PayloadWriter}
-use Rattle.config.specs.declared.answer.Outcome.{Outcome}
-use Rattle.config.specs.declared.answer.Outcome.TheVariants.{Done, Refused}
 use Rattle.command.specs.Write.{request_packet}
 use Rattle.command.specs.declared.retransmit.RetransmitError.{RetransmitError}
-use Rattle.window.specs.declared.window.Span.{Span}
-use Rattle.window.specs.declared.window.Span.TheVariants.{Nothing as NoSpan, Of}
 use Rattle.receiver.specs.Receiver.{gap_of, loss_of, error_event, no_fit}
-use Rattle.receiver.specs.declared.receiver.Asked.{Asked}
-use Rattle.receiver.specs.declared.receiver.Asked.TheVariants.{Nothing as Unasked, Request as AskedFor}
 use Rattle.receiver.specs.declared.receiver.Delivery.{Delivery}
-use Rattle.receiver.specs.declared.receiver.Hearing.TheVariants.{Delivery as Delivered, Refused as HearingRefused}
 use Rattle.receiver.specs.declared.receiver.StreamEvent.{StreamEvent}
-use Rattle.receiver.specs.declared.receiver.StreamEvent.TheVariants.{Nothing as NoEvent, RetransmitError as ErrorOnly, Refused as EventRefused}
+use Rattle.receiver.specs.declared.receiver.StreamEvent.TheVariants.{RetransmitError as ErrorOnly}
 use Rattle.receiver.specs.declared.receiver.Request.{Request}
-use Rattle.receiver.specs.declared.receiver.Request.TheVariants.{Nothing as NotDue, Written, Refused as RequestRefused}
+use Rattle.receiver.specs.declared.receiver.Request.TheVariants.{Nothing as NotDue, Written}
 use Rattle.receiver_log.specs.Calls.{Call, data_command, poll, retransmit_error, nak, take_request, Entry, data_entry, poll_entry, error_entry, nak_entry, take_entry}
 use Rattle.receiver_log.specs.Log.{Report, reports, high}
 use Rattle.receiver_log.specs.Spans.{class_in, lost_in, missing_in, request_in, asked_for}
@@ -31,41 +27,41 @@ abbrev pub delivery_in : ℕ → List Report → ℕ → Delivery
 delivery_in W t seq = record { seq = seq; class = class_in W t seq; gap = gap_of (high t % turn) (class_in W t seq); lost = lost_in W t seq }
 
 -- a poll reports the missing span where it gives up
-abbrev pub poll_event : Span → Tick → StreamEvent
-poll_event missing waits = NoEvent
-poll_event missing asks = NoEvent
+abbrev pub poll_event : Option SeqRange → Tick → Result (Option StreamEvent) Refusal
+poll_event missing waits = Ok None
+poll_event missing asks = Ok None
 poll_event missing gives_up = loss_of missing
 
 -- A Retransmit Error to an unanswered request reports from the oldest to the newest of the missing positions of its span.
-abbrev pub error_in : ℕ → List Report → RetransmitError → Asked → StreamEvent
-error_in W t e Unasked = ErrorOnly e
-error_in W t e (AskedFor q) = error_event e (asked_for W t q)
+abbrev pub error_in : ℕ → List Report → RetransmitError → Option RetransmitRequest → Result (Option StreamEvent) Refusal
+error_in W t e None = Ok (Some (ErrorOnly e))
+error_in W t e (Some q) = error_event e (asked_for W t q)
 
 -- A NAK with a request unanswered reports all missing.
-abbrev pub nak_event : Span → Asked → StreamEvent
-nak_event missing Unasked = NoEvent
-nak_event missing (AskedFor q) = loss_of missing
+abbrev pub nak_event : Option SeqRange → Option RetransmitRequest → Result (Option StreamEvent) Refusal
+nak_event missing None = Ok None
+nak_event missing (Some q) = loss_of missing
 
 -- a due request is written, or doesn't fit
-abbrev pub write_answer : PayloadWriter → Outcome → Request
-write_answer p Done = Written
-write_answer p (Refused why) = no_fit p
+abbrev pub write_answer : PayloadWriter → Result ⊤ Refusal → Result Request Refusal
+write_answer p (Ok _) = Ok Written
+write_answer p (Err why) = no_fit p
 
-abbrev pub offered : StreamConfig → PayloadWriter → List ℕ → Span → Entry
-offered s p b NoSpan = take_entry s p b NotDue p b
-offered s p b (Of range) =
+abbrev pub offered : StreamConfig → PayloadWriter → List ℕ → Option SeqRange → Entry
+offered s p b None = take_entry s p b (Ok NotDue) p b
+offered s p b (Some range) =
     let w = written_of p b (request_packet record { seq = range.first; count = range.count }) in
     take_entry s p b (write_answer w.0.payload w.0.answer) w.0.payload w.1
 
 -- nothing due, or dropped since requests are disabled; otherwise offered to the payload
-abbrev pub take_in : StreamConfig → PayloadWriter → List ℕ → Bool → Span → Entry
+abbrev pub take_in : StreamConfig → PayloadWriter → List ℕ → Bool → Option SeqRange → Entry
 take_in s p b offers request =
-    entry (check_of s) (payload_valid p (length b)) (λ why. take_entry s p b (RequestRefused why) p b) (cond offers (offered s p b request) (take_entry s p b NotDue p b))
+    entry (check_of s) (payload_valid p (length b)) (λ why. take_entry s p b (Err why) p b) (cond offers (offered s p b request) (take_entry s p b (Ok NotDue) p b))
 
 unfoldable pub answer_of : ℕ → List Entry → Call → Entry
-answer_of W t (data_command s time seq ws) = data_entry s time seq ws (tested (check_of s) HearingRefused (Delivered (delivery_in W (reports t) seq)))
+answer_of W t (data_command s time seq ws) = data_entry s time seq ws (tested (check_of s) Err (Ok (delivery_in W (reports t) seq)))
 answer_of W t (poll s time) =
-    poll_entry s time (tested (check_of s) EventRefused (poll_event (missing_in W (reports t)) (tick_at (enabled_in t s) s time (timer_in W t))))
+    poll_entry s time (tested (check_of s) Err (poll_event (missing_in W (reports t)) (tick_at (enabled_in t s) s time (timer_in W t))))
 answer_of W t (retransmit_error e) = error_entry e (error_in W (reports t) e (asked_in W t))
 answer_of W t nak = nak_entry (nak_event (missing_in W (reports t)) (asked_in W t))
 answer_of W t (take_request s p b) = take_in s p b (due_in W t && enabled_in t s) (request_in W (reports t))

@@ -1,5 +1,7 @@
 -- 01, "The runs of demand 3": lists of calls on a fresh receiver, refused ones included, each taking what the last left.
-use Rattle.std.specs.Prelude.{ℕ, ◌<◌, List, [], ◌∷◌}
+use Rattle.std.specs.Prelude.{ℕ, ◌<◌, List, [], ◌∷◌, Option, Result}
+use Rattle.config.specs.declared.refusal.Refusal.{Refusal}
+use Rattle.receiver.specs.declared.receiver.Delivery.{Delivery}
 use Rattle.config.specs.Sequence.{turn}
 use Rattle.config.specs.declared.settings.StreamConfig.{StreamConfig}
 use Rattle.packet.specs.declared.writer.PayloadWriter.{PayloadWriter}
@@ -7,7 +9,6 @@ use Rattle.command.specs.declared.retransmit.RetransmitError.{RetransmitError}
 use Rattle.receiver.specs.Receiver.{fresh_of}
 use Rattle.receiver.specs.Answers.{data_answer, poll_answer, error_answer, nak_answer, take_answer}
 use Rattle.receiver.specs.declared.receiver.Receiver.{Receiver}
-use Rattle.receiver.specs.declared.receiver.Hearing.{Hearing}
 use Rattle.receiver.specs.declared.receiver.StreamEvent.{StreamEvent}
 use Rattle.receiver.specs.declared.receiver.Request.{Request}
 
@@ -24,11 +25,11 @@ pub data Call : Type 0 where
 
 -- a call with its answer; of taking a request also the payload and the buffer after it
 pub data Entry : Type 0 where
-  data_entry : StreamConfig → ℕ → ℕ → List ℕ → Hearing → Entry
-  poll_entry : StreamConfig → ℕ → StreamEvent → Entry
-  error_entry : RetransmitError → StreamEvent → Entry
-  nak_entry : StreamEvent → Entry
-  take_entry : StreamConfig → PayloadWriter → List ℕ → Request → PayloadWriter → List ℕ → Entry
+  data_entry : StreamConfig → ℕ → ℕ → List ℕ → Result Delivery Refusal → Entry
+  poll_entry : StreamConfig → ℕ → Result (Option StreamEvent) Refusal → Entry
+  error_entry : RetransmitError → Result (Option StreamEvent) Refusal → Entry
+  nak_entry : Result (Option StreamEvent) Refusal → Entry
+  take_entry : StreamConfig → PayloadWriter → List ℕ → Result Request Refusal → PayloadWriter → List ℕ → Entry
 
 -- the state that a call leaves, and what goes into the log
 pub record Step : Type 0 where
@@ -41,13 +42,13 @@ step_of r (data_command s time seq ws) =
     record { receiver = h.receiver; entry = data_entry s time seq ws h.answer }
 step_of r (poll s time) =
     let h = poll_answer r s time in
-    record { receiver = h.receiver; entry = poll_entry s time h.event }
+    record { receiver = h.receiver; entry = poll_entry s time h.answer }
 step_of r (retransmit_error e) =
     let h = error_answer r e in
-    record { receiver = h.receiver; entry = error_entry e h.event }
+    record { receiver = h.receiver; entry = error_entry e h.answer }
 step_of r nak =
     let h = nak_answer r in
-    record { receiver = h.receiver; entry = nak_entry h.event }
+    record { receiver = h.receiver; entry = nak_entry h.answer }
 step_of r (take_request s p b) =
     let h = take_answer r s p b in
     record { receiver = h.0.receiver; entry = take_entry s p b h.0.answer h.0.payload h.1 }

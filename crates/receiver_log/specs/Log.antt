@@ -1,45 +1,44 @@
 -- 01, "The runs of demand 3": heard, positions, handed on, losses and missing, over the log alone, newest first.
 -- A place is a position plus 65,536, so that each position that is read is a natural number: -1 is place 65,535, and a place's number is
 -- what is left of it by turns.
-use Rattle.std.specs.Prelude.{ℕ, suc, ◌+◌, ◌-◌, ◌%◌, ◌≤◌, ◌<◌, max, ◌≡◌, Bool, true, false, cond, not, ◌||◌, ◌&&◌, List, [], ◌∷◌, ltb, leb, eqb}
+use Rattle.std.specs.Prelude.{ℕ, suc, ◌+◌, ◌-◌, ◌%◌, ◌≤◌, ◌<◌, max, ◌≡◌, Bool, true, false, cond, not, ◌||◌, ◌&&◌, List, [], ◌∷◌, ltb, leb, eqb, Option, Some, None, Result, Ok, Err}
+use Rattle.config.specs.declared.refusal.Refusal.{Refusal}
+use Rattle.window.specs.declared.window.SeqRange.{SeqRange}
 use Rattle.config.specs.Range.{within}
 use Rattle.config.specs.Sequence.{turn, ahead}
 use Rattle.window.specs.Arrival.{reach}
 use Rattle.window.specs.declared.window.Class.{Class}
 use Rattle.window.specs.declared.window.Class.TheVariants.{New, Late, Duplicate}
-use Rattle.window.specs.declared.window.Span.{Span}
-use Rattle.window.specs.declared.window.Span.TheVariants.{Nothing, Of}
-use Rattle.receiver.specs.declared.receiver.Hearing.TheVariants.{Delivery as Delivered, Refused as HearingRefused}
 use Rattle.receiver.specs.declared.receiver.StreamEvent.{StreamEvent}
-use Rattle.receiver.specs.declared.receiver.StreamEvent.TheVariants.{Nothing as NoEvent, DataLoss, ErrorLoss, RetransmitError as ErrorOnly, Refused as EventRefused}
+use Rattle.receiver.specs.declared.receiver.StreamEvent.TheVariants.{DataLoss, ErrorLoss, RetransmitError as ErrorOnly}
 use Rattle.receiver_log.specs.Calls.{Entry, data_entry, poll_entry, error_entry, nak_entry, take_entry}
 
 -- ---- what a call says of positions
 
 pub data Report : Type 0 where
   -- a data command that was not refused: number, words, class, loss
-  heard : ℕ → List ℕ → Class → Span → Report
+  heard : ℕ → List ℕ → Class → Option SeqRange → Report
   -- any other call, with the loss that it reports
-  told : Span → Report
+  told : Option SeqRange → Report
 
-abbrev pub loss_of : Report → Span
+abbrev pub loss_of : Report → Option SeqRange
 loss_of (heard seq ws c l) = l
 loss_of (told l) = l
 
-abbrev pub loss_in : StreamEvent → Span
-loss_in NoEvent = Nothing
-loss_in (DataLoss range) = Of range
-loss_in (ErrorLoss range e) = Of range
-loss_in (ErrorOnly e) = Nothing
-loss_in (EventRefused why) = Nothing
+abbrev pub loss_in : Result (Option StreamEvent) Refusal → Option SeqRange
+loss_in (Ok None) = None
+loss_in (Ok (Some (DataLoss range))) = Some range
+loss_in (Ok (Some (ErrorLoss range e))) = Some range
+loss_in (Ok (Some (ErrorOnly e))) = None
+loss_in (Err why) = None
 
 abbrev pub report_of : Entry → Report
-report_of (data_entry s time seq ws (Delivered d)) = heard seq ws d.class d.lost
-report_of (data_entry s time seq ws (HearingRefused why)) = told Nothing
+report_of (data_entry s time seq ws (Ok d)) = heard seq ws d.class d.lost
+report_of (data_entry s time seq ws (Err why)) = told None
 report_of (poll_entry s time e) = told (loss_in e)
 report_of (error_entry q e) = told (loss_in e)
 report_of (nak_entry e) = told (loss_in e)
-report_of (take_entry s p b a q c) = told Nothing
+report_of (take_entry s p b a q c) = told None
 
 abbrev pub reports : List Entry → List Report
 reports [] = []
@@ -93,9 +92,9 @@ unfoldable pub start : ℕ → ℕ → ℕ
 start highest first = highest - ahead first (highest % turn)
 
 -- a loss holds as many positions as its count, upward from there
-abbrev pub in_loss : ℕ → Span → ℕ → Bool
-in_loss highest Nothing x = false
-in_loss highest (Of range) x = leb (start highest range.first) x && ltb x (start highest range.first + range.count)
+abbrev pub in_loss : ℕ → Option SeqRange → ℕ → Bool
+in_loss highest None x = false
+in_loss highest (Some range) x = leb (start highest range.first) x && ltb x (start highest range.first + range.count)
 
 -- the place x lies in a reported loss
 abbrev pub lost : List Report → ℕ → Bool

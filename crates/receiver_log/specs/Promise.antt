@@ -1,5 +1,6 @@
 -- 01, "The runs of demand 3", and demand 3's second sentence, for every list of calls on a fresh receiver of size W.
-use Rattle.std.specs.Prelude.{ℕ, ◌+◌, ◌-◌, ◌%◌, ◌≤◌, ◌<◌, ◌≡◌, ◌⊎◌, true, not, List, [], length}
+use Rattle.std.specs.Prelude.{ℕ, ◌+◌, ◌-◌, ◌%◌, ◌≤◌, ◌<◌, ◌≡◌, ◌⊎◌, true, not, List, [], length, Option, Some, None}
+use Rattle.window.specs.declared.window.SeqRange.{SeqRange}
 use Rattle.config.specs.Entry.{entry}
 use Rattle.config.specs.Sequence.{turn}
 use Rattle.config.specs.Settings.{check_of, tested}
@@ -9,8 +10,6 @@ use Rattle.packet.specs.declared.writer.PayloadWriter.{PayloadWriter}
 use Rattle.command.specs.declared.retransmit.RetransmitError.{RetransmitError}
 use Rattle.window.specs.Set.{max_window}
 use Rattle.window.specs.Window.{processed, missing_span, request_of}
-use Rattle.window.specs.declared.window.Span.{Span}
-use Rattle.window.specs.declared.window.Span.TheVariants.{Nothing, Of}
 use Rattle.receiver.specs.Receiver.{valid_of, heard_of, polled_of, error_of, nak_of, taken_of}
 use Rattle.receiver.specs.Answers.{data_answer, hearing_refused, poll_answer, event_refused, error_answer, nak_answer, take_answer, request_refused}
 use Rattle.receiver.specs.declared.receiver.Receiver.{Receiver}
@@ -33,10 +32,10 @@ pub record Promise (W : ℕ) (t : List Report) : Type 0 where
 -- ---- the missing span
 
 -- it reaches from the oldest missing position to the newest
-pub data FromTo (W : ℕ) (t : List Report) : Span → Type 0 where
-  nothing : ((x : ℕ) → Missing W t x → ⊥) → FromTo W t Nothing
+pub data FromTo (W : ℕ) (t : List Report) : Option SeqRange → Type 0 where
+  nothing : ((x : ℕ) → Missing W t x → ⊥) → FromTo W t None
   from : (oldest newest : ℕ) → Missing W t oldest → Missing W t newest → ((x : ℕ) → Missing W t x → (oldest ≤ x) × (x ≤ newest))
-      → FromTo W t (Of record { first = oldest % turn; count = newest - oldest + 1 })
+      → FromTo W t (Some record { first = oldest % turn; count = newest - oldest + 1 })
 
 -- ---- the state
 

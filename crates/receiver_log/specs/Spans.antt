@@ -1,13 +1,12 @@
 -- 01, "Position, window, loss": class, gap, loss, missing span and request of the next call, from what was heard, handed on and reported.
-use Rattle.std.specs.Prelude.{ℕ, zero, suc, ◌+◌, ◌-◌, ◌%◌, Bool, true, false, cond, ◌&&◌, List}
+use Rattle.std.specs.Prelude.{ℕ, zero, suc, ◌+◌, ◌-◌, ◌%◌, Bool, true, false, cond, ◌&&◌, List, Option, Some, None}
+use Rattle.window.specs.declared.window.SeqRange.{SeqRange}
 use Rattle.config.specs.Range.{within}
 use Rattle.config.specs.Sequence.{turn, ahead}
 use Rattle.command.specs.declared.retransmit.RetransmitRequest.{RetransmitRequest}
 use Rattle.window.specs.Marking.{in_range}
 use Rattle.window.specs.declared.window.Class.{Class}
 use Rattle.window.specs.declared.window.Class.TheVariants.{New, Late, Duplicate}
-use Rattle.window.specs.declared.window.Span.{Span}
-use Rattle.window.specs.declared.window.Span.TheVariants.{Nothing, Of}
 use Rattle.receiver_log.specs.Log.{Report, origin, is_ahead, place, high, unprocessed}
 
 -- ---- ends
@@ -32,14 +31,14 @@ ends_of f low zero = none
 ends_of f low (suc n) = cond (f (low + n)) (widen (low + n) (ends_of f low n)) (ends_of f low n)
 
 -- the numbers from the oldest to the newest
-abbrev pub span_from : ℕ → Ends → Span
-span_from highest none = Nothing
-span_from highest (ends newest oldest) = Of record { first = (highest - oldest) % turn; count = oldest - newest + 1 }
+abbrev pub span_from : ℕ → Ends → Option SeqRange
+span_from highest none = None
+span_from highest (ends newest oldest) = Some record { first = (highest - oldest) % turn; count = oldest - newest + 1 }
 
 -- the numbers from the oldest to just before the highest
-abbrev pub request_from : ℕ → Ends → Span
-request_from highest none = Nothing
-request_from highest (ends newest oldest) = Of record { first = (highest - oldest) % turn; count = oldest }
+abbrev pub request_from : ℕ → Ends → Option SeqRange
+request_from highest none = None
+request_from highest (ends newest oldest) = Some record { first = (highest - oldest) % turn; count = oldest }
 
 -- ---- a number arrives
 
@@ -51,14 +50,14 @@ class_in W t seq =
     Duplicate)
 
 -- the oldest to the newest unprocessed position, skipped ones included, of those from position 0 that are more than W behind the place `to`
-unfoldable pub lost_at : ℕ → List Report → ℕ → Span
+unfoldable pub lost_at : ℕ → List Report → ℕ → Option SeqRange
 unfolding ends_of
 lost_at W t to = span_from to (ends_of (λ b. unprocessed t (to - b)) (W + 1) (to - origin - W))
 
 -- a New number's loss
-unfoldable pub lost_in : ℕ → List Report → ℕ → Span
+unfoldable pub lost_in : ℕ → List Report → ℕ → Option SeqRange
 unfolding lost_at
-lost_in W t seq = cond (is_ahead (high t) seq) (lost_at W t (place (high t) seq)) Nothing
+lost_in W t seq = cond (is_ahead (high t) seq) (lost_at W t (place (high t) seq)) None
 
 -- ---- missing
 
@@ -70,15 +69,15 @@ abbrev pub nothing_missing : ℕ → List Report → Bool
 nothing_missing W t = is_none (missing_ends W t)
 
 -- from the oldest missing position to the newest
-abbrev pub missing_in : ℕ → List Report → Span
+abbrev pub missing_in : ℕ → List Report → Option SeqRange
 missing_in W t = span_from (high t) (missing_ends W t)
 
 -- from the oldest missing position to just before the highest
-abbrev pub request_in : ℕ → List Report → Span
+abbrev pub request_in : ℕ → List Report → Option SeqRange
 request_in W t = request_from (high t) (missing_ends W t)
 
 -- from the oldest to the newest of the missing positions whose numbers a request asks for
-unfoldable pub asked_for : ℕ → List Report → RetransmitRequest → Span
+unfoldable pub asked_for : ℕ → List Report → RetransmitRequest → Option SeqRange
 unfolding ends_of
 asked_for W t q =
     span_from (high t)

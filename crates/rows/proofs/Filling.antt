@@ -1,5 +1,9 @@
 -- Commands written one after the other: a turn of the loop that writes them, and what a row leaves of the payload.
 use mathlib.Core.Path.{◌≡◌, refl, sym, ap, ◌∙◌}
+use Rattle.std.proofs.Common.{Result, Ok, Err}
+use Rattle.std.specs.Bool.{⊤}
+use Rattle.std.specs.Int.{from_bool}
+use Rattle.std.specs.Result.{is_ok}
 use mathlib.Core.Bool.{Bool, true, false, ◌&&◌}
 use mathlib.Core.Logic.{inl, inr}
 use mathlib.Core.List.{List, [], ◌∷◌}
@@ -14,8 +18,6 @@ use Rattle.config.specs.declared.refusal.Refusal.{Refusal}
 use Rattle.packet.specs.Layout.{Packet, size_of}
 use Rattle.packet.specs.Write.{valid_of as payload_valid, limit_of, start_of, done_of, placed_of, written_of, WriteEnds, refused, done}
 use Rattle.packet.specs.declared.writer.PayloadWriter.{PayloadWriter}
-use Rattle.config.specs.declared.answer.Outcome.{Outcome}
-use Rattle.config.specs.declared.answer.Outcome.TheVariants.{Done, Refused}
 use Rattle.packet.specs.declared.writer.Wrote.{Wrote}
 use Rattle.packet.proofs.Outcomes.{outcome, valid_max, written_valid, written_length}
 use Rattle.command.specs.Write.{error_packet, error_written}
@@ -42,16 +44,16 @@ module _ (p : PayloadWriter) (b bytes : List ℕ) (c : Packet) (w : Wrote) (put 
   unfolding row_of
   first cs = rw (← put)
 
-  pub row_done : (n : ℕ) (cs : List Packet) → w.answer ≡ Done → also n (row_of p b (c ∷ cs)) ≡ also (n + 1) (row_of w.payload bytes cs)
+  pub row_done : (n : ℕ) (cs : List Packet) → w.answer ≡ Ok tt → also n (row_of p b (c ∷ cs)) ≡ also (n + 1) (row_of w.payload bytes cs)
   row_done n cs e =
       let r = row_of w.payload bytes cs in
       let s : n + (1 + r.written) ≡ n + 1 + r.written = omega arith in
-      ap (also n) (first cs) ∙ ap (λ (a : Outcome). also n (one_more a w.payload bytes r)) e ∙ ap (λ (m : ℕ). row_with r.payload r.bytes m r.whole) s
+      ap (also n) (first cs) ∙ ap (λ (a : Result ⊤ Refusal). also n (one_more a w.payload bytes r)) e ∙ ap (λ (m : ℕ). row_with r.payload r.bytes m r.whole) s
 
-  pub row_stop : (n : ℕ) (cs : List Packet) (why : Refusal) → w.answer ≡ Refused why → also n (row_of p b (c ∷ cs)) ≡ row_with w.payload bytes n false
+  pub row_stop : (n : ℕ) (cs : List Packet) (why : Refusal) → w.answer ≡ Err why → also n (row_of p b (c ∷ cs)) ≡ row_with w.payload bytes n false
   row_stop n cs why e =
       let s : n + 0 ≡ n = omega arith in
-      ap (also n) (first cs) ∙ ap (λ (a : Outcome). also n (one_more a w.payload bytes (row_of w.payload bytes cs))) e ∙ ap (λ (m : ℕ). row_with w.payload bytes m false) s
+      ap (also n) (first cs) ∙ ap (λ (a : Result ⊤ Refusal). also n (one_more a w.payload bytes (row_of w.payload bytes cs))) e ∙ ap (λ (m : ℕ). row_with w.payload bytes m false) s
 
   -- what one command leaves
   pub one_valid : payload_valid p (length b) ≡ true → payload_valid w.payload (length bytes) ≡ true
@@ -66,11 +68,15 @@ row_end p b n = let s : n + 0 ≡ n = omega arith in rw s
 
 -- ---- one command as a row
 module _ (p : PayloadWriter) (b bytes : List ℕ) (c : Packet) (w : Wrote) (put : (w, bytes) ≡ written_of p b c) where
-  pub row_one : w.answer ≡ Done → row_of p b (c ∷ []) ≡ row_with w.payload bytes 1 true
+  pub row_one : w.answer ≡ Ok tt → row_of p b (c ∷ []) ≡ row_with w.payload bytes 1 true
   row_one e = sym (also_none (row_of p b (c ∷ []))) ∙ row_done p b bytes c w put 0 [] e ∙ row_end w.payload bytes 1
 
-  pub row_none : (why : Refusal) → w.answer ≡ Refused why → row_of p b (c ∷ []) ≡ row_with w.payload bytes 0 false
+  pub row_none : (why : Refusal) → w.answer ≡ Err why → row_of p b (c ∷ []) ≡ row_with w.payload bytes 0 false
   row_none why e = sym (also_none (row_of p b (c ∷ []))) ∙ row_stop p b bytes c w put 0 [] why e
+
+  pub row_answered : (a : Result ⊤ Refusal) (whole : Bool) (n : ℕ) → w.answer ≡ a → whole ≡ is_ok a → n ≡ from_bool whole → row_of p b (c ∷ []) ≡ row_with w.payload bytes n whole
+  row_answered (Ok v) whole n e t f = rw (f, t) (row_one e)
+  row_answered (Err why) whole n e t f = rw (f, t) (row_none why e)
 
 -- an error whose reason is a defined one
 pub error_written_lem : (e : RetransmitError) (p : PayloadWriter) (b : List ℕ) → payload_valid p (length b) ≡ true → e.reason ≤ 1 → error_written e p b ≡ written_of p b (error_packet e)
@@ -82,11 +88,11 @@ module _ (p : PayloadWriter) (b bytes ring : List ℕ) (i k n : ℕ) (w : Wrote)
   here : packets_from (k - n) ring i ≡ entry_packet ring i ∷ packets_from (k - (n + 1)) ring (next_at ring i)
   here = let e : k - n - 1 ≡ k - (n + 1) = omega arith in rw e at (packets_first (k - n) ring i (omega arith))
 
-  pub entries_done : (at : ℕ) (z : Row) → w.answer ≡ Done → at ≡ next_at ring i → also n (row_of p b (packets_from (k - n) ring i)) ≡ z
+  pub entries_done : (at : ℕ) (z : Row) → w.answer ≡ Ok tt → at ≡ next_at ring i → also n (row_of p b (packets_from (k - n) ring i)) ≡ z
       → also (n + 1) (row_of w.payload bytes (packets_from (k - (n + 1)) ring at)) ≡ z
   entries_done at z a e inv = rw e (sym (row_done p b bytes (entry_packet ring i) w put n _ a) ∙ rw here at inv)
 
-  pub entries_stop : (z : Row) (why : Refusal) → w.answer ≡ Refused why → also n (row_of p b (packets_from (k - n) ring i)) ≡ z → z ≡ row_with w.payload bytes n false
+  pub entries_stop : (z : Row) (why : Refusal) → w.answer ≡ Err why → also n (row_of p b (packets_from (k - n) ring i)) ≡ z → z ≡ row_with w.payload bytes n false
   entries_stop z why a inv = sym (rw here at inv) ∙ row_stop p b bytes (entry_packet ring i) w put n _ why a
 
   pub entries_short : (at : ℕ) → at ≡ next_at ring i → Short (entries_from (k - n) ring i) → Short (entries_from (k - (n + 1)) ring at)

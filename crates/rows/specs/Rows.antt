@@ -1,10 +1,9 @@
 -- 01, "Write the stream": commands one after the other, up to the first that doesn't fit.
-use Rattle.std.specs.Prelude.{ℕ, zero, suc, ◌+◌, ◌≤◌, ◌<◌, Bool, true, false, ◌||◌, List, [], ◌∷◌, length, leb, ltb}
+use Rattle.std.specs.Prelude.{ℕ, zero, suc, ◌+◌, ◌≤◌, ◌<◌, Bool, true, false, ◌||◌, List, [], ◌∷◌, length, leb, ltb, Result, Ok, Err, ⊤}
+use Rattle.config.specs.declared.refusal.Refusal.{Refusal}
 use Rattle.packet.specs.Layout.{Packet, size_of}
 use Rattle.packet.specs.Write.{limit_of, start_of, written_of}
 use Rattle.packet.specs.declared.writer.PayloadWriter.{PayloadWriter}
-use Rattle.config.specs.declared.answer.Outcome.{Outcome}
-use Rattle.config.specs.declared.answer.Outcome.TheVariants.{Done, Refused}
 use Rattle.history.specs.Headers.{next_at, entries_from}
 use Rattle.history.specs.Entries.{Short}
 use Rattle.history.specs.Written.{entry_packet}
@@ -22,9 +21,9 @@ pub record Row : Type 0 where
 abbrev pub leaving : Left → List ℕ → Row
 leaving r b = record { payload = r.payload; bytes = b; written = r.written; whole = r.whole }
 
-abbrev pub one_more : Outcome → PayloadWriter → List ℕ → Row → Row
-one_more Done p b r = record { payload = r.payload; bytes = r.bytes; written = 1 + r.written; whole = r.whole }
-one_more (Refused why) p b r = record { payload = p; bytes = b; written = 0; whole = false }
+abbrev pub one_more : Result ⊤ Refusal → PayloadWriter → List ℕ → Row → Row
+one_more (Ok _) p b r = record { payload = r.payload; bytes = r.bytes; written = 1 + r.written; whole = r.whole }
+one_more (Err why) p b r = record { payload = p; bytes = b; written = 0; whole = false }
 
 unfoldable pub row_of : PayloadWriter → List ℕ → List Packet → Row
 row_of p b [] = record { payload = p; bytes = b; written = 0; whole = true }

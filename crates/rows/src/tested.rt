@@ -9,8 +9,7 @@ ghost use Rattle.rows.specs.Choice.{Chosen};
 
 use super::rows::{Repeated, Row, Walked};
 use command::retransmit::RetransmitError;
-use config::answer::Outcome;
-use packet::writer::PayloadWriter;
+use packet::writer::{PayloadWriter, Wrote};
 
 // Writes `k` entries of the history from the header at `at` on.
 pub fn write_entries(p: PayloadWriter, buf: &mut [u8], ring: &[u32], at: usize, k: usize) -> Row
@@ -19,28 +18,26 @@ pub fn write_entries(p: PayloadWriter, buf: &mut [u8], ring: &[u32], at: usize, 
 {
     let mut q = p;
     let mut i = at;
-    let mut n = 0;
-    while n < k {
+    for n in 0..k {
         let wrote = history::tested::write_entry(q, buf, ring, i);
         let answer = wrote.answer;
         q = wrote.payload;
         match answer {
-            Outcome::Refused(_) => {
+            Err(_) => {
                 return Row {
                     payload: q,
                     written: n,
                     whole: false,
                 };
             }
-            Outcome::Done => {
+            Ok(()) => {
                 i = history::tested::next_index(ring, i);
-                n += 1;
             }
         }
     }
     Row {
         payload: q,
-        written: n,
+        written: k,
         whole: true,
     }
 }
@@ -50,20 +47,12 @@ pub fn write_error(err: RetransmitError, p: PayloadWriter, buf: &mut [u8]) -> Ro
     requires { (valid_of p (length buf.old) ≡ true) × (err.reason ≤ 1) }
     ensures { row_of p buf.old (error_packet err ∷ []) ≡ leaving result buf.new }
 {
-    let wrote = command::tested::write_error(err, p, buf);
-    let payload = wrote.payload;
-    let answer = wrote.answer;
-    match answer {
-        Outcome::Done => Row {
-            payload,
-            written: 1,
-            whole: true,
-        },
-        Outcome::Refused(_) => Row {
-            payload,
-            written: 0,
-            whole: false,
-        },
+    let Wrote { payload, answer } = command::tested::write_error(err, p, buf);
+    let whole = answer.is_ok();
+    Row {
+        payload,
+        written: usize::from(whole),
+        whole,
     }
 }
 
@@ -74,11 +63,9 @@ pub fn walk(ring: &[u32], at: usize, k: usize) -> Walked
 {
     let mut i = at;
     let mut words = 0;
-    let mut left = k;
-    while 0 < left {
+    for _ in 0..k {
         words += 1 + history::tested::pl(ring, i);
         i = history::tested::next_index(ring, i);
-        left -= 1;
     }
     Walked { at: i, words }
 }
@@ -102,6 +89,7 @@ pub fn repeats(
     let mut i = at;
     let mut count = k;
     let mut left = words;
+    // A `while`: entries are dropped by the words that are left, not by their count.
     while room < left {
         left -= 1 + history::tested::pl(ring, i);
         i = history::tested::next_index(ring, i);

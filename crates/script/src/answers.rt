@@ -1,11 +1,13 @@
 // What a call answers, as an entry of a table of answers and its figures. Answers of one kind of call stand in
-// the table in the order of the numbers that C has for them.
+// the table in the order of the numbers that C has for them: `entry_of` in specs/ and the contracts of `made_calls`
+// have the entries as numbers.
 ghost use Rattle.std.specs.Prelude.{◌≡◌};
 ghost use Rattle.script.specs.Answers.{entry_of, refused_by, unless_refused};
 
 use std::io;
 use text::forms;
 use text::forms::Answer;
+use text::out::Output;
 
 // The entries of the table in `say`, in its order.
 pub const BAD: usize = 0;
@@ -47,11 +49,9 @@ pub const NO_GAP: usize = 27;
 pub const GAP: usize = 28;
 
 // Prints an answer.
-pub fn say(rt: &impl Print, out: &mut [u8], used: usize, answer: Answer) -> io::Result<usize> {
+pub fn say(out: &mut Output<'_, impl Print>, answer: Answer) -> io::Result<()> {
     forms::say(
-        rt,
         out,
-        used,
         b"bad|ok|refused #||#|ok # # #|\
         queued|pending|full|error # #|notsupported|ok 0|ok 1|more|none|#|\
         N # # # |L # # # |D # # # - 0|none|loss # #|loss # #|error|\
@@ -72,20 +72,18 @@ pub fn of(form: usize, a: u64, b: u64, c: u64) -> Answer
 {
     Answer {
         form,
-        a,
-        b,
-        c,
-        d: 0,
+        figures: [a, b, c, 0],
     }
 }
 
 pub fn refused(number: u8) -> Answer
     ensures { result ≡ refused_by number }
 {
-    of(REFUSED, number as u64, 0, 0)
+    of(REFUSED, u64::from(number), 0, 0)
 }
 
 // The answer, where the call was not refused.
+#[tactic(auto, unfolding(crate::specs::Answers::unless_refused))]
 pub fn made(refusal: u8, answer: Answer) -> Answer
     ensures { result ≡ unless_refused refusal answer }
 {
@@ -106,11 +104,4 @@ pub fn figure(refusal: u8, n: u64) -> Answer
     ensures { result ≡ unless_refused refusal (entry_of 4 n 0 0) }
 {
     made(refusal, of(FIGURE, n, 0, 0))
-}
-
-pub fn bit(is: bool) -> u64 {
-    if is {
-        return 1;
-    }
-    0
 }

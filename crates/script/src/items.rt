@@ -1,96 +1,108 @@
 // What reading a payload finds, as text, the parts of an item joined by colons.
-use super::answers::of;
+ghost use Rattle.std.specs.Prelude.{◌≡◌, ◌≢◌, ◌↔◌, IsNone, Some};
+
+use command::retransmit::{RetransmitError, RetransmitRequest};
 use read_command::next::Read;
 use std::io;
-use text::forms::Answer;
-use text::{forms, out};
+use std::io::Write;
+use text::out::Output;
 
-// The entries of the table in `say`, in its order, which is that of their numbers: 0 is the payload's end.
-const CUT: u8 = 1;
-
-const RAW: u8 = 2;
-
-pub const DATA: u8 = 3;
-
-pub const REQUEST: u8 = 4;
-
-pub const ERROR: u8 = 5;
-
-const REFUSED: usize = 6;
-
-fn say(rt: &impl Print, to: &mut [u8], used: usize, answer: Answer) -> io::Result<usize> {
-    forms::say(
-        rt,
-        to,
-        used,
-        b"|cut:%:%:%:%|raw:%:%:%:|data:#:|request:#:#|error:#:#|refused:#|",
-        answer,
-    )
+// Data: its number, its words, and how many of them are in whole messages.
+#[derive(Clone, Copy)]
+pub struct DataItem {
+    pub seq: u16,
+    pub len: u8,
+    pub count: u16,
 }
 
-// Whether the payload ends there.
-pub fn ends(r: Read) -> bool {
-    if r.refusal == 0 {
-        return r.kind == 0;
-    }
-    false
+// A command of any other code, or one that is cut.
+#[derive(Clone, Copy)]
+pub struct RawItem {
+    pub code: u8,
+    pub len: u8,
+    pub csd: u16,
 }
 
-// A command as its name and figures; words follow for data and raw.
-fn named(r: Read) -> Answer {
-    let kind = r.kind;
-    let high = (r.seq / 0x100) as u64;
-    let low = (r.seq % 0x100) as u64;
+// What stands at a place of a payload.
+#[derive(Clone, Copy)]
+pub enum Item {
+    Cut(RawItem),
+    Raw(RawItem),
+    Data(DataItem),
+    Request(RetransmitRequest),
+    Error(RetransmitError),
+    // By its number.
+    Refused(u8),
+}
+
+// What was read at a place, none at the payload's end. `Read` is C's, and its kinds are numbers.
+pub fn found(r: Read) -> Option<Item>
+    ensures end { IsNone result ↔ ((r.refusal ≡ 0) × (r.kind ≡ 0)) }
+    ensures refused { r.refusal ≢ 0 → result ≡ Some (Item.Refused r.refusal) }
+{
     if r.refusal != 0 {
-        return of(REFUSED, r.refusal as u64, 0, 0);
+        return Some(Item::Refused(r.refusal));
     }
-    match kind {
-        CUT => Answer {
-            form: kind as usize,
-            a: r.code as u64,
-            b: r.len as u64,
-            c: high,
-            d: low,
-        },
-        RAW => of(kind as usize, r.code as u64, high, low),
-        ERROR => of(kind as usize, r.code as u64, r.seq as u64, 0),
-        _ => of(kind as usize, r.seq as u64, r.count as u64, 0),
+    let raw = RawItem {
+        code: r.code,
+        len: r.len,
+        csd: r.seq,
+    };
+    match r.kind {
+        0 => None,
+        1 => Some(Item::Cut(raw)),
+        2 => Some(Item::Raw(raw)),
+        3 => Some(Item::Data(DataItem {
+            seq: r.seq,
+            len: r.len,
+            count: r.count,
+        })),
+        4 => Some(Item::Request(RetransmitRequest {
+            seq: r.seq,
+            count: r.count,
+        })),
+        _ => Some(Item::Error(RetransmitError {
+            reason: r.code,
+            seq: r.seq,
+        })),
     }
 }
 
-pub fn item(
-    rt: &impl Print,
-    to: &mut [u8],
-    used: usize,
-    r: Read,
-    words: &[u32],
-) -> io::Result<usize> {
-    let o = say(rt, to, used, named(r))?;
-    let kind = r.kind;
-    match kind {
-        DATA => handed(rt, to, o, r, words, b':'),
-        RAW => out::words(rt, to, o, words, 0, r.len as usize),
-        _ => Ok(o),
+// An item; words follow for data and raw.
+pub fn show(out: &mut Output<'_, impl Print>, item: Item, words: &[u32]) -> io::Result<()> {
+    match item {
+        Item::Cut(c) => {
+            let csd = c.csd.to_be_bytes();
+            write!(
+                out,
+                "cut:{:02X}:{:02X}:{:02X}:{:02X}",
+                c.code, c.len, csd[0], csd[1]
+            )
+        }
+        Item::Raw(c) => {
+            let csd = c.csd.to_be_bytes();
+            write!(out, "raw:{:02X}:{:02X}:{:02X}:", c.code, csd[0], csd[1])?;
+            out.words(words, 0, usize::from(c.len))
+        }
+        Item::Data(d) => {
+            write!(out, "data:{}:", d.seq)?;
+            handed(out, d, words, b':')
+        }
+        Item::Request(q) => write!(out, "request:{}:{}", q.seq, q.count),
+        Item::Error(e) => write!(out, "error:{}:{}", e.reason, e.seq),
+        Item::Refused(number) => write!(out, "refused:{number}"),
     }
 }
 
 // The words of a data command's whole messages, and whether they end inside a message.
 pub fn handed(
-    rt: &impl Print,
-    to: &mut [u8],
-    used: usize,
-    r: Read,
+    out: &mut Output<'_, impl Print>,
+    data: DataItem,
     words: &[u32],
     between: u8,
-) -> io::Result<usize> {
-    let one = out::words(rt, to, used, words, 0, r.count as usize)?;
-    let two = out::byte(rt, to, one, between)?;
-    out::decimal(rt, to, two, cut(r))
-}
-
-fn cut(r: Read) -> u64 {
-    if r.count < r.len as u16 {
-        return 1;
-    }
-    0
+) -> io::Result<()> {
+    out.words(words, 0, usize::from(data.count))?;
+    out.byte(between)?;
+    let cut = data.count < u16::from(data.len);
+    out.decimal(u64::from(cut))
 }

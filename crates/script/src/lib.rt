@@ -2,9 +2,8 @@
 // line. What a line says and what an answer prints stand here; the crate `made_calls` makes the calls, for the
 // program `replay`. docs/CALLS.md has every call with its answers, and an example of each.
 //
-//   calls     the calls by name, their fields and words     session          what is held between two calls
-//   answers   each answer as an entry of a table            state, windows   a stream's state and its window as text
-//   items     what reading a payload finds, as text
+//   calls     the calls by name, their fields and words     state, windows   a stream's state and its window as text
+//   answers   each answer as an entry of a table            items            what reading a payload finds, as text
 //
 //   settings  cfg T1 G K R X D M SIZE              start     new W C Q, reset
 //   send      queue WORD.., request NUMBER COUNT   write     write NOW, take
@@ -35,6 +34,5 @@
 pub mod answers;
 pub mod calls;
 pub mod items;
-pub mod session;
 pub mod state;
 pub mod windows;

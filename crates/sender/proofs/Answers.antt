@@ -1,5 +1,8 @@
 -- The answers of the entry points, each from the tests that lead to it.
 use mathlib.Core.Path.{◌≡◌, ap}
+use Rattle.std.proofs.Common.{Ok}
+use Rattle.sender.specs.declared.sender.SenderAnswer.{SenderAnswer}
+use Rattle.std.specs.Bool.{⊤}
 use mathlib.Core.Bool.{true, false}
 use mathlib.Core.List.{List}
 use Prim.Native.Nat.{ℕ, ◌≤◌}
@@ -7,16 +10,13 @@ use lib.ListN.{length}
 use borrow.Author.Tests.{eq-eqb, ne_eqb}
 use Rattle.config.specs.Range.{outside}
 use Rattle.config.specs.declared.refusal.Refusal.TheVariants.{InvalidState}
-use Rattle.config.specs.declared.answer.Outcome.TheVariants.{Done}
 use Rattle.config.specs.inner.Ranges.{not_outside}
 use Rattle.sender.specs.State.{valid_of, start_of, reset_of}
 use Rattle.sender.specs.Answers.{not_started, new_answer, reset_refused, reset_answer}
 use Rattle.sender.specs.declared.sender.Sender.{Sender}
-use Rattle.sender.specs.declared.sender.Started.{Started}
-use Rattle.sender.specs.declared.sender.WasReset.{WasReset}
 
 -- ---- starting
-module _ (words places : ℕ) (ring : List ℕ) (r : Started) where
+module _ (words places : ℕ) (ring : List ℕ) (r : SenderAnswer ⊤) where
   module _ (n : r ≡ not_started) where
     pub new_words : outside 65 32768 words ≡ true → (r, ring) ≡ new_answer words places ring
     unfolding new_answer
@@ -40,7 +40,7 @@ sizes_fit words places n w l p =
 
 pub new_done : (words places : ℕ) (ring after : List ℕ) (s : Sender) → outside 65 32768 words ≡ false → length ring ≡ words → outside 1 16 places ≡ false
     → (s, after) ≡ start_of words places ring
-    → ◌≡◌ {A = Started × List ℕ} (record { sender = s; answer = Done }, after) (new_answer words places ring)
+    → ◌≡◌ {A = SenderAnswer ⊤ × List ℕ} (record { sender = s; answer = Ok tt }, after) (new_answer words places ring)
 unfolding new_answer
 new_done words places ring after s w l p e =
     let one = ap (λ (x : Sender × List ℕ). x.0) e in
@@ -56,7 +56,7 @@ module _ (s : Sender) (ring : List ℕ) where
 
   module _ (v : valid_of s ring ≡ true) where
     pub reset_done : (next : Sender) (after : List ℕ) → (next, after) ≡ reset_of s ring
-        → ◌≡◌ {A = WasReset × List ℕ} (record { sender = next; answer = Done }, after) (reset_answer s ring)
+        → ◌≡◌ {A = SenderAnswer ⊤ × List ℕ} (record { sender = next; answer = Ok tt }, after) (reset_answer s ring)
     unfolding reset_answer
     reset_done next after e =
         let one = ap (λ (x : Sender × List ℕ). x.0) e in

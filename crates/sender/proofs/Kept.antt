@@ -1,5 +1,8 @@
 -- What a request and queued words leave passes the state test.
 use mathlib.Core.Path.{◌≡◌, refl}
+use Rattle.std.proofs.Common.{Result, Ok, Err}
+use Rattle.config.specs.declared.refusal.Refusal.{Refusal}
+use Rattle.std.specs.Bool.{⊤}
 use mathlib.Core.Bool.{Bool, true, false, cond, not}
 use mathlib.Core.List.{List, [], ◌∷◌}
 use Prim.Native.Nat.{ℕ, suc, ◌+◌, ◌-◌, ◌≤◌, ◌<◌}
@@ -11,8 +14,6 @@ use Rattle.config.specs.Settings.{tested}
 use Rattle.config.specs.Sequence.{turn}
 use Rattle.config.specs.declared.refusal.Refusal.TheVariants.{Full}
 use Rattle.config.specs.declared.settings.StreamConfig.{StreamConfig}
-use Rattle.config.specs.declared.answer.Outcome.{Outcome}
-use Rattle.config.specs.declared.answer.Outcome.TheVariants.{Done, Refused}
 use Rattle.command.specs.declared.retransmit.RetransmitRequest.{RetransmitRequest}
 use Rattle.history.specs.State.{state_ok}
 use Rattle.history.specs.Queue.{queue_ok, behind as behind_all_lem, asks, waiting, answered, push_answer}
@@ -22,7 +23,6 @@ use Rattle.history.specs.Entries.{size, Short}
 use Rattle.history.specs.declared.history.SendHistory.{SendHistory}
 use Rattle.history.specs.declared.queue.RetransmitQueue.{RetransmitQueue}
 use Rattle.history.specs.declared.queue.Ignored.TheVariants.{Pending, Full as NoPlace}
-use Rattle.history.specs.declared.queue.Push.TheVariants.{Queued as PushQueued, Ignored as PushIgnored}
 use Rattle.history.proofs.Effects.{popped_size}
 use Rattle.history.proofs.Queues.{queue_fit, fit_queue}
 use Rattle.history.proofs.Reached.{pushed_state}
@@ -44,7 +44,7 @@ unfolding push_answer
 pushed_queue q r ok = by (asks (waiting q) r.seq) (leb q.size q.len) refl
   where
     by : (a b : Bool) → leb q.size q.len ≡ b
-        → queue_ok (cond a (answered q (PushIgnored Pending)) (cond b (answered q (PushIgnored NoPlace)) (answered (behind_all_lem q r) PushQueued))).queue ≡ true
+        → queue_ok (cond a (answered q (Err Pending)) (cond b (answered q (Err NoPlace)) (answered (behind_all_lem q r) (Ok tt)))).queue ≡ true
     by true b e = ok
     by false true e = ok
     by false false e =
@@ -59,7 +59,7 @@ request_kept s cfg ring r v = by cfg.retransmit (not_written s r.seq)
     pushed : valid_of (with_queue s (push_answer s.queue r).queue) ring ≡ true
     pushed = passes (with_queue s (push_answer s.queue r).queue) ring (valid_history s ring v) (pushed_queue s.queue r (valid_queue s ring v)) (valid_idle s ring v)
 
-    by : (a b : Bool) → valid_of (cond (not a) (told s NotSupported) (cond b (told s (Error (not_in_buffer s))) (queued_by s (push_answer s.queue r)))).sender ring ≡ true
+    by : (a b : Bool) → valid_of (cond (not a) (told s (Ok NotSupported)) (cond b (told s (Ok (Error (not_in_buffer s)))) (queued_by s (push_answer s.queue r)))).sender ring ≡ true
     by false b = v
     by true true = v
     by true false = pushed
@@ -145,8 +145,8 @@ module _ (s : Sender) (ring : List ℕ) (max : ℕ) (ws : List ℕ) (v : valid_o
   unfolding sent_of
   sent_kept = by (eqb (length ws) 0) (words_check max ws) refl
     where
-      by : (t : Bool) (k : Outcome) → words_check max ws ≡ k
-          → valid_of (cond t (sent s Done, ring) (tested k (unsent s ring) (placed_of s ring max ws))).0.sender (cond t (sent s Done, ring) (tested k (unsent s ring) (placed_of s ring max ws))).1 ≡ true
+      by : (t : Bool) (k : Result ⊤ Refusal) → words_check max ws ≡ k
+          → valid_of (cond t (sent s (Ok tt), ring) (tested k (unsent s ring) (placed_of s ring max ws))).0.sender (cond t (sent s (Ok tt), ring) (tested k (unsent s ring) (placed_of s ring max ws))).1 ≡ true
       by true k e = v
-      by false (Refused why) e = v
-      by false Done e = placed_kept (check_divides max ws e)
+      by false (Err why) e = v
+      by false (Ok _) e = placed_kept (check_divides max ws e)

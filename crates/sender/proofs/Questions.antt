@@ -1,10 +1,12 @@
 -- The answers of the calls that queue nothing, each from the tests that lead to it.
 use mathlib.Core.Path.{◌≡◌, ap}
+use Rattle.std.proofs.Common.{None, Result, Ok}
+use Rattle.config.specs.declared.refusal.Refusal.{Refusal}
 use mathlib.Core.Bool.{true, false}
 use mathlib.Core.List.{List}
 use Prim.Native.Nat.{ℕ, ◌-◌, ◌%◌, ◌≤◌, ◌<◌}
 use native.Mathlib.Omega.{arith}
-use borrow.Author.Tests.{lt-ltb, le-ltb, le-leb, lt-leb, eq-eqb, ne_eqb}
+use borrow.Author.Tests.{le-leb, lt-leb, eq-eqb, ne_eqb}
 use Rattle.config.specs.Sequence.{after, ahead}
 use Rattle.config.specs.declared.settings.StreamConfig.{StreamConfig}
 use Rattle.command.specs.declared.retransmit.RetransmitRequest.{RetransmitRequest}
@@ -13,19 +15,16 @@ use Rattle.history.specs.Queue.{none_wait, push_answer}
 use Rattle.history.specs.declared.history.SendHistory.{SendHistory}
 use Rattle.history.specs.declared.queue.RetransmitQueue.{RetransmitQueue}
 use Rattle.history.specs.declared.queue.Pushed.{Pushed}
-use Rattle.idle.specs.Schedule.{is_due}
-use Rattle.idle.specs.declared.idle.IdleTimer.TheVariants.{Off}
 use Rattle.sender.specs.State.{start_of}
-use Rattle.sender.specs.Requests.{written_count, not_in_buffer, with_queue, told, outcome_of, requested_of, due_at, deadline_of, wants_of, next_of}
+use Rattle.sender.specs.Requests.{written_count, not_in_buffer, with_queue, told, outcome_of, requested_of, due_at, deadline_of, next_of}
 use Rattle.sender.specs.declared.sender.Sender.{Sender}
 use Rattle.sender.specs.declared.sender.RequestOutcome.{RequestOutcome}
 use Rattle.sender.specs.declared.sender.RequestOutcome.TheVariants.{Error, NotSupported}
-use Rattle.config.specs.declared.answer.Deadline.TheVariants.{Nothing}
 
 -- ---- a start
 pub start_made : (words places : ℕ) (ring after : List ℕ) (h : SendHistory) (q : RetransmitQueue)
     → (h, after) ≡ cleared words ring → q ≡ none_wait places
-    → (record { history = h; queue = q; unsent = 0; unsent_words = 0; idle = Off }, after) ≡ start_of words places ring
+    → (record { history = h; queue = q; unsent = 0; unsent_words = 0; idle = None }, after) ≡ start_of words places ring
 start_made words places ring after h q c f =
     let one = ap (λ (x : SendHistory × List ℕ). x.0) c in
     let two = ap (λ (x : SendHistory × List ℕ). x.1) c in
@@ -33,16 +32,16 @@ start_made words places ring after h q c f =
 
 -- ---- a received request
 module _ (s : Sender) (cfg : StreamConfig) (r : RetransmitRequest) where
-  pub request_off : cfg.retransmit ≡ false → told s NotSupported ≡ requested_of s cfg r
+  pub request_off : cfg.retransmit ≡ false → told s (Ok NotSupported) ≡ requested_of s cfg r
   unfolding requested_of
   request_off e = rw e
 
   module _ (on : cfg.retransmit ≡ true) (k : ℕ) (e : k ≡ ahead s.history.oldest r.seq) where
-    pub request_error : written_count s ≤ k → told s (Error (not_in_buffer s)) ≡ requested_of s cfg r
+    pub request_error : written_count s ≤ k → told s (Ok (Error (not_in_buffer s))) ≡ requested_of s cfg r
     unfolding requested_of
     request_error h = rw (on, ← e, le-leb _ _ h)
 
-    pub request_queued : k < written_count s → (p : Pushed) → p ≡ push_answer s.queue r → (o : RequestOutcome) → o ≡ outcome_of p.answer
+    pub request_queued : k < written_count s → (p : Pushed) → p ≡ push_answer s.queue r → (o : Result RequestOutcome Refusal) → o ≡ outcome_of p.answer
         → told (with_queue s p.queue) o ≡ requested_of s cfg r
     unfolding requested_of
     request_queued h p f o g = rw (on, ← e, lt-leb _ _ h, g, f)
@@ -53,23 +52,9 @@ module _ (s : Sender) where
   unfolding deadline_of
   deadline_idle e = rw (eq-eqb _ _ e)
 
-  pub deadline_none : (s.unsent ≡ 0 → ⊥) → Nothing ≡ deadline_of s
+  pub deadline_none : (s.unsent ≡ 0 → ⊥) → Ok None ≡ deadline_of s
   unfolding deadline_of
   deadline_none e = rw (ne_eqb _ _ e)
-
-  module _ (time : ℕ) where
-    pub wants_unsent : 0 < s.unsent → true ≡ wants_of s time
-    unfolding wants_of
-    wants_unsent h = rw (lt-ltb _ _ h)
-
-    module _ (none : s.unsent ≤ 0) where
-      pub wants_waiting : 0 < s.queue.len → true ≡ wants_of s time
-      unfolding wants_of
-      wants_waiting h = rw (le-ltb _ _ none, lt-ltb _ _ h)
-
-      pub wants_idle : s.queue.len ≤ 0 → is_due s.idle time ≡ wants_of s time
-      unfolding wants_of
-      wants_idle h = rw (le-ltb _ _ none, le-ltb _ _ h)
 
   pub next_number : (n : ℕ) → n ≡ after s.history.oldest ((s.history.count - s.unsent) % 65536) → n ≡ next_of s
   unfolding next_of

@@ -1,10 +1,13 @@
 -- Queueing: the room of the newest command, words that join, and the further commands.
 use mathlib.Core.Path.{◌≡◌, refl, sym, ap, ◌∙◌}
+use Rattle.std.proofs.Common.{Result, Ok, Err}
+use Rattle.std.specs.Bool.{⊤}
 use mathlib.Core.Bool.{Bool, true, false, cond, not}
 use mathlib.Core.List.{List, [], ◌∷◌}
 use Prim.Native.Nat.{ℕ, zero, suc, ◌+◌, ◌-◌, ◌≤◌, ◌<◌}
 use native.Mathlib.Omega.{arith}
-use lib.ListN.{length, take, drop, length-take}
+use lib.ListN.{length, take, drop, length-take, length-drop}
+use lib.Seq.{take_all}
 use lib.Dec.{leb, ltb, eqb}
 use mathlib.Core.Logic.{inl, inr}
 use borrow.Author.Tests.{lt-ltb, le-ltb, eq-eqb, ne_eqb, eqb-true, eqb-false, leb-true, not-false}
@@ -15,8 +18,6 @@ use Rattle.config.specs.Sequence.{turn}
 use Rattle.config.specs.declared.refusal.Refusal.{Refusal}
 use Rattle.config.specs.declared.refusal.Refusal.TheVariants.{CommandWords, InvalidUmpData, TooLarge, Full}
 use Rattle.config.specs.declared.settings.StreamConfig.{StreamConfig}
-use Rattle.config.specs.declared.answer.Outcome.{Outcome}
-use Rattle.config.specs.declared.answer.Outcome.TheVariants.{Done, Refused}
 use Rattle.command.specs.Messages.{whole_of}
 use Rattle.history.specs.Headers.{length_at}
 use Rattle.history.specs.State.{Good, state_ok}
@@ -31,7 +32,7 @@ use Rattle.history.proofs.Runs.{length_ring_stored}
 use Rattle.fronts.specs.Commands.{front, behind, commands_of, above}
 use Rattle.sender.specs.State.{valid_of}
 use Rattle.sender.specs.Queueing.{room_of, joining, further, need_of, joined_to, pushed_all, queued_to, holding, unsent, sent, words_check, placed_of, queued_of, sent_of}
-use Rattle.fronts.proofs.Fronts.{Divides, part_of, divides_behind, command_fits, commands_turn, commands_end, commands_at_lem}
+use Rattle.fronts.proofs.Fronts.{Divides, part_of, divides_behind, command_fits, command_rest, commands_turn, commands_end, commands_at_lem}
 use Rattle.sender.proofs.Validity.{valid_history, valid_unsent}
 use Rattle.sender.specs.declared.sender.Sender.{Sender}
 
@@ -62,37 +63,37 @@ joined_some h ring (w ∷ ws) e = refl
 
 -- ---- the tests of queued words
 module _ (max : ℕ) (ws : List ℕ) where
-  pub check_parts : whole_of ws ≡ false → Refused InvalidUmpData ≡ words_check max ws
+  pub check_parts : whole_of ws ≡ false → Err InvalidUmpData ≡ words_check max ws
   unfolding words_check
   check_parts w = rw w
 
-  pub check_long : whole_of ws ≡ true → (b : Bool) → b ≡ not (above max ws) → b ≡ false → Refused TooLarge ≡ words_check max ws
+  pub check_long : whole_of ws ≡ true → (b : Bool) → b ≡ not (above max ws) → b ≡ false → Err TooLarge ≡ words_check max ws
   unfolding words_check
   check_long w b e f = rw w (by (above max ws) (sym e ∙ f))
     where
-      by : (t : Bool) → not t ≡ false → Refused TooLarge ≡ cond t (Refused TooLarge) Done
+      by : (t : Bool) → not t ≡ false → Err TooLarge ≡ cond {A = Result ⊤ Refusal} t (Err TooLarge) (Ok tt)
       by true g = refl
       by false g = absurd (let y : ◌≡◌ {A = ℕ} 0 1 = cc in omega arith)
 
-  pub check_passed : whole_of ws ≡ true → (b : Bool) → b ≡ not (above max ws) → b ≡ true → Done ≡ words_check max ws
+  pub check_passed : whole_of ws ≡ true → (b : Bool) → b ≡ not (above max ws) → b ≡ true → Ok tt ≡ words_check max ws
   unfolding words_check
   check_passed w b e f = rw w (by (above max ws) (sym e ∙ f))
     where
-      by : (t : Bool) → not t ≡ true → Done ≡ cond t (Refused TooLarge) Done
+      by : (t : Bool) → not t ≡ true → Ok tt ≡ cond {A = Result ⊤ Refusal} t (Err TooLarge) (Ok tt)
       by true g = absurd (let y : ◌≡◌ {A = ℕ} 0 1 = cc in omega arith)
       by false g = refl
 
 -- ---- the answers of `send_ump`
 module _ (s : Sender) (ring : List ℕ) (max : ℕ) (ws : List ℕ) where
-  pub sent_none : length ws ≡ 0 → (sent s Done, ring) ≡ sent_of s ring max ws
+  pub sent_none : length ws ≡ 0 → (sent s (Ok tt), ring) ≡ sent_of s ring max ws
   unfolding sent_of
   sent_none e = rw (eq-eqb _ _ e)
 
-  pub sent_refused : (length ws ≡ 0 → ⊥) → (why : Refusal) → words_check max ws ≡ Refused why → unsent s ring why ≡ sent_of s ring max ws
+  pub sent_refused : (length ws ≡ 0 → ⊥) → (why : Refusal) → words_check max ws ≡ Err why → unsent s ring why ≡ sent_of s ring max ws
   unfolding sent_of
   sent_refused n why e = rw (ne_eqb _ _ n, e)
 
-  pub sent_placed : (length ws ≡ 0 → ⊥) → words_check max ws ≡ Done → placed_of s ring max ws ≡ sent_of s ring max ws
+  pub sent_placed : (length ws ≡ 0 → ⊥) → words_check max ws ≡ Ok tt → placed_of s ring max ws ≡ sent_of s ring max ws
   unfolding sent_of
   sent_placed n e = rw (ne_eqb _ _ n, e)
 
@@ -106,44 +107,47 @@ length_pushed : (h : SendHistory) (ring ws : List ℕ) → length (pushed h ring
 unfolding pushed
 length_pushed h ring ws = length_ring_stored _ ring _
 
-pub short_part : (at n max : ℕ) (xs : List ℕ) → n ≤ max → max ≤ 64 → length (take (at + n - at) xs) ≤ 64
-short_part at n max xs h k = simp length-take (omega arith)
+module _ (h g : SendHistory) (ring next : List ℕ) (max : ℕ) (ws : List ℕ) (n : ℕ)
+    (i : 0 < length ws) (d : Divides max ws) (e : n ≡ length (front max ws)) (few : max ≤ 64) where
+  pub push_fits : (1 ≤ n) × (n ≤ length ws) × (length (take n ws) ≤ 64)
+  push_fits = let f = command_fits max ws 0 n i d e in (f.0, omega (arith, f.1), simp length-take (omega (arith, f.2)))
 
-module _ (h g : SendHistory) (ring next : List ℕ) (max : ℕ) (ws : List ℕ) (at n : ℕ)
-    (i : at < length ws) (d : Divides max (drop at ws)) (e : n ≡ length (front max (drop at ws))) (few : max ≤ 64)
-    (good : Good h ring) (o : h.oldest < turn)
-    (p : (g, next) ≡ pushed h ring (take (at + n - at) (drop at ws))) where
-  one : g ≡ (pushed h ring (take n (drop at ws))).0
-  one = let s : at + n - at ≡ n = omega arith in rw s at (ap (λ (x : SendHistory × List ℕ). x.0) p)
+  -- what is left is the next command's rest
+  left_is : take (length ws - n) (drop n ws) ≡ drop (0 + n) ws
+  left_is = let z : 0 + n ≡ n = omega arith in rw z (take_all (length ws - n) (drop n ws) (simp length-drop (omega arith)))
 
-  two : next ≡ (pushed h ring (take n (drop at ws))).1
-  two = let s : at + n - at ≡ n = omega arith in rw s at (ap (λ (x : SendHistory × List ℕ). x.1) p)
+  pub push_left : Divides max (take (length ws - n) (drop n ws))
+  push_left = rw left_is (command_rest max ws 0 n i d e)
 
-  small : length (take n (drop at ws)) ≤ 64
-  small = simp length-take (omega (arith, command_fits max ws at n i d e))
+  module _ (good : Good h ring) (o : h.oldest < turn) (p : (g, next) ≡ pushed h ring (take n ws)) where
+    one : g ≡ (pushed h ring (take n ws)).0
+    one = ap (λ (x : SendHistory × List ℕ). x.0) p
 
-  pub push_good : Good g next × (g.oldest < turn)
-  push_good = rw (one, two) (pushed_good h ring (take n (drop at ws)) good o small)
+    two : next ≡ (pushed h ring (take n ws)).1
+    two = ap (λ (x : SendHistory × List ℕ). x.1) p
 
-  pub push_turn : (z : SendHistory × List ℕ) → pushed_all h ring (commands_of max (drop at ws)) ≡ z → pushed_all g next (commands_of max (drop (at + n) ws)) ≡ z
-  unfolding pushed_all
-  push_turn z inv = rw (one, two) (rw (commands_turn max ws at n i d e) at inv)
+    pub push_good : Good g next × (g.oldest < turn)
+    push_good = rw (one, two) (pushed_good h ring (take n ws) good o push_fits.2)
 
-  pub push_length : length next ≡ length ring
-  push_length = ap length two ∙ length_pushed h ring (take n (drop at ws))
+    pub push_turn : (z : SendHistory × List ℕ) → pushed_all h ring (commands_of max ws) ≡ z → pushed_all g next (commands_of max (take (length ws - n) (drop n ws))) ≡ z
+    unfolding pushed_all
+    push_turn z inv = rw (left_is, one, two) (rw (commands_turn max ws 0 n i d e) at inv)
 
-pub push_end : (g : SendHistory) (ring : List ℕ) (max : ℕ) (ws : List ℕ) (at : ℕ) (z : SendHistory × List ℕ) → length ws ≤ at
-    → pushed_all g ring (commands_of max (drop at ws)) ≡ z
+    pub push_length : length next ≡ length ring
+    push_length = ap length two ∙ length_pushed h ring (take n ws)
+
+pub push_end : (g : SendHistory) (ring : List ℕ) (max : ℕ) (ws : List ℕ) (z : SendHistory × List ℕ) → length ws ≤ 0
+    → pushed_all g ring (commands_of max ws) ≡ z
     → (g, ring) ≡ z
 unfolding pushed_all
-push_end g ring max ws at z h inv = rw (commands_end max ws at h) at inv
+push_end g ring max ws z h inv = rw (commands_end max ws 0 h) at inv
 
 -- ---- words that passed the tests
-pub check_divides : (max : ℕ) (ws : List ℕ) → words_check max ws ≡ Done → Divides max ws
+pub check_divides : (max : ℕ) (ws : List ℕ) → words_check max ws ≡ Ok tt → Divides max ws
 unfolding words_check
 check_divides max ws e = by (whole_of ws) (above max ws) refl refl e
   where
-    by : (w a : Bool) → whole_of ws ≡ w → above max ws ≡ a → cond (not w) (Refused InvalidUmpData) (cond a (Refused TooLarge) Done) ≡ Done → Divides max ws
+    by : (w a : Bool) → whole_of ws ≡ w → above max ws ≡ a → cond {A = Result ⊤ Refusal} (not w) (Err InvalidUmpData) (cond a (Err TooLarge) (Ok tt)) ≡ Ok tt → Divides max ws
     by true false f g h = record { whole = f; small = g }
     by true true f g h = absurd (let z : ◌≡◌ {A = ℕ} 0 1 = cc in omega arith)
     by false a f g h = absurd (let z : ◌≡◌ {A = ℕ} 0 1 = cc in omega arith)
@@ -152,11 +156,11 @@ pub split_divides : (max n split : ℕ) (ws : List ℕ) → Divides max ws → s
 unfolding behind
 split_divides max n split ws d e = rw e (divides_behind max n ws d)
 
-pub settings_few : (cfg : StreamConfig) → check_of cfg ≡ Done → cfg.max_command_words ≤ 64
+pub settings_few : (cfg : StreamConfig) → check_of cfg ≡ Ok tt → cfg.max_command_words ≤ 64
 unfolding check_of
 settings_few cfg e = by _ (outside 1 64 cfg.max_command_words) refl e
   where
-    by : (rest : Outcome) (t : Bool) → outside 1 64 cfg.max_command_words ≡ t → cond t (Refused CommandWords) rest ≡ Done → cfg.max_command_words ≤ 64
+    by : (rest : Result ⊤ Refusal) (t : Bool) → outside 1 64 cfg.max_command_words ≡ t → cond t (Err CommandWords) rest ≡ Ok tt → cfg.max_command_words ≤ 64
     by rest true f h = absurd (let z : ◌≡◌ {A = ℕ} 0 1 = cc in omega arith)
     by rest false f h = leb-true _ _ (and_right (leb 1 cfg.max_command_words) _ (not-false (within 1 64 cfg.max_command_words) f))
 
@@ -233,7 +237,7 @@ module _ (s : Sender) (ring : List ℕ) (max : ℕ) (ws : List ℕ) (room split 
   pub placed_queued : (j g : SendHistory) (next last : List ℕ) → whole_of ws ≡ true → length ws + k ≤ s.history.size - s.unsent_words
       → (j, next) ≡ joined_to s.history ring (take split ws)
       → (g, last) ≡ pushed_all j next (commands_of max (take (length ws - split) (drop split ws)))
-      → (sent (holding s g k (length ws + k)) Done, last) ≡ placed_of s ring max ws
+      → (sent (holding s g k (length ws + k)) (Ok tt), last) ≡ placed_of s ring max ws
   unfolding placed_of queued_of queued_to
   placed_queued j g next last w h p q =
       let front-room : take split ws ≡ front room ws = rw f (sym (part_of room ws w).part) in

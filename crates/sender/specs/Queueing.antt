@@ -1,17 +1,15 @@
 -- 01, "Queue words", over settings and a state that were tested.
-use Rattle.std.specs.Prelude.{ℕ, ◌+◌, ◌-◌, cond, not, List, [], ◌∷◌, length, ltb, eqb}
+use Rattle.std.specs.Prelude.{ℕ, ◌+◌, ◌-◌, cond, not, List, [], ◌∷◌, length, ltb, eqb, Result, Ok, Err, ⊤}
+use Rattle.sender.specs.declared.sender.SenderAnswer.{SenderAnswer}
 use Rattle.config.specs.Settings.{tested}
 use Rattle.config.specs.declared.refusal.Refusal.{Refusal}
 use Rattle.config.specs.declared.refusal.Refusal.TheVariants.{InvalidUmpData, TooLarge, Full}
-use Rattle.config.specs.declared.answer.Outcome.{Outcome}
-use Rattle.config.specs.declared.answer.Outcome.TheVariants.{Done, Refused}
 use Rattle.command.specs.Messages.{whole_of}
 use Rattle.history.specs.Headers.{length_at}
 use Rattle.history.specs.Push.{pushed, appended}
 use Rattle.history.specs.declared.history.SendHistory.{SendHistory}
 use Rattle.fronts.specs.Commands.{front, behind, commands_of, above}
 use Rattle.sender.specs.declared.sender.Sender.{Sender}
-use Rattle.sender.specs.declared.sender.Sent.{Sent}
 
 -- the words that the newest unwritten command still takes; none when nothing is unwritten
 unfoldable pub room_of : Sender → List ℕ → ℕ → ℕ
@@ -48,33 +46,33 @@ abbrev pub holding : Sender → SendHistory → ℕ → ℕ → Sender
 holding s h commands need =
     record { history = h; queue = s.queue; unsent = s.unsent + commands; unsent_words = s.unsent_words + need; idle = s.idle }
 
-abbrev pub sent : Sender → Outcome → Sent
+abbrev pub sent : Sender → Result ⊤ Refusal → SenderAnswer ⊤
 sent s a = record { sender = s; answer = a }
 
-abbrev pub unsent : Sender → List ℕ → Refusal → Sent × List ℕ
-unsent s ring why = (sent s (Refused why), ring)
+abbrev pub unsent : Sender → List ℕ → Refusal → SenderAnswer ⊤ × List ℕ
+unsent s ring why = (sent s (Err why), ring)
 
-unfoldable pub queued_of : Sender → List ℕ → ℕ → List ℕ → Sent × List ℕ
+unfoldable pub queued_of : Sender → List ℕ → ℕ → List ℕ → SenderAnswer ⊤ × List ℕ
 queued_of s ring max ws =
     let q = queued_to s ring max ws in
-    (sent (holding s q.0 (length (further s ring max ws)) (need_of s ring max ws)) Done, q.1)
+    (sent (holding s q.0 (length (further s ring max ws)) (need_of s ring max ws)) (Ok tt), q.1)
 
 -- 5 not whole messages; 3 a message above the set size
-unfoldable pub words_check : ℕ → List ℕ → Outcome
+unfoldable pub words_check : ℕ → List ℕ → Result ⊤ Refusal
 words_check max ws =
-    cond (not (whole_of ws)) (Refused InvalidUmpData)
-    (cond (above max ws) (Refused TooLarge)
-    Done)
+    cond (not (whole_of ws)) (Err InvalidUmpData)
+    (cond (above max ws) (Err TooLarge)
+    (Ok tt))
 
 -- 6 words and new headers exceed the history less unwritten words and their headers
-unfoldable pub placed_of : Sender → List ℕ → ℕ → List ℕ → Sent × List ℕ
+unfoldable pub placed_of : Sender → List ℕ → ℕ → List ℕ → SenderAnswer ⊤ × List ℕ
 placed_of s ring max ws =
     cond (ltb (s.history.size - s.unsent_words) (need_of s ring max ws)) (unsent s ring Full)
     (queued_of s ring max ws)
 
 -- an empty list is accepted and changes nothing
-unfoldable pub sent_of : Sender → List ℕ → ℕ → List ℕ → Sent × List ℕ
+unfoldable pub sent_of : Sender → List ℕ → ℕ → List ℕ → SenderAnswer ⊤ × List ℕ
 sent_of s ring max ws =
-    cond (eqb (length ws) 0) (sent s Done, ring)
+    cond (eqb (length ws) 0) (sent s (Ok tt), ring)
     (tested (words_check max ws) (unsent s ring)
     (placed_of s ring max ws))

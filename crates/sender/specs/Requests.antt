@@ -1,23 +1,20 @@
 -- 01, "History, repeats, idle": a received Retransmit Request, and what a caller asks of a sender; over settings and a state that were tested.
-use Rattle.std.specs.Prelude.{ℕ, ◌-◌, Bool, cond, not, ◌||◌, leb, ltb, eqb}
+use Rattle.std.specs.Prelude.{ℕ, ◌-◌, Bool, cond, not, ◌||◌, leb, ltb, eqb, Option, Some, None, Result, Ok, Err, ⊤}
+use Rattle.config.specs.declared.refusal.Refusal.{Refusal}
+use Rattle.idle.specs.declared.idle.Idle.{Idle}
+use Rattle.sender.specs.declared.sender.SenderAnswer.{SenderAnswer}
 use Rattle.config.specs.Sequence.{after, ahead}
 use Rattle.config.specs.declared.settings.StreamConfig.{StreamConfig}
 use Rattle.command.specs.declared.retransmit.RetransmitRequest.{RetransmitRequest}
 use Rattle.command.specs.declared.retransmit.RetransmitError.{RetransmitError}
 use Rattle.history.specs.Queue.{push_answer}
 use Rattle.history.specs.declared.queue.RetransmitQueue.{RetransmitQueue}
-use Rattle.history.specs.declared.queue.Push.{Push}
-use Rattle.history.specs.declared.queue.Push.TheVariants.{Queued as PushQueued, Ignored as PushIgnored}
+use Rattle.history.specs.declared.queue.Ignored.{Ignored as WhyIgnored}
 use Rattle.history.specs.declared.queue.Pushed.{Pushed}
 use Rattle.idle.specs.Schedule.{is_due}
-use Rattle.idle.specs.declared.idle.IdleTimer.{IdleTimer}
-use Rattle.idle.specs.declared.idle.IdleTimer.TheVariants.{Off, Waiting}
 use Rattle.sender.specs.declared.sender.Sender.{Sender}
 use Rattle.sender.specs.declared.sender.RequestOutcome.{RequestOutcome}
 use Rattle.sender.specs.declared.sender.RequestOutcome.TheVariants.{Queued, Ignored, Error, NotSupported}
-use Rattle.sender.specs.declared.sender.RequestHeard.{RequestHeard}
-use Rattle.config.specs.declared.answer.Deadline.{Deadline}
-use Rattle.config.specs.declared.answer.Deadline.TheVariants.{Nothing, At}
 
 -- how many commands are written: the oldest of those held
 abbrev pub written_count : Sender → ℕ
@@ -38,31 +35,31 @@ not_in_buffer s = record { reason = 1; seq = s.history.oldest }
 abbrev pub with_queue : Sender → RetransmitQueue → Sender
 with_queue s q = record { history = s.history; queue = q; unsent = s.unsent; unsent_words = s.unsent_words; idle = s.idle }
 
-abbrev pub told : Sender → RequestOutcome → RequestHeard
-told s o = record { sender = s; outcome = o }
+abbrev pub told : Sender → Result RequestOutcome Refusal → SenderAnswer RequestOutcome
+told s o = record { sender = s; answer = o }
 
-abbrev pub outcome_of : Push → RequestOutcome
-outcome_of PushQueued = Queued
-outcome_of (PushIgnored why) = Ignored why
+abbrev pub outcome_of : Result ⊤ WhyIgnored → Result RequestOutcome Refusal
+outcome_of (Ok _) = Ok Queued
+outcome_of (Err why) = Ok (Ignored why)
 
-abbrev pub queued_by : Sender → Pushed → RequestHeard
+abbrev pub queued_by : Sender → Pushed → SenderAnswer RequestOutcome
 queued_by s p = told (with_queue s p.queue) (outcome_of p.answer)
 
 -- First NotSupported if retransmits are off; the error for a number outside the written history; then Pending before Full, or queued.
-unfoldable pub requested_of : Sender → StreamConfig → RetransmitRequest → RequestHeard
+unfoldable pub requested_of : Sender → StreamConfig → RetransmitRequest → SenderAnswer RequestOutcome
 requested_of s cfg r =
-    cond (not cfg.retransmit) (told s NotSupported)
-    (cond (not_written s r.seq) (told s (Error (not_in_buffer s)))
+    cond (not cfg.retransmit) (told s (Ok NotSupported))
+    (cond (not_written s r.seq) (told s (Ok (Error (not_in_buffer s))))
     (queued_by s (push_answer s.queue r)))
 
 -- ---- questions
-abbrev pub due_at : IdleTimer → Deadline
-due_at Off = Nothing
-due_at (Waiting i) = At i.due
+abbrev pub due_at : Option Idle → Result (Option ℕ) Refusal
+due_at None = Ok None
+due_at (Some i) = Ok (Some i.due)
 
 -- no idle command is queued while a command is unwritten
-unfoldable pub deadline_of : Sender → Deadline
-deadline_of s = cond (eqb s.unsent 0) (due_at s.idle) Nothing
+unfoldable pub deadline_of : Sender → Result (Option ℕ) Refusal
+deadline_of s = cond (eqb s.unsent 0) (due_at s.idle) (Ok None)
 
 -- an unwritten command, a request that waits, or an idle command that is due
 unfoldable pub wants_of : Sender → ℕ → Bool

@@ -1,9 +1,8 @@
 -- 01, "State test": the sender's part of number 13; "Start": a start and a reset.
-use Rattle.std.specs.Prelude.{ℕ, Bool, ◌&&◌, List, length, replicate}
+use Rattle.std.specs.Prelude.{ℕ, Bool, ◌&&◌, List, length, replicate, None}
 use Rattle.history.specs.State.{fresh as none_held, state_ok}
 use Rattle.history.specs.Queue.{none_wait, queue_ok}
 use Rattle.idle.specs.Schedule.{idle_ok}
-use Rattle.idle.specs.declared.idle.IdleTimer.TheVariants.{Off}
 use Rattle.sender.specs.declared.sender.Sender.{Sender}
 
 -- the state test: the history's, the request queue's and the idle schedule's part
@@ -13,7 +12,7 @@ valid_of s ring = state_ok s.history ring s.unsent s.unsent_words && (queue_ok s
 -- a start: nothing held, nothing waits, and the next number is 0
 abbrev pub fresh : ℕ → ℕ → Sender
 fresh words places =
-    record { history = none_held words; queue = none_wait places; unsent = 0; unsent_words = 0; idle = Off }
+    record { history = none_held words; queue = none_wait places; unsent = 0; unsent_words = 0; idle = None }
 
 -- a start zeroes the lent history
 abbrev pub start_of : ℕ → ℕ → List ℕ → Sender × List ℕ

@@ -5,14 +5,13 @@ ghost use Rattle.sender.specs.Answers.{new_answer, reset_answer, send_answer, re
 
 use super::tested;
 use command::retransmit::{RetransmitError, RetransmitRequest};
-use config::answer::{Answered, Deadline, Outcome};
 use config::range::outside;
 use config::refusal::Refusal;
 use config::sequence::SeqNum;
 use config::settings::StreamConfig;
 use history::history::{MAX_WORDS, MIN_WORDS, SendHistory};
 use history::queue::{Ignored, PLACES, RetransmitQueue};
-use idle::idle::IdleTimer;
+use idle::idle::Idle;
 
 //   history:  | written .. | unsent .. |      newest
 #[derive(Clone, Copy)]
@@ -23,26 +22,14 @@ pub struct Sender {
     pub unsent: usize,
     // The words that these take in the history, headers with them.
     pub unsent_words: usize,
-    pub idle: IdleTimer,
+    pub idle: Option<Idle>,
 }
 
-// A fresh sender; where the start is refused, one that every call refuses.
+// The sender after a call, as it was where the call was refused, and what the call answers.
 #[derive(Clone, Copy)]
-pub struct Started {
+pub struct SenderAnswer<T> {
     pub sender: Sender,
-    pub answer: Outcome,
-}
-
-#[derive(Clone, Copy)]
-pub struct WasReset {
-    pub sender: Sender,
-    pub answer: Outcome,
-}
-
-#[derive(Clone, Copy)]
-pub struct Sent {
-    pub sender: Sender,
-    pub answer: Outcome,
+    pub answer: Result<T, Refusal>,
 }
 
 #[derive(Clone, Copy)]
@@ -53,25 +40,12 @@ pub enum RequestOutcome {
     Error(RetransmitError),
     // Retransmits are off.
     NotSupported,
-    Refused(Refusal),
-}
-
-#[derive(Clone, Copy)]
-pub struct RequestHeard {
-    pub sender: Sender,
-    pub outcome: RequestOutcome,
-}
-
-#[derive(Clone, Copy)]
-pub enum Next {
-    Number(SeqNum),
-    Refused(Refusal),
 }
 
 impl Sender {
     // A fresh sender over a lent history of `words` words, which is zeroed, with a request queue of
     // `places` places; 12 for sizes that are not taken.
-    pub fn new(words: usize, places: usize, ring: &mut [u32]) -> Started
+    pub fn new(words: usize, places: usize, ring: &mut [u32]) -> SenderAnswer<()>
         ensures { (result, ring.new) ≡ new_answer words places ring.old }
     {
         if outside(MIN_WORDS, MAX_WORDS, words) {
@@ -83,44 +57,44 @@ impl Sender {
         if outside(1, PLACES, places) {
             return tested::not_started();
         }
-        Started {
+        SenderAnswer {
             sender: tested::start(words, places, ring),
-            answer: Outcome::Done,
+            answer: Ok(()),
         }
     }
 
     // Back to the fresh sender of the same sizes; the lent history is zeroed.
-    pub fn reset(self, ring: &mut [u32]) -> WasReset
+    pub fn reset(self, ring: &mut [u32]) -> SenderAnswer<()>
         ensures { (result, ring.new) ≡ reset_answer self ring.old }
     {
         if tested::is_valid(self, &ring[..]) {
-            return WasReset {
+            return SenderAnswer {
                 sender: tested::reset(self, ring),
-                answer: Outcome::Done,
+                answer: Ok(()),
             };
         }
-        WasReset {
+        SenderAnswer {
             sender: self,
-            answer: Outcome::Refused(Refusal::InvalidState),
+            answer: Err(Refusal::InvalidState),
         }
     }
 
     // Queues whole messages; 5, 3 and 6 for words that are not queued.
-    pub fn send_ump(self, cfg: StreamConfig, ring: &mut [u32], words: &[u32]) -> Sent
+    pub fn send_ump(self, cfg: StreamConfig, ring: &mut [u32], words: &[u32]) -> SenderAnswer<()>
         ensures { (result, ring.new) ≡ send_answer self cfg ring.old words.now }
     {
         match cfg.check() {
-            Outcome::Refused(why) => Sent {
+            Err(why) => SenderAnswer {
                 sender: self,
-                answer: Outcome::Refused(why),
+                answer: Err(why),
             },
-            Outcome::Done => {
+            Ok(()) => {
                 if tested::is_valid(self, &ring[..]) {
                     return tested::send_ump(self, cfg, ring, words);
                 }
-                Sent {
+                SenderAnswer {
                     sender: self,
-                    answer: Outcome::Refused(Refusal::InvalidState),
+                    answer: Err(Refusal::InvalidState),
                 }
             }
         }
@@ -132,53 +106,53 @@ impl Sender {
         cfg: StreamConfig,
         ring: &[u32],
         req: RetransmitRequest,
-    ) -> RequestHeard
+    ) -> SenderAnswer<RequestOutcome>
         ensures { result ≡ request_answer self cfg ring.now req }
     {
         match cfg.check() {
-            Outcome::Refused(why) => RequestHeard {
+            Err(why) => SenderAnswer {
                 sender: self,
-                outcome: RequestOutcome::Refused(why),
+                answer: Err(why),
             },
-            Outcome::Done => {
+            Ok(()) => {
                 if tested::is_valid(self, ring) {
                     return tested::on_retransmit_request(self, cfg, req);
                 }
-                RequestHeard {
+                SenderAnswer {
                     sender: self,
-                    outcome: RequestOutcome::Refused(Refusal::InvalidState),
+                    answer: Err(Refusal::InvalidState),
                 }
             }
         }
     }
 
     // When the next idle command is due.
-    pub fn next_deadline(self, ring: &[u32]) -> Deadline
+    pub fn next_deadline(self, ring: &[u32]) -> Result<Option<u64>, Refusal>
         ensures { result ≡ deadline_answer self ring.now }
     {
         if tested::is_valid(self, ring) {
             return tested::next_deadline(self);
         }
-        Deadline::Refused(Refusal::InvalidState)
+        Err(Refusal::InvalidState)
     }
 
     // Whether a write at this time has something to write.
-    pub fn wants_write(self, ring: &[u32], time: u64) -> Answered
+    pub fn wants_write(self, ring: &[u32], time: u64) -> Result<bool, Refusal>
         ensures { result ≡ wants_answer self ring.now time }
     {
         if tested::is_valid(self, ring) {
-            return Answered::Is(tested::wants_write(self, time));
+            return Ok(tested::wants_write(self, time));
         }
-        Answered::Refused(Refusal::InvalidState)
+        Err(Refusal::InvalidState)
     }
 
     // The number that the next written command gets.
-    pub fn next_seq(self, ring: &[u32]) -> Next
+    pub fn next_seq(self, ring: &[u32]) -> Result<SeqNum, Refusal>
         ensures { result ≡ next_answer self ring.now }
     {
         if tested::is_valid(self, ring) {
-            return Next::Number(tested::next_seq(self));
+            return Ok(tested::next_seq(self));
         }
-        Next::Refused(Refusal::InvalidState)
+        Err(Refusal::InvalidState)
     }
 }

@@ -2,7 +2,6 @@
 // others require what it says.
 ghost use Rattle.std.specs.Prelude.{◌≡◌, true, false, ◌+◌, ◌≤◌, ◌<◌, length};
 ghost use Rattle.config.specs.Settings.{check_of};
-ghost use Rattle.config.specs.declared.answer.Outcome.TheVariants.{Done};
 ghost use Rattle.config.specs.Sequence.{turn};
 ghost use Rattle.command.specs.Messages.{whole_of};
 ghost use Rattle.fronts.specs.Commands.{commands_of, above};
@@ -14,39 +13,32 @@ ghost use Rattle.sender.specs.Queueing.{room_of, joined_to, pushed_all, words_ch
 ghost use Rattle.sender.specs.Requests.{outcome_of, requested_of, due_at, deadline_of, wants_of, next_of};
 ghost use Rattle.sender.specs.Answers.{not_started};
 
-use super::sender::{RequestHeard, RequestOutcome, Sender, Sent, Started};
+use super::sender::{RequestOutcome, Sender, SenderAnswer};
 use command::message::whole_messages;
 use command::retransmit::{NOT_IN_BUFFER, RetransmitError, RetransmitRequest};
-use config::answer::{Deadline, Outcome};
 use config::refusal::Refusal;
 use config::sequence;
 use config::sequence::SeqNum;
 use config::settings::StreamConfig;
 use history::history::SendHistory;
-use history::queue::{Push, RetransmitQueue};
-use idle::idle::IdleTimer;
+use history::queue::{Ignored, RetransmitQueue};
+use idle::idle::Idle;
 
 // The state test: the history's part, the request queue's, and the idle step.
+#[tactic(auto, unfolding(crate::specs::State::valid_of))]
 pub fn is_valid(s: Sender, ring: &[u32]) -> bool
     ensures { result ≡ valid_of s ring.now }
 {
-    let history = s.history;
-    let queue = s.queue;
-    if history.state_ok(ring, s.unsent, s.unsent_words) {
-        if queue.state_ok() {
-            let idle = s.idle;
-            return idle.state_ok();
-        }
-        return false;
-    }
-    false
+    s.history.state_ok(ring, s.unsent, s.unsent_words)
+        && s.queue.state_ok()
+        && idle::idle::state_ok(s.idle)
 }
 
 // A sender of sizes 0, which the state test refuses.
-pub fn not_started() -> Started
+pub fn not_started() -> SenderAnswer<()>
     ensures { result ≡ not_started }
 {
-    Started {
+    SenderAnswer {
         sender: Sender {
             history: SendHistory {
                 size: 0,
@@ -64,9 +56,9 @@ pub fn not_started() -> Started
             },
             unsent: 0,
             unsent_words: 0,
-            idle: IdleTimer::Off,
+            idle: None,
         },
-        answer: Outcome::Refused(Refusal::SizeNotAllowed),
+        answer: Err(Refusal::SizeNotAllowed),
     }
 }
 
@@ -80,7 +72,7 @@ pub fn start(words: usize, places: usize, ring: &mut [u32]) -> Sender
         queue: history::tested::clear_requests(places),
         unsent: 0,
         unsent_words: 0,
-        idle: IdleTimer::Off,
+        idle: None,
     }
 }
 
@@ -88,22 +80,20 @@ pub fn reset(s: Sender, ring: &mut [u32]) -> Sender
     requires { valid_of s ring.old ≡ true }
     ensures { (result, ring.new) ≡ reset_of s ring.old }
 {
-    let history = s.history;
-    let queue = s.queue;
-    start(history.size, queue.size, ring)
+    start(s.history.size, s.queue.size, ring)
 }
 
 // 5 not whole messages; 3 a message above the set size.
-fn check(words: &[u32], max: usize) -> Outcome
+fn check(words: &[u32], max: usize) -> Result<(), Refusal>
     ensures { result ≡ words_check max words.now }
 {
     if whole_messages(words) {
         if fronts::tested::fit(words, max) {
-            return Outcome::Done;
+            return Ok(());
         }
-        return Outcome::Refused(Refusal::TooLarge);
+        return Err(Refusal::TooLarge);
     }
-    Outcome::Refused(Refusal::InvalidUmpData)
+    Err(Refusal::InvalidUmpData)
 }
 
 // The words that the newest unwritten command still takes; none when nothing is unwritten.
@@ -114,9 +104,7 @@ fn room(s: Sender, ring: &[u32], max: usize) -> usize
     if s.unsent == 0 {
         return 0;
     }
-    let history = s.history;
-    let last = history.last;
-    let n = history::tested::pl(ring, last);
+    let n = history::tested::pl(ring, s.history.last);
     if max < n {
         return 0;
     }
@@ -140,149 +128,135 @@ fn push_all(h: SendHistory, ring: &mut [u32], max: usize, words: &[u32]) -> Send
     ensures { (result, ring.new) ≡ pushed_all h ring.old (commands_of max words.now) }
 {
     let mut g = h;
-    let mut at = 0;
-    while at < words.len() {
-        let end = at + fronts::tested::front_words(&words[at..], max);
-        g = history::tested::push(g, ring, &words[at..end]);
-        at = end;
+    let mut rest = words;
+    // A `while`: the words themselves say where the next front begins.
+    while !rest.is_empty() {
+        let n = fronts::tested::front_words(rest, max);
+        g = history::tested::push(g, ring, &rest[..n]);
+        rest = &rest[n..];
     }
     g
 }
 
 // Queues messages that passed `check`; 6 when words and new headers exceed the history less what is
 // unwritten.
-fn queue_words(s: Sender, ring: &mut [u32], max: usize, words: &[u32]) -> Sent
-    requires { (valid_of s ring.old ≡ true) × (max ≤ 64) × (words_check max words.now ≡ Done) }
+fn queue_words(s: Sender, ring: &mut [u32], max: usize, words: &[u32]) -> SenderAnswer<()>
+    requires { (valid_of s ring.old ≡ true) × (max ≤ 64) × (words_check max words.now ≡ Ok tt) }
     ensures { (result, ring.new) ≡ placed_of s ring.old max words.now }
 {
-    let history = s.history;
-    let queue = s.queue;
-    let idle = s.idle;
     let split = fronts::tested::front_words(words, room(s, &ring[..], max));
     let commands = fronts::tested::commands(&words[split..], max);
     let need = words.len() + commands;
-    if history.size - s.unsent_words < need {
-        return Sent {
+    if s.history.size - s.unsent_words < need {
+        return SenderAnswer {
             sender: s,
-            answer: Outcome::Refused(Refusal::Full),
+            answer: Err(Refusal::Full),
         };
     }
-    let joined = join(history, ring, &words[..split]);
+    let joined = join(s.history, ring, &words[..split]);
     let all = push_all(joined, ring, max, &words[split..]);
-    Sent {
+    SenderAnswer {
         sender: Sender {
             history: all,
-            queue,
             unsent: s.unsent + commands,
             unsent_words: s.unsent_words + need,
-            idle,
+            ..s
         },
-        answer: Outcome::Done,
+        answer: Ok(()),
     }
 }
 
-pub fn send_ump(s: Sender, cfg: StreamConfig, ring: &mut [u32], words: &[u32]) -> Sent
-    requires { (valid_of s ring.old ≡ true) × (check_of cfg ≡ Done) }
+pub fn send_ump(s: Sender, cfg: StreamConfig, ring: &mut [u32], words: &[u32]) -> SenderAnswer<()>
+    requires { (valid_of s ring.old ≡ true) × (check_of cfg ≡ Ok tt) }
     ensures { (result, ring.new) ≡ sent_of s ring.old cfg.max_command_words words.now }
 {
     if words.len() == 0 {
-        return Sent {
+        return SenderAnswer {
             sender: s,
-            answer: Outcome::Done,
+            answer: Ok(()),
         };
     }
     let max = cfg.max_command_words;
     match check(words, max) {
-        Outcome::Refused(why) => Sent {
+        Err(why) => SenderAnswer {
             sender: s,
-            answer: Outcome::Refused(why),
+            answer: Err(why),
         },
-        Outcome::Done => queue_words(s, ring, max, words),
+        Ok(()) => queue_words(s, ring, max, words),
     }
 }
 
-fn outcome(answer: Push) -> RequestOutcome
+fn outcome(answer: Result<(), Ignored>) -> Result<RequestOutcome, Refusal>
     ensures { result ≡ outcome_of answer }
 {
     match answer {
-        Push::Queued => RequestOutcome::Queued,
-        Push::Ignored(why) => RequestOutcome::Ignored(why),
+        Ok(()) => Ok(RequestOutcome::Queued),
+        Err(why) => Ok(RequestOutcome::Ignored(why)),
     }
 }
 
 // A request for a written command waits behind the others; any other is answered at once.
-pub fn on_retransmit_request(s: Sender, cfg: StreamConfig, req: RetransmitRequest) -> RequestHeard
+pub fn on_retransmit_request(
+    s: Sender,
+    cfg: StreamConfig,
+    req: RetransmitRequest,
+) -> SenderAnswer<RequestOutcome>
     requires { (s.unsent ≤ s.history.count) × Fit s.queue }
     ensures { result ≡ requested_of s cfg req }
 {
     if cfg.retransmit {
-        let history = s.history;
-        let queue = s.queue;
-        let idle = s.idle;
-        let written = history.count - s.unsent;
-        let k = sequence::distance(history.oldest, req.seq);
+        let written = s.history.count - s.unsent;
+        let k = sequence::distance(s.history.oldest, req.seq);
         if written <= (k as usize) {
-            return RequestHeard {
+            return SenderAnswer {
                 sender: s,
-                outcome: RequestOutcome::Error(RetransmitError {
+                answer: Ok(RequestOutcome::Error(RetransmitError {
                     reason: NOT_IN_BUFFER,
-                    seq: history.oldest,
-                }),
+                    seq: s.history.oldest,
+                })),
             };
         }
-        let pushed = history::tested::push_request(queue, req);
-        let next = pushed.queue;
-        let answer = pushed.answer;
-        return RequestHeard {
+        let pushed = history::tested::push_request(s.queue, req);
+        return SenderAnswer {
             sender: Sender {
-                history,
-                queue: next,
-                unsent: s.unsent,
-                unsent_words: s.unsent_words,
-                idle,
+                queue: pushed.queue,
+                ..s
             },
-            outcome: outcome(answer),
+            answer: outcome(pushed.answer),
         };
     }
-    RequestHeard {
+    SenderAnswer {
         sender: s,
-        outcome: RequestOutcome::NotSupported,
+        answer: Ok(RequestOutcome::NotSupported),
     }
 }
 
 // No idle command is queued while a command is unwritten.
-pub fn next_deadline(s: Sender) -> Deadline
+pub fn next_deadline(s: Sender) -> Result<Option<u64>, Refusal>
     ensures { result ≡ deadline_of s }
 {
     if s.unsent == 0 {
         let idle = s.idle;
         return due_at(idle);
     }
-    Deadline::Nothing
+    Ok(None)
 }
 
-fn due_at(idle: IdleTimer) -> Deadline
+fn due_at(idle: Option<Idle>) -> Result<Option<u64>, Refusal>
     ensures { result ≡ due_at idle }
 {
     match idle {
-        IdleTimer::Off => Deadline::Nothing,
-        IdleTimer::Waiting(i) => Deadline::At(i.due),
+        None => Ok(None),
+        Some(i) => Ok(Some(i.due)),
     }
 }
 
 // An unwritten command, a request that waits, or an idle command that is due.
+#[tactic(auto, unfolding(crate::specs::Requests::wants_of))]
 pub fn wants_write(s: Sender, time: u64) -> bool
     ensures { result ≡ wants_of s time }
 {
-    if 0 < s.unsent {
-        return true;
-    }
-    let queue = s.queue;
-    if 0 < queue.len {
-        return true;
-    }
-    let idle = s.idle;
-    idle.is_due(time)
+    0 < s.unsent || 0 < s.queue.len || idle::idle::is_due(s.idle, time)
 }
 
 // The number of the oldest unwritten command, or of the next one.
@@ -290,7 +264,6 @@ pub fn next_seq(s: Sender) -> SeqNum
     requires { s.unsent ≤ s.history.count }
     ensures { result ≡ next_of s }
 {
-    let history = s.history;
-    let written = history.count - s.unsent;
-    sequence::add(history.oldest, (written % 0x1_0000) as u16)
+    let written = s.history.count - s.unsent;
+    sequence::add(s.history.oldest, (written % 0x1_0000) as u16)
 }

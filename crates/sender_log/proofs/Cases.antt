@@ -1,5 +1,8 @@
 -- Cases of the book and of past calls, computed.
 use mathlib.Core.Path.{◌≡◌, refl}
+use Rattle.std.proofs.Common.{Some, None, Result, Ok}
+use Rattle.config.specs.declared.refusal.Refusal.{Refusal}
+use Rattle.writing.specs.declared.writing.Written.{Written}
 use mathlib.Core.Bool.{true, false}
 use mathlib.Core.List.{List, [], ◌∷◌}
 use Prim.Native.Nat.{ℕ}
@@ -16,14 +19,11 @@ use Rattle.command.specs.declared.retransmit.RetransmitRequest.{RetransmitReques
 use Rattle.history.specs.Entries.{size, kept}
 use Rattle.history.specs.Queue.{asks}
 use Rattle.history.specs.Written.{data_packet}
-use Rattle.idle.specs.declared.idle.IdleTimer.TheVariants.{Off, Waiting}
 use Rattle.rows.specs.Rows.{row_of, sizes_of, any_words}
 use Rattle.rows.specs.Choice.{repeats_of}
 use Rattle.fronts.specs.Commands.{fitting, front, behind, commands_in, commands_of, longer, above}
 use Rattle.sender.specs.Queueing.{words_check}
 use Rattle.sender.specs.declared.sender.RequestOutcome.TheVariants.{Queued as Waits, Error}
-use Rattle.writing.specs.declared.writing.Writing.{Writing}
-use Rattle.writing.specs.declared.writing.Writing.TheVariants.{Written}
 use Rattle.sender_log.specs.Book.{Book, nothing, freed, pushed_in, pushed_all_in, joined_last, joined_in, room_in, queued_in, sent_in, requested_in}
 use Rattle.sender_log.specs.Writes.{data_from, answer_in, rest_in, served_in, idled_in, written_on, WriteIn, new_written, written_in, write_in}
 use Rattle.sender_log.specs.Calls.{Call, queue_words, retransmit_request, write, Entry}
@@ -41,7 +41,7 @@ settings R =
     record { idle_interval_ms = 100; idle_growth = 2; idle_further = 5; fec_repeats = R; retransmit = true; request_delay_ms = 10; max_requests = 3; max_command_words = 64 }
 
 abbrev holding : ℕ → List (List ℕ) → List (List ℕ) → List RetransmitRequest → Book
-holding first ws us rs = record { first = first; written = ws; unwritten = us; waiting = rs; idle = Off }
+holding first ws us rs = record { first = first; written = ws; unwritten = us; waiting = rs; idle = None }
 
 abbrev three : List (List ℕ)
 three = (0x20903C40 ∷ []) ∷ (0x20803C00 ∷ []) ∷ (0x20903D40 ∷ []) ∷ []
@@ -53,11 +53,11 @@ written R b max = write_in 65 (settings R) 1000 b record { len = 0; max = max } 
 abbrev bytes : WriteIn → List ℕ
 bytes w = take w.payload.len w.bytes
 
-abbrev answer : ℕ → Writing
-answer n = Written record { commands = n; more = false }
+abbrev answer : ℕ → Result Written Refusal
+answer n = Ok record { commands = n; more = false }
 
-abbrev cut : ℕ → Writing
-cut n = Written record { commands = n; more = true }
+abbrev cut : ℕ → Result Written Refusal
+cut n = Ok record { commands = n; more = true }
 
 -- ---- a request for all from 65,535 on, answered in two payloads: the first holds two commands, and 1 is left
 
@@ -76,9 +76,9 @@ second_payload = (refl, refl, refl)
 
 -- ---- a number that has left
 
-pub error_for_left : ((requested_in 4 (holding 65536 three [] []) (settings 0) record { seq = 65535; count = 1 }).outcome ≡ Error record { reason = 1; seq = 0 })
-    × ((requested_in 4 (holding 65536 three [] []) (settings 0) record { seq = 2; count = 1 }).outcome ≡ Waits)
-    × ((requested_in 4 (holding 65536 three [] []) (settings 0) record { seq = 3; count = 1 }).outcome ≡ Error record { reason = 1; seq = 0 })
+pub error_for_left : ((requested_in 4 (holding 65536 three [] []) (settings 0) record { seq = 65535; count = 1 }).outcome ≡ Ok (Error record { reason = 1; seq = 0 }))
+    × ((requested_in 4 (holding 65536 three [] []) (settings 0) record { seq = 2; count = 1 }).outcome ≡ Ok Waits)
+    × ((requested_in 4 (holding 65536 three [] []) (settings 0) record { seq = 3; count = 1 }).outcome ≡ Ok (Error record { reason = 1; seq = 0 }))
 unfolding check_of asks requested_in
 error_for_left = (refl, refl, refl)
 
@@ -93,7 +93,7 @@ abbrev repeated : WriteIn
 repeated = written 2 (holding 0 ((0x20903C40 ∷ []) ∷ (0x20803C00 ∷ []) ∷ []) ((0x20903D40 ∷ []) ∷ []) []) 20
 
 pub oldest_dropped : (repeated.answer ≡ answer 2) × (bytes repeated ≡ bytes_of (0x4D494449 ∷ 0xFF010001 ∷ 0x20803C00 ∷ 0xFF010002 ∷ 0x20903D40 ∷ []))
-    × (repeated.book.written ≡ three) × (repeated.book.unwritten ≡ []) × (repeated.book.idle ≡ Waiting record { due = 1100; step = 0; interval = 100 })
+    × (repeated.book.written ≡ three) × (repeated.book.unwritten ≡ []) × (repeated.book.idle ≡ Some record { due = 1100; step = 0; interval = 100 })
 unfolding check_of valid_of written_of bytes_of spliced row_of data_from sizes_of repeats_of any_words served_in idled_in written_on new_written written_in write_in
 oldest_dropped = (refl, refl, refl, refl, refl)
 
@@ -188,8 +188,8 @@ first_three = at 300 ∷ at 200 ∷ at 100 ∷ []
 abbrev first_seven : List Queued
 first_seven = at 3300 ∷ at 1700 ∷ at 900 ∷ at 500 ∷ first_three
 
-pub idle_steps : (timer_of (since 0 100 []) ≡ Waiting record { due = 100; step = 0; interval = 100 })
-    × (timer_of (since 0 100 first_three) ≡ Waiting record { due = 500; step = 3; interval = 200 })
-    × (timer_of (since 0 100 first_seven) ≡ Waiting record { due = 6500; step = 7; interval = 3200 }) × (timer_of (since 0 100 (at 6500 ∷ first_seven)) ≡ Off)
+pub idle_steps : (timer_of (since 0 100 []) ≡ Some record { due = 100; step = 0; interval = 100 })
+    × (timer_of (since 0 100 first_three) ≡ Some record { due = 500; step = 3; interval = 200 })
+    × (timer_of (since 0 100 first_seven) ≡ Some record { due = 6500; step = 7; interval = 3200 }) × (timer_of (since 0 100 (at 6500 ∷ first_seven)) ≡ None)
 unfolding timer_of step_after
 idle_steps = (refl, refl, refl, refl)

@@ -1,5 +1,8 @@
 -- What a write adds: the first of the commands that it has to write, as many as it answers.
 use mathlib.Core.Path.{◌≡◌, refl, sym, ap, ◌∙◌}
+use Rattle.std.proofs.Common.{Result, Ok, Err}
+use Rattle.writing.specs.declared.writing.Written.{Written}
+use Rattle.std.specs.Bool.{⊤}
 use mathlib.Core.Logic.{inl, inr}
 use mathlib.Core.Bool.{Bool, true, false, cond, not, ◌||◌, ◌&&◌}
 use mathlib.Core.List.{List, [], ◌∷◌, ◌++◌, append-nil}
@@ -13,8 +16,6 @@ use Rattle.config.specs.Sequence.{after}
 use Rattle.config.specs.Settings.{check_of}
 use Rattle.config.specs.declared.refusal.Refusal.{Refusal}
 use Rattle.config.specs.declared.refusal.Refusal.TheVariants.{TooLarge, InvalidState}
-use Rattle.config.specs.declared.answer.Outcome.{Outcome}
-use Rattle.config.specs.declared.answer.Outcome.TheVariants.{Done, Refused as OutcomeRefused}
 use Rattle.config.specs.declared.settings.StreamConfig.{StreamConfig}
 use Rattle.config.specs.inner.Tests.{split, tests, lifts}
 use Rattle.packet.specs.Layout.{Packet, AllEncodable, Words32}
@@ -27,8 +28,6 @@ use Rattle.command.specs.declared.retransmit.RetransmitRequest.{RetransmitReques
 use Rattle.history.specs.Entries.{Short}
 use Rattle.rows.specs.Rows.{Row, row_of, sizes_of, fit_all}
 use Rattle.rows.specs.Choice.{repeats_of}
-use Rattle.writing.specs.declared.writing.Writing.{Writing}
-use Rattle.writing.specs.declared.writing.Writing.TheVariants.{Written, Refused}
 use Rattle.writing.specs.declared.writing.Written.{Written as Amount}
 use Rattle.sender_log.specs.Book.{Book, oldest_in, index_in, absent_in, with_waiting}
 use Rattle.sender_log.specs.Writes.{written_from, new_in, reach_in, answer_in, rest_in, ServedIn, served_in, served_also, idled_in, again_in, WriteIn, new_by, new_written, refused, written_in, write_in}
@@ -275,10 +274,10 @@ again_by b R p by (first ∷ others) = again_in b R p by first ++ (first ∷ oth
 -- ---- new commands
 
 -- what a write answers and leaves in the payload
-pub data Out (wanted : List Packet) (p : PayloadWriter) (by : List ℕ) : Writing → PayloadWriter → List ℕ → Type 0 where
+pub data Out (wanted : List Packet) (p : PayloadWriter) (by : List ℕ) : Result Written Refusal → PayloadWriter → List ℕ → Type 0 where
   wrote : (n : ℕ) (more : Bool) (q : PayloadWriter) (by' : List ℕ) → p.len ≤ length by → Appends p by (take n wanted) q by' → n ≤ length wanted
-      → (more ≡ true → NoRoom q by' (drop n wanted)) → (more ≡ false → n ≡ length wanted) → Out wanted p by (Written record { commands = n; more = more }) q by'
-  unchanged : (why : Refusal) → Out wanted p by (Refused why) p by
+      → (more ≡ true → NoRoom q by' (drop n wanted)) → (more ≡ false → n ≡ length wanted) → Out wanted p by (Ok record { commands = n; more = more }) q by'
+  unchanged : (why : Refusal) → Out wanted p by (Err why) p by
 
 abbrev pub OutOf : List Packet → PayloadWriter → List ℕ → WriteIn → Type 0
 OutOf wanted p by a = Out wanted p by a.answer a.payload a.bytes
@@ -298,7 +297,7 @@ module _ (cfg : StreamConfig) (time : ℕ) (d : Book) (sw : Short d.written) (su
 
   -- the row behind them
   row_out : (cs : List Packet) → Few cs → Out (owed ++ cs) p by
-      (Written record { commands = n + (row_of s.payload s.bytes cs).written; more = not (row_of s.payload s.bytes cs).whole }) (row_of s.payload s.bytes cs).payload (row_of s.payload s.bytes cs).bytes
+      (Ok record { commands = n + (row_of s.payload s.bytes cs).written; more = not (row_of s.payload s.bytes cs).whole }) (row_of s.payload s.bytes cs).payload (row_of s.payload s.bytes cs).bytes
   row_out cs f =
       let out = row_of s.payload s.bytes cs in
       let r = row_right cs s.payload s.bytes f i.valid in
@@ -372,14 +371,14 @@ module _ (c : ℕ) (cfg : StreamConfig) (time : ℕ) (b : Book) (small : Small b
   unfolding write_in
   write_out_lem = on (check_of cfg) (valid_of p (length by)) refl
     where
-      on : (k : Outcome) (t : Bool) → valid_of p (length by) ≡ t → OutOf (owed_in b p by b.waiting ++ rest) p by (entry k t (refused b p by) (written_in c cfg time b p by))
-      on (OutcomeRefused why) t v = unchanged why
-      on Done false v = unchanged InvalidState
-      on Done true v = written_out v
+      on : (k : Result ⊤ Refusal) (t : Bool) → valid_of p (length by) ≡ t → OutOf (owed_in b p by b.waiting ++ rest) p by (entry k t (refused b p by) (written_in c cfg time b p by))
+      on (Err why) t v = unchanged why
+      on (Ok _) false v = unchanged InvalidState
+      on (Ok _) true v = written_out v
 
 -- a payload that isn't empty is taken
 abbrev pub NotRefused : WriteIn → Type 0
-NotRefused a = (why : Refusal) → a.answer ≡ Refused why → ⊥
+NotRefused a = (why : Refusal) → a.answer ≡ Err why → ⊥
 
 module _ (c : ℕ) (cfg : StreamConfig) (time : ℕ) (b : Book) (small : Small b) (p : PayloadWriter) (by : List ℕ) (o : p.len ≡ 0 → ⊥) (v : valid_of p (length by) ≡ true) where
   new_taken : (n : ℕ) (d : Book) (q : PayloadWriter) (bq : List ℕ) → (q.len ≡ 0 → ⊥) → NotRefused (new_written cfg time n d q bq)
@@ -393,7 +392,7 @@ module _ (c : ℕ) (cfg : StreamConfig) (time : ℕ) (b : Book) (small : Small b
           (λ over. by_cond NotRefused (eqb q.len 0) _ _ (λ empty why e. k (omega (arith, tests))) (λ more why e. let z : ◌≡◌ {A = ℕ} 0 1 = cc in omega arith))
           (λ fits why e. let z : ◌≡◌ {A = ℕ} 0 1 = cc in omega arith)
 
-  pub write_taken : check_of cfg ≡ Done → NotRefused (write_in c cfg time b p by)
+  pub write_taken : check_of cfg ≡ Ok tt → NotRefused (write_in c cfg time b p by)
   unfolding write_in written_in
   write_taken e =
       let s = served_in b b.waiting p by in
@@ -436,13 +435,13 @@ module _ (b : Book) (sw : Short b.written) (i : Book32 b) where
 
 -- ---- counted
 
-pub same_amount : (n m : ℕ) (x y : Bool) → Written record { commands = n; more = x } ≡ Written record { commands = m; more = y } → (n ≡ m) × (x ≡ y)
+pub same_amount : (n m : ℕ) (x y : Bool) → ◌≡◌ {A = Result Amount Refusal} (Ok record { commands = n; more = x }) (Ok record { commands = m; more = y }) → (n ≡ m) × (x ≡ y)
 same_amount n m x y e =
     let f : ◌≡◌ {A = Amount} record { commands = n; more = x } record { commands = m; more = y } = cc in
     (ap (λ (a : Amount). a.commands) f, ap (λ (a : Amount). a.more) f)
 
-pub counts : (wanted : List Packet) (p : PayloadWriter) (by : List ℕ) (a : Writing) (q : PayloadWriter) (by' : List ℕ)
-    → ((n : ℕ) (x : Bool) → a ≡ Written record { commands = n; more = x } → AllEncodable (take n wanted)) → Out wanted p by a q by' → CountedIn wanted p by a q by'
+pub counts : (wanted : List Packet) (p : PayloadWriter) (by : List ℕ) (a : Result Written Refusal) (q : PayloadWriter) (by' : List ℕ)
+    → ((n : ℕ) (x : Bool) → a ≡ Ok record { commands = n; more = x } → AllEncodable (take n wanted)) → Out wanted p by a q by' → CountedIn wanted p by a q by'
 counts wanted p by a q by' h (wrote n x _ _ l ap' few left all) = record {
   kept = appends_kept p by l q by' (take n wanted) ap';
   found = λ m y e. appends_items p by l q by' (take n wanted) (h n x refl) ap' ∙ ap (λ (k : ℕ). placed (start_of p) (take k wanted)) (same_amount n m x y e).0;

@@ -1,5 +1,6 @@
 -- What the theorems are said of: every call, with any arguments of its types, every list of them, and every size that 01 allows.
 use Prim.Native.Nat.{ℕ, ◌+◌, ◌≤◌, ◌<◌}
+use Rattle.std.proofs.Common.{Some, Ok}
 use mathlib.Core.Path.{◌≡◌, ◌∙◌}
 use mathlib.Core.Bool.{Bool, true, false, not, ◌||◌}
 use mathlib.Core.List.{List, [], ◌∷◌}
@@ -9,7 +10,6 @@ use lib.ListN.{length}
 use Rattle.config.specs.Range.{outside}
 use Rattle.config.specs.Settings.{check_of}
 use Rattle.config.specs.declared.refusal.Refusal.TheVariants.{SizeNotAllowed}
-use Rattle.config.specs.declared.answer.Outcome.TheVariants.{Done}
 use Rattle.config.specs.declared.settings.StreamConfig.{StreamConfig}
 use Rattle.config.specs.inner.Tests.{lifts}
 use Rattle.config.specs.Time.{later}
@@ -20,7 +20,6 @@ use Rattle.command.specs.declared.retransmit.RetransmitRequest.{RetransmitReques
 use Rattle.sender.specs.Answers.{new_answer}
 use Rattle.writing.specs.Answers.{write_answer}
 use Rattle.history.specs.Entries.{Short}
-use Rattle.idle.specs.declared.idle.IdleTimer.TheVariants.{Waiting}
 use Rattle.sender.specs.declared.sender.Sender.{Sender}
 use Rattle.sender_log.specs.Book.{Book}
 use Rattle.sender_log.specs.Idle.{steps_of, times_at, dues_in, IdleTimes}
@@ -82,7 +81,7 @@ abbrev pacing : ℕ → ℕ → ℕ → ℕ → Bool → ℕ → ℕ → ℕ →
 pacing T1 G K R X D M size =
     record { idle_interval_ms = T1; idle_growth = G; idle_further = K; fec_repeats = R; retransmit = X; request_delay_ms = D; max_requests = M; max_command_words = size }
 
-passes : (T1 G K R : ℕ) (X : Bool) (D M size : ℕ) → 1 ≤ T1 → T1 ≤ 300 → 1 ≤ G → 1 ≤ size → size ≤ 64 → check_of (pacing T1 G K R X D M size) ≡ Done
+passes : (T1 G K R : ℕ) (X : Bool) (D M size : ℕ) → 1 ≤ T1 → T1 ≤ 300 → 1 ≤ G → 1 ≤ size → size ≤ 64 → check_of (pacing T1 G K R X D M size) ≡ Ok tt
 unfolding check_of
 passes T1 G K R X D M size t-least t-most g-least s-least s-most =
     let a : leb 1 size ≡ true = omega (arith, lifts) in
@@ -94,7 +93,7 @@ passes T1 G K R X D M size t-least t-most g-least s-least s-most =
 
 pub every_pace : IdleTimes → (c T1 G K R : ℕ) (X : Bool) (D M size : ℕ) → 1 ≤ T1 → T1 ≤ 300 → 1 ≤ G → 1 ≤ size → size ≤ 64
     → (p : PayloadWriter) (by : List ℕ) (b : Book) (time : ℕ) → payload_valid p (length by) ≡ true → start_of p + 4 ≤ limit_of p (length by)
-    → Short b.written → b.unwritten ≡ [] → b.waiting ≡ [] → b.idle ≡ Waiting record { due = later time T1; step = 0; interval = T1 }
+    → Short b.written → b.unwritten ≡ [] → b.waiting ≡ [] → b.idle ≡ Some record { due = later time T1; step = 0; interval = T1 }
     → dues_in (2 + R + K) c (pacing T1 G K R X D M size) p by b ≡ times_at time (steps_of T1 G K R)
 every_pace h c T1 G K R X D M size t-least t-most g-least s-least s-most p by b time v l short none no_request i =
     h c (pacing T1 G K R X D M size) p by b time (2 + R + K) (passes T1 G K R X D M size t-least t-most g-least s-least s-most) v l short none no_request i (omega arith)

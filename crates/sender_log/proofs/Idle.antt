@@ -1,5 +1,7 @@
 -- The due times of the idle commands: each write at a due time writes one, and the timer takes the next step.
 use mathlib.Core.Path.{◌≡◌, refl, sym, ap, ◌∙◌, subst}
+use Rattle.std.proofs.Common.{Option, Some, None, Ok}
+use Rattle.idle.specs.declared.idle.Idle.{Idle}
 use mathlib.Core.Bool.{true}
 use mathlib.Core.List.{List, [], ◌∷◌, ◌++◌}
 use Prim.Native.Nat.{ℕ, zero, suc, ◌+◌, ◌-◌, ◌*◌, ◌≤◌, ◌<◌, min}
@@ -9,7 +11,6 @@ use lib.ListN.{length, drop, replicate, length-append}
 use Rattle.config.specs.Sequence.{after}
 use Rattle.config.specs.Settings.{check_of}
 use Rattle.config.specs.Time.{last_time, later}
-use Rattle.config.specs.declared.answer.Outcome.TheVariants.{Done}
 use Rattle.config.specs.declared.settings.StreamConfig.{StreamConfig}
 use Rattle.packet.specs.Layout.{Packet}
 use Rattle.packet.specs.Write.{limit_of, start_of, valid_of}
@@ -20,8 +21,6 @@ use Rattle.history.specs.Written.{data_packet}
 use Rattle.history.proofs.Flat.{kept_short, short_append, short_one}
 use Rattle.idle.specs.Schedule.{idle_next}
 use Rattle.idle.specs.declared.idle.Idle.{Idle as Timer}
-use Rattle.idle.specs.declared.idle.IdleTimer.{IdleTimer}
-use Rattle.idle.specs.declared.idle.IdleTimer.TheVariants.{Off, Waiting}
 use Rattle.rows.specs.Rows.{row_of, sizes_of, fit_all, any_words}
 use Rattle.sender_log.specs.Book.{Book, oldest_in, freed, pushed_in}
 use Rattle.sender_log.specs.Writes.{data_from, written_from, served_in, idled_in, again_in, written_on, new_written, written_in, write_in}
@@ -30,15 +29,15 @@ use Rattle.sender_log.proofs.Rows.{Few, few_append, row_all, sizes_append, repea
 use Rattle.sender_log.proofs.More.{few_data, short_drop}
 
 -- nothing is unwritten and nothing waits
-pub record Silent (b : Book) (i : IdleTimer) : Type 0 where
+pub record Silent (b : Book) (i : Option Idle) : Type 0 where
   pub short : Short b.written
   pub none : b.unwritten ≡ []
   pub quiet : b.waiting ≡ []
   pub timer : b.idle ≡ i
 
-module _ (c : ℕ) (cfg : StreamConfig) (p : PayloadWriter) (by : List ℕ) (passed : check_of cfg ≡ Done) (v : valid_of p (length by) ≡ true) (room : start_of p + 4 ≤ limit_of p (length by)) where
+module _ (c : ℕ) (cfg : StreamConfig) (p : PayloadWriter) (by : List ℕ) (passed : check_of cfg ≡ Ok tt) (v : valid_of p (length by) ≡ true) (room : start_of p + 4 ≤ limit_of p (length by)) where
   -- an idle command that is queued is written with the repeats that fit beside it
-  module _ (first : ℕ) (ws : List (List ℕ)) (i : IdleTimer) (short : Short ws) (time : ℕ) where
+  module _ (first : ℕ) (ws : List (List ℕ)) (i : Option Idle) (short : Short ws) (time : ℕ) where
     abbrev queued : Book
     queued = record { first = first; written = ws; unwritten = [] ∷ []; waiting = []; idle = i }
 
@@ -76,35 +75,35 @@ module _ (c : ℕ) (cfg : StreamConfig) (p : PayloadWriter) (by : List ℕ) (pas
   -- ---- a write at the due time
 
   write_silent : (first : ℕ) (ws : List (List ℕ)) (i : Timer) → Short ws
-      → Silent (write_in c cfg i.due record { first = first; written = ws; unwritten = []; waiting = []; idle = Waiting i } p by).book (idle_next cfg i.due i)
+      → Silent (write_in c cfg i.due record { first = first; written = ws; unwritten = []; waiting = []; idle = Some i } p by).book (idle_next cfg i.due i)
   unfolding write_in written_in served_in idled_in pushed_in freed
   write_silent first ws i short =
       rw (passed, v, le-ltb i.due i.due (omega arith))
       (new_idle (first + (length ws - length (kept (c - size []) 1 ws))) (kept (c - size []) 1 ws) (idle_next cfg i.due i) (kept_short (c - size []) 1 ws short) i.due)
 
-  silent_book : (b : Book) (i : IdleTimer) → Silent b i → b ≡ record { first = b.first; written = b.written; unwritten = []; waiting = []; idle = i }
+  silent_book : (b : Book) (i : Option Idle) → Silent b i → b ≡ record { first = b.first; written = b.written; unwritten = []; waiting = []; idle = i }
   silent_book b i s =
       ap (λ (u : List (List ℕ)). record { first = b.first; written = b.written; unwritten = u; waiting = b.waiting; idle = b.idle }) s.none
       ∙ ap (λ (w : List RetransmitRequest). record { first = b.first; written = b.written; unwritten = []; waiting = w; idle = b.idle }) s.quiet
-      ∙ ap (λ (t : IdleTimer). record { first = b.first; written = b.written; unwritten = []; waiting = []; idle = t }) s.timer
+      ∙ ap (λ (t : Option Idle). record { first = b.first; written = b.written; unwritten = []; waiting = []; idle = t }) s.timer
 
   abbrev next_book : Book → ℕ → Book
   next_book b time = (write_in c cfg time b p by).book
 
-  write_idle : (b : Book) (i : Timer) → Silent b (Waiting i) → Silent (next_book b i.due) (idle_next cfg i.due i)
+  write_idle : (b : Book) (i : Timer) → Silent b (Some i) → Silent (next_book b i.due) (idle_next cfg i.due i)
   write_idle b i s =
-      subst (λ (x : Book). Silent (write_in c cfg i.due x p by).book (idle_next cfg i.due i)) (sym (silent_book b (Waiting i) s)) (write_silent b.first b.written i s.short)
+      subst (λ (x : Book). Silent (write_in c cfg i.due x p by).book (idle_next cfg i.due i)) (sym (silent_book b (Some i) s)) (write_silent b.first b.written i s.short)
 
   -- ---- the due times
 
-  dues_off : (f : ℕ) (b : Book) → Silent b Off → dues_in f c cfg p by b ≡ []
+  dues_off : (f : ℕ) (b : Book) → Silent b None → dues_in f c cfg p by b ≡ []
   unfolding dues_in
   dues_off zero b s = refl
-  dues_off (suc f) b s = ap (λ (i : IdleTimer). at_due (due_of i) (λ due. dues_in f c cfg p by (next_book b due))) s.timer
+  dues_off (suc f) b s = ap (λ (i : Option Idle). at_due (due_of i) (λ due. dues_in f c cfg p by (next_book b due))) s.timer
 
-  dues_waiting : (f : ℕ) (b : Book) (i : Timer) → Silent b (Waiting i) → dues_in (suc f) c cfg p by b ≡ i.due ∷ dues_in f c cfg p by (next_book b i.due)
+  dues_waiting : (f : ℕ) (b : Book) (i : Timer) → Silent b (Some i) → dues_in (suc f) c cfg p by b ≡ i.due ∷ dues_in f c cfg p by (next_book b i.due)
   unfolding dues_in
-  dues_waiting f b i s = ap (λ (t : IdleTimer). at_due (due_of t) (λ due. dues_in f c cfg p by (next_book b due))) s.timer
+  dues_waiting f b i s = ap (λ (t : Option Idle). at_due (due_of t) (λ due. dues_in f c cfg p by (next_book b due))) s.timer
 
   abbrev R : ℕ
   R = cfg.fec_repeats
@@ -116,21 +115,21 @@ module _ (c : ℕ) (cfg : StreamConfig) (p : PayloadWriter) (by : List ℕ) (pas
   G = cfg.idle_growth
 
   module _ (time : ℕ) (i : Timer) where
-    next_same : i.step < R → idle_next cfg time i ≡ Waiting record { due = later time i.interval; step = i.step + 1; interval = i.interval }
+    next_same : i.step < R → idle_next cfg time i ≡ Some record { due = later time i.interval; step = i.step + 1; interval = i.interval }
     unfolding idle_next
     next_same l = rw (le-leb (i.step + 1) R (omega arith))
 
     next_grown : R ≤ i.step → i.step < R + K
-        → idle_next cfg time i ≡ Waiting record { due = later time (min (i.interval * G) last_time); step = i.step + 1; interval = min (i.interval * G) last_time }
+        → idle_next cfg time i ≡ Some record { due = later time (min (i.interval * G) last_time); step = i.step + 1; interval = min (i.interval * G) last_time }
     unfolding idle_next
     next_grown l m = rw (lt-leb (i.step + 1) R (omega arith), lt-ltb (i.step + 1) (1 + R + K) (omega arith))
 
-    next_off : R ≤ i.step → R + K ≤ i.step → idle_next cfg time i ≡ Off
+    next_off : R ≤ i.step → R + K ≤ i.step → idle_next cfg time i ≡ None
     unfolding idle_next
     next_off l m = rw (lt-leb (i.step + 1) R (omega arith), le-ltb (i.step + 1) (1 + R + K) (omega arith))
 
   -- the steps that grow
-  dues_grown : (k f : ℕ) (b : Book) (i : Timer) → Silent b (Waiting i) → R ≤ i.step → i.step + k ≡ R + K → k < f
+  dues_grown : (k f : ℕ) (b : Book) (i : Timer) → Silent b (Some i) → R ≤ i.step → i.step + k ≡ R + K → k < f
       → dues_in f c cfg p by b ≡ i.due ∷ times_at i.due (growing G i.interval k)
   unfolding growing times_at
   dues_grown k zero b i s l e m = absurd (let z : ⊥ = omega arith in z)
@@ -143,7 +142,7 @@ module _ (c : ℕ) (cfg : StreamConfig) (p : PayloadWriter) (by : List ℕ) (pas
       (subst (Silent (next_book b i.due)) (next_grown i.due i l (omega arith)) (write_idle b i s)) (omega arith) (omega arith) (omega arith))
 
   -- the steps of T1 before them
-  dues_steady : (j f : ℕ) (b : Book) (i : Timer) → Silent b (Waiting i) → i.step + j ≡ R → j + K < f
+  dues_steady : (j f : ℕ) (b : Book) (i : Timer) → Silent b (Some i) → i.step + j ≡ R → j + K < f
       → dues_in f c cfg p by b ≡ i.due ∷ times_at i.due (replicate j i.interval ++ growing G i.interval K)
   unfolding times_at
   dues_steady zero f b i s e m = dues_grown K f b i s (omega arith) (omega arith) (omega arith)

@@ -1,5 +1,6 @@
 -- An idle command follows the book.
 use mathlib.Core.Path.{◌≡◌, refl, sym, ap, ◌∙◌, subst}
+use Rattle.std.proofs.Common.{Option, Some, None}
 use mathlib.Core.Bool.{Bool, true, false, cond, not, ◌||◌}
 use mathlib.Core.List.{List, [], ◌∷◌}
 use Prim.Native.Nat.{ℕ, suc}
@@ -13,8 +14,6 @@ use Rattle.history.specs.Push.{pushed}
 use Rattle.history.proofs.Flat.{size_append, size_one}
 use Rattle.idle.specs.Schedule.{idle_next}
 use Rattle.idle.specs.declared.idle.Idle.{Idle}
-use Rattle.idle.specs.declared.idle.IdleTimer.{IdleTimer}
-use Rattle.idle.specs.declared.idle.IdleTimer.TheVariants.{Off, Waiting}
 use Rattle.idle.proofs.Steps.{next_ok}
 use Rattle.sender.specs.Queueing.{holding}
 use Rattle.writing.specs.Writing.{with_idle, idled_by, idled_of}
@@ -64,11 +63,11 @@ module _ (c q : ℕ) (s : Sender) (ring : List ℕ) (b : Book) (f : Follows c q 
   abbrev Idles : Sender × List ℕ → Book → Type 0
   Idles h a = Follows c q h.0 h.1 a
 
-  idled_by_lem : (i : IdleTimer) → Idles (idled_by s cfg time ring i) (idled_by_in c cfg time b i)
-  idled_by_lem Off = f
-  idled_by_lem (Waiting i) =
+  idled_by_lem : (i : Option Idle) → Idles (idled_by s cfg time ring i) (idled_by_in c cfg time b i)
+  idled_by_lem None = f
+  idled_by_lem (Some i) =
       let e : not (is_empty b.unwritten) ≡ ltb 0 s.unsent = some_left b.unwritten ∙ ap (ltb 0) (sym f.unsent) in
-      subst (λ (x : Bool). Idles (idled_by s cfg time ring (Waiting i)) (cond (x || ltb time i.due) b (with_timer (pushed_in c [] b) (idle_next cfg time i)))) (sym e)
+      subst (λ (x : Bool). Idles (idled_by s cfg time ring (Some i)) (cond (x || ltb time i.due) b (with_timer (pushed_in c [] b) (idle_next cfg time i)))) (sym e)
       (on (ltb 0 s.unsent) refl (ltb time i.due))
     where
       on : (x : Bool) → ltb 0 s.unsent ≡ x → (y : Bool) → Idles
@@ -80,4 +79,4 @@ module _ (c q : ℕ) (s : Sender) (ring : List ℕ) (b : Book) (f : Follows c q 
 
   pub idled_follows : Follows c q (idled_of s cfg time ring).0 (idled_of s cfg time ring).1 (idled_in c cfg time b)
   unfolding idled_of idled_in
-  idled_follows = subst (λ (i : IdleTimer). Idles (idled_by s cfg time ring s.idle) (idled_by_in c cfg time b i)) f.idle (idled_by_lem s.idle)
+  idled_follows = subst (λ (i : Option Idle). Idles (idled_by s cfg time ring s.idle) (idled_by_in c cfg time b i)) f.idle (idled_by_lem s.idle)

@@ -1,5 +1,8 @@
 -- A write answers "more" exactly when a command is left that doesn't fit.
 use mathlib.Core.Path.{◌≡◌, refl, sym, ap, ◌∙◌, subst}
+use Rattle.std.proofs.Common.{Option, Some, None, Result, Ok, Err}
+use Rattle.idle.specs.declared.idle.Idle.{Idle}
+use Rattle.std.specs.Bool.{⊤}
 use mathlib.Core.Logic.{inl, inr}
 use mathlib.Core.Bool.{Bool, true, false, cond, not, ◌||◌}
 use mathlib.Core.List.{List, [], ◌∷◌, ◌++◌}
@@ -15,8 +18,6 @@ use Rattle.config.specs.Sequence.{turn, after, ahead}
 use Rattle.config.specs.declared.refusal.Refusal.{Refusal}
 use Rattle.config.specs.declared.refusal.Refusal.TheVariants.{TooLarge, InvalidState}
 use Rattle.config.specs.Settings.{check_of}
-use Rattle.config.specs.declared.answer.Outcome.{Outcome}
-use Rattle.config.specs.declared.answer.Outcome.TheVariants.{Done, Refused}
 use Rattle.config.specs.declared.settings.StreamConfig.{StreamConfig}
 use Rattle.config.specs.inner.Tests.{split}
 use Rattle.config.specs.inner.Choices.{or_left}
@@ -30,13 +31,10 @@ use Rattle.history.proofs.Entries.{holds_good}
 use Rattle.history.proofs.Room.{good_few}
 use Rattle.history.proofs.Flat.{kept_short, short_append, short_left, short_one}
 use Rattle.idle.specs.Schedule.{idle_next}
-use Rattle.idle.specs.declared.idle.IdleTimer.{IdleTimer}
-use Rattle.idle.specs.declared.idle.IdleTimer.TheVariants.{Off, Waiting}
 use Rattle.rows.specs.Rows.{Row, row_of, sizes_of, fit_all}
 use Rattle.sender.specs.declared.sender.Sender.{Sender}
 use Rattle.sender_log.specs.Book.{Book, oldest_in, freed, pushed_in, index_in, absent_in, error_in, with_waiting}
 use Rattle.writing.specs.declared.writing.Written.{Written as Amount}
-use Rattle.writing.specs.declared.writing.Writing.TheVariants.{Written}
 use Rattle.sender_log.specs.Writes.{data_from, written_from, new_in, reach_in, answer_in, rest_in, ServedIn, served_also, served_in, is_empty, with_idle, idled_by, idled_in, again_in, written_on, WriteIn, wrote, refused, new_by, new_written, written_in, write_in}
 use Rattle.sender_log.specs.Calls.{run}
 use Rattle.sender_log.specs.Answers.{book_of}
@@ -146,8 +144,8 @@ served_right (r ∷ rs) b small p by v =
 -- ---- new commands
 
 record WriteRight (a : WriteIn) : Type 0 where
-  more : (n : ℕ) → a.answer ≡ Written record { commands = n; more = true } → NoRoom a.payload a.bytes (next_in a.book)
-  no_more : (n : ℕ) → a.answer ≡ Written record { commands = n; more = false } → (a.book.waiting ≡ []) × (a.book.unwritten ≡ [])
+  more : (n : ℕ) → a.answer ≡ Ok record { commands = n; more = true } → NoRoom a.payload a.bytes (next_in a.book)
+  no_more : (n : ℕ) → a.answer ≡ Ok record { commands = n; more = false } → (a.book.waiting ≡ []) × (a.book.unwritten ≡ [])
 
 refused_right : (b : Book) (p : PayloadWriter) (by : List ℕ) (why : Refusal) → WriteRight (refused b p by why)
 refused_right b p by why = record {
@@ -155,7 +153,7 @@ refused_right b p by why = record {
   no_more = λ n e. absurd (let z : ◌≡◌ {A = ℕ} 0 1 = cc in omega arith);
 }
 
-same_more : (n m : ℕ) (x y : Bool) → Written record { commands = n; more = x } ≡ Written record { commands = m; more = y } → x ≡ y
+same_more : (n m : ℕ) (x y : Bool) → ◌≡◌ {A = Result Amount Refusal} (Ok record { commands = n; more = x }) (Ok record { commands = m; more = y }) → x ≡ y
 same_more n m x y e =
     let f : ◌≡◌ {A = Amount} record { commands = n; more = x } record { commands = m; more = y } = cc in
     ap (λ (a : Amount). a.more) f
@@ -250,9 +248,9 @@ pub idled_waiting : (c : ℕ) (cfg : StreamConfig) (time : ℕ) (b : Book) → (
 unfolding idled_in pushed_in freed
 idled_waiting c cfg time b = on b.idle
   where
-    on : (i : IdleTimer) → (idled_by c cfg time b i).waiting ≡ b.waiting
-    on Off = refl
-    on (Waiting i) = by_test (not (is_empty b.unwritten) || ltb time i.due)
+    on : (i : Option Idle) → (idled_by c cfg time b i).waiting ≡ b.waiting
+    on None = refl
+    on (Some i) = by_test (not (is_empty b.unwritten) || ltb time i.due)
       where
         by_test : (t : Bool) → (cond t b (with_idle (pushed_in c [] b) (idle_next cfg time i))).waiting ≡ b.waiting
         by_test true = refl
@@ -262,9 +260,9 @@ pub idled_short : (c : ℕ) (cfg : StreamConfig) (time : ℕ) (b : Book) → Sho
 unfolding idled_in pushed_in freed
 idled_short c cfg time b sw su = on b.idle
   where
-    on : (i : IdleTimer) → Short (idled_by c cfg time b i).written × Short (idled_by c cfg time b i).unwritten
-    on Off = (sw, su)
-    on (Waiting i) = by_test (not (is_empty b.unwritten) || ltb time i.due)
+    on : (i : Option Idle) → Short (idled_by c cfg time b i).written × Short (idled_by c cfg time b i).unwritten
+    on None = (sw, su)
+    on (Some i) = by_test (not (is_empty b.unwritten) || ltb time i.due)
       where
         by_test : (t : Bool) → Short (cond t b (with_idle (pushed_in c [] b) (idle_next cfg time i))).written × Short (cond t b (with_idle (pushed_in c [] b) (idle_next cfg time i))).unwritten
         by_test true = (sw, su)
@@ -289,10 +287,10 @@ write_right : (c : ℕ) (cfg : StreamConfig) (time : ℕ) (b : Book) → Small b
 unfolding write_in written_in
 write_right c cfg time b small p by = on (check_of cfg) (valid_of p (length by)) refl
   where
-    on : (k : Outcome) (t : Bool) → valid_of p (length by) ≡ t → WriteRight (entry k t (refused b p by) (written_in c cfg time b p by))
-    on (Refused why) t v = refused_right b p by why
-    on Done false v = refused_right b p by InvalidState
-    on Done true v = written_by_lem c cfg time b small (served_in b b.waiting p by) (served_right b.waiting b small p by v)
+    on : (k : Result ⊤ Refusal) (t : Bool) → valid_of p (length by) ≡ t → WriteRight (entry k t (refused b p by) (written_in c cfg time b p by))
+    on (Err why) t v = refused_right b p by why
+    on (Ok _) false v = refused_right b p by InvalidState
+    on (Ok _) true v = written_by_lem c cfg time b small (served_in b b.waiting p by) (served_right b.waiting b small p by v)
 
 -- ---- what calls reach
 

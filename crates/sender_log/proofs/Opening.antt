@@ -1,5 +1,9 @@
 -- The positions that a write opens, read off its bytes: as many as the new commands that it wrote.
 use mathlib.Core.Path.{◌≡◌, refl, sym, ap, ◌∙◌}
+use Rattle.std.proofs.Common.{Option, Some, None, Result, Ok, Err}
+use Rattle.config.specs.declared.refusal.Refusal.{Refusal}
+use Rattle.idle.specs.declared.idle.Idle.{Idle}
+use Rattle.std.specs.Bool.{⊤}
 use mathlib.Core.Bool.{Bool, true, false, cond, not, ◌||◌}
 use mathlib.Core.List.{List, [], ◌∷◌, ◌++◌}
 use Prim.Native.Nat.{ℕ, zero, suc, ◌+◌, ◌-◌, ◌*◌, ◌/◌, ◌%◌, ◌≤◌, ◌<◌, min}
@@ -9,8 +13,6 @@ use lib.ListN.{length, take, drop, length-append, length-drop, length-take, drop
 use Rattle.config.specs.Entry.{entry}
 use Rattle.config.specs.Sequence.{turn, after}
 use Rattle.config.specs.Settings.{check_of}
-use Rattle.config.specs.declared.answer.Outcome.{Outcome}
-use Rattle.config.specs.declared.answer.Outcome.TheVariants.{Done, Refused}
 use Rattle.config.specs.declared.settings.StreamConfig.{StreamConfig}
 use Rattle.config.specs.inner.Tests.{tests, lifts}
 use Rattle.packet.specs.Layout.{Packet, AllEncodable}
@@ -22,8 +24,6 @@ use Rattle.packet.proofs.RoundTrip.{all_encodable_append}
 use Rattle.command.specs.declared.retransmit.RetransmitRequest.{RetransmitRequest}
 use Rattle.history.specs.Entries.{Short}
 use Rattle.history.specs.Written.{data_packet}
-use Rattle.idle.specs.declared.idle.IdleTimer.{IdleTimer}
-use Rattle.idle.specs.declared.idle.IdleTimer.TheVariants.{Off, Waiting}
 use Rattle.rows.specs.Rows.{row_of, fit_all}
 use Rattle.rows.specs.Choice.{repeats_of}
 use Rattle.sender_log.specs.Book.{Book, oldest_in, freed, pushed_in, index_in, absent_in, with_waiting}
@@ -148,9 +148,9 @@ idled_count c cfg time b = by b.idle
     Same : Book → Type 0
     Same d = (written_count d ≡ written_count b) × (length d.written ≤ length b.written)
 
-    by : (t : IdleTimer) → Same (idled_by c cfg time b t)
-    by Off = (refl, omega arith)
-    by (Waiting i) = by_cond Same (not (is_empty b.unwritten) || ltb time i.due) _ _ (λ e. (refl, omega arith)) (λ e. let l = length_kept _ 1 b.written in (omega arith, l))
+    by : (t : Option Idle) → Same (idled_by c cfg time b t)
+    by None = (refl, omega arith)
+    by (Some i) = by_cond Same (not (is_empty b.unwritten) || ltb time i.due) _ _ (λ e. (refl, omega arith)) (λ e. let l = length_kept _ 1 b.written in (omega arith, l))
 
 take_split : {A : Type 0} (n : ℕ) (xs ys : List A) → take n (xs ++ ys) ≡ take n xs ++ take (n - length xs) ys
 take_split zero xs ys = let z : 0 - length xs ≡ 0 = omega arith in rw z
@@ -226,7 +226,7 @@ module _ (c : ℕ) (cfg : StreamConfig) (time : ℕ) (b : Book) (small : Small b
   unfolding write_in
   write_opens = on (check_of cfg) (valid_of p (length by)) refl
     where
-      on : (k : Outcome) (t : Bool) → valid_of p (length by) ≡ t → Opens (written_count b) p (entry k t (refused b p by) (written_in c cfg time b p by))
-      on (Refused why) t v = same_opens
-      on Done false v = same_opens
-      on Done true v = written_opens v
+      on : (k : Result ⊤ Refusal) (t : Bool) → valid_of p (length by) ≡ t → Opens (written_count b) p (entry k t (refused b p by) (written_in c cfg time b p by))
+      on (Err why) t v = same_opens
+      on (Ok _) false v = same_opens
+      on (Ok _) true v = written_opens v

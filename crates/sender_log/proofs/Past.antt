@@ -1,5 +1,8 @@
 -- The book agrees, after every call, with what was ever opened, asked for and scheduled by the log.
 use mathlib.Core.Path.{◌≡◌, refl, sym, ap, ◌∙◌, subst}
+use Rattle.std.proofs.Common.{Option, Some, Result, Ok, Err}
+use Rattle.idle.specs.declared.idle.Idle.{Idle}
+use Rattle.std.specs.Bool.{⊤}
 use mathlib.Core.Logic.{inl, inr}
 use mathlib.Core.Bool.{Bool, true, false, cond, not, ◌&&◌, ◌||◌}
 use mathlib.Core.List.{List, [], ◌∷◌, ◌++◌, append-nil, append_assoc}
@@ -15,8 +18,6 @@ use Rattle.config.specs.Sequence.{turn, after}
 use Rattle.config.specs.Settings.{check_of}
 use Rattle.config.specs.declared.refusal.Refusal.{Refusal}
 use Rattle.config.specs.declared.refusal.Refusal.TheVariants.{CommandWords, IdleInterval, IdleGrowth, InvalidState}
-use Rattle.config.specs.declared.answer.Outcome.{Outcome}
-use Rattle.config.specs.declared.answer.Outcome.TheVariants.{Done, Refused}
 use Rattle.config.specs.declared.settings.StreamConfig.{StreamConfig}
 use Rattle.config.specs.inner.Tests.{split, tests, lifts, and_left, ltb_not_leb}
 use Rattle.config.specs.Time.{later}
@@ -29,8 +30,6 @@ use Rattle.history.specs.Entries.{size, kept}
 use Rattle.history.specs.Queue.{asks}
 use Rattle.history.proofs.Flat.{size_append, size_one, size_first}
 use Rattle.idle.specs.Schedule.{idle_next}
-use Rattle.idle.specs.declared.idle.IdleTimer.{IdleTimer}
-use Rattle.idle.specs.declared.idle.IdleTimer.TheVariants.{Waiting}
 use Rattle.rows.specs.Rows.{row_of, fit_all, any_words}
 use Rattle.fronts.specs.Commands.{front, behind, commands_of}
 use Rattle.sender.specs.Queueing.{words_check}
@@ -105,7 +104,7 @@ module _ (c : ℕ) where
   joined_agrees max xs b x i l r = grown_agrees b x i (length xs) (joined_last b.unwritten xs) (size_joins max xs b.unwritten l) (omega (arith, size_joins max xs b.unwritten l))
 
   queued_agrees : (max : ℕ) (ws : List ℕ) (b : Book) (x : Past) → Agrees c b x → max ≤ 64 → Divides max ws → need_in max ws b + size b.unwritten ≤ c
-      → Agrees c (queued_in c max ws b) (queued_on x max ws Done)
+      → Agrees c (queued_in c max ws b) (queued_on x max ws (Ok tt))
   unfolding queued_in joined_in
   queued_agrees max ws b x i m d l =
       let n : ℕ = room_in max b.unwritten in
@@ -117,7 +116,7 @@ module _ (c : ℕ) where
       (pushed_all_agrees (commands_of max (behind n ws)) (joined_in c (front n ws) b) (with_open x (joined_last b.unwritten (front n ws))) (joined_agrees max (front n ws) b x i p.few (omega arith))
       (omega (arith, q.0)))
 
-  nothing_queued : (b : Book) (x : Past) → Agrees c b x → (max : ℕ) (ws : List ℕ) → length ws ≡ 0 → Agrees c b (queued_on x max ws Done)
+  nothing_queued : (b : Book) (x : Past) → Agrees c b x → (max : ℕ) (ws : List ℕ) → length ws ≡ 0 → Agrees c b (queued_on x max ws (Ok tt))
   unfolding behind
   nothing_queued b x i max [] l = rw (front_nil, commands_nil, append-nil, joined_nothing) i
   nothing_queued b x i max (w ∷ ws) l = absurd (let z : ⊥ = omega arith in z)
@@ -127,14 +126,14 @@ module _ (c : ℕ) where
       → Agrees c (sent_in c b cfg ws).book (queued_on x cfg.max_command_words ws (sent_in c b cfg ws).answer)
   unfolding sent_in
   sent_agrees b cfg ws x i =
-      by_check Ok (check_of cfg) _ _ (λ why. i) (λ passed.
-      by_cond Ok (eqb (length ws) 0) _ _ (λ none. nothing_queued b x i cfg.max_command_words ws (omega (arith, tests))) (λ some.
-      by_check Ok (words_check cfg.max_command_words ws) _ _ (λ why. i) (λ divides.
-      by_cond Ok (ltb (c - size b.unwritten) (need_in cfg.max_command_words ws b)) _ _ (λ full. i) (λ fits.
+      by_check Fine (check_of cfg) _ _ (λ why. i) (λ passed.
+      by_cond Fine (eqb (length ws) 0) _ _ (λ none. nothing_queued b x i cfg.max_command_words ws (omega (arith, tests))) (λ some.
+      by_check Fine (words_check cfg.max_command_words ws) _ _ (λ why. i) (λ divides.
+      by_cond Fine (ltb (c - size b.unwritten) (need_in cfg.max_command_words ws b)) _ _ (λ full. i) (λ fits.
       queued_agrees cfg.max_command_words ws b x i (settings_few cfg passed) (check_divides _ ws divides) (omega (arith, tests, i.fits))))))
     where
-      Ok : QueueIn → Type 0
-      Ok q = Agrees c q.book (queued_on x cfg.max_command_words ws q.answer)
+      Fine : QueueIn → Type 0
+      Fine q = Agrees c q.book (queued_on x cfg.max_command_words ws q.answer)
 
   -- ---- a request
 
@@ -142,15 +141,15 @@ module _ (c : ℕ) where
       → Agrees c (requested_in q b cfg r).book (requested_on x r (requested_in q b cfg r).outcome)
   unfolding requested_in
   requested_agrees q b cfg r x i =
-      by_check Ok (check_of cfg) _ _ (λ why. i) (λ passed.
-      by_cond Ok (not cfg.retransmit) _ _ (λ off. i) (λ on.
-      by_cond Ok (absent_in b r.seq) _ _ (λ absent. i) (λ there.
-      by_cond Ok (asks b.waiting r.seq) _ _ (λ pending. i) (λ new.
-      by_cond Ok (leb q (length b.waiting)) _ _ (λ full. i) (λ room.
+      by_check Fine (check_of cfg) _ _ (λ why. i) (λ passed.
+      by_cond Fine (not cfg.retransmit) _ _ (λ off. i) (λ on.
+      by_cond Fine (absent_in b r.seq) _ _ (λ absent. i) (λ there.
+      by_cond Fine (asks b.waiting r.seq) _ _ (λ pending. i) (λ new.
+      by_cond Fine (leb q (length b.waiting)) _ _ (λ full. i) (λ room.
       record { unwritten = i.unwritten; fits = i.fits; written = i.written; first = i.first; waiting = ap (λ (rs : List RetransmitRequest). rs ++ (r ∷ [])) i.waiting; idle = i.idle })))))
     where
-      Ok : RequestIn → Type 0
-      Ok a = Agrees c a.book (requested_on x r a.outcome)
+      Fine : RequestIn → Type 0
+      Fine a = Agrees c a.book (requested_on x r a.outcome)
 
 -- ---- idle commands
 
@@ -192,7 +191,7 @@ module _ (c : ℕ) (some : 1 ≤ c) (cfg : StreamConfig) (time : ℕ) (b : Book)
   never_due false s = i
 
   due_agrees : (t0 T1 d : ℕ) (ks : List Queued)
-      → Agrees c (idled_by c cfg time b (Waiting record { due = d; step = length ks; interval = step_after T1 ks })) (opened_by (is_empty x.unwritten && leb d time) (since t0 T1 ks))
+      → Agrees c (idled_by c cfg time b (Some record { due = d; step = length ks; interval = step_after T1 ks })) (opened_by (is_empty x.unwritten && leb d time) (since t0 T1 ks))
   unfolding pushed_in freed
   due_agrees t0 T1 d ks =
       let same : (not (is_empty b.unwritten) || ltb time d) ≡ not (is_empty x.unwritten && leb d time) =
@@ -225,7 +224,7 @@ module _ (c : ℕ) (some : 1 ≤ c) (cfg : StreamConfig) (time : ℕ) (b : Book)
 
   pub idled_agrees : Agrees c (idled_in c cfg time b) (idled_on x cfg time)
   unfolding idled_in
-  idled_agrees = subst (λ (t : IdleTimer). Agrees c (idled_by c cfg time b t) (idled_on x cfg time)) (sym i.idle) (timer_agrees x.schedule)
+  idled_agrees = subst (λ (t : Option Idle). Agrees c (idled_by c cfg time b t) (idled_on x cfg time)) (sym i.idle) (timer_agrees x.schedule)
 
 idled_written : (x : Past) (cfg : StreamConfig) (time : ℕ) → (idled_on x cfg time).written ≡ x.written
 idled_written x cfg time = by_cond (λ (y : Past). y.written ≡ x.written) (is_empty x.unwritten && is_due time (timer_of x.schedule)) _ _ (λ e. refl) (λ e. refl)
@@ -253,7 +252,7 @@ module _ (c : ℕ) (b : Book) (x : Past) (i : Agrees c b x) (cfg : StreamConfig)
   unfolding words_in
   same_agrees n e = rw (e, append-nil) i
 
-  starts : (t : Bool) → cond t (Waiting record { due = later time cfg.idle_interval_ms; step = 0; interval = cfg.idle_interval_ms }) b.idle
+  starts : (t : Bool) → cond t (Some record { due = later time cfg.idle_interval_ms; step = 0; interval = cfg.idle_interval_ms }) b.idle
       ≡ timer_of (cond t (since time cfg.idle_interval_ms []) x.schedule)
   unfolding timer_of step_after
   starts true = refl
@@ -311,15 +310,15 @@ module _ (c : ℕ) (b : Book) (x : Past) (i : Agrees c b x) (cfg : StreamConfig)
   unfolding new_written
   new_right n least p by l z = go (new_in b)
     where
-      Ok : WriteIn → Type 0
-      Ok = NewRight c x cfg time least
+      Fine : WriteIn → Type 0
+      Fine = NewRight c x cfg time least
 
-      go : (cs : List Packet) → Ok (new_by cfg time n b p by cs)
+      go : (cs : List Packet) → Fine (new_by cfg time n b p by cs)
       go [] = record { changed = refl; enough = l; agrees = none_written }
       go (first ∷ others) =
-          by_cond Ok (not (fit_all p by (first ∷ []))) _ _
+          by_cond Fine (not (fit_all p by (first ∷ []))) _ _
           (λ over.
-          by_cond Ok (eqb p.len 0) _ _ (λ empty. record { changed = refl; enough = omega (arith, z (omega (arith, tests))); agrees = none_written })
+          by_cond Fine (eqb p.len 0) _ _ (λ empty. record { changed = refl; enough = omega (arith, z (omega (arith, tests))); agrees = none_written })
           (λ more. record { changed = refl; enough = l; agrees = none_written }))
           (λ fits. record { changed = refl; enough = omega arith; agrees = some_written _ })
 
@@ -328,17 +327,17 @@ pub requests_agree : (c : ℕ) (b : Book) (x : Past) → Agrees c b x → (rs : 
 requests_agree c b x i rs = record { unwritten = i.unwritten; fits = i.fits; written = i.written; first = i.first; waiting = refl; idle = i.idle }
 
 -- settings are never refused with 3
-check_kept : (cfg : StreamConfig) (why : Refusal) → check_of cfg ≡ Refused why → eqb (number_of why) 3 ≡ false
+check_kept : (cfg : StreamConfig) (why : Refusal) → check_of cfg ≡ Err why → eqb (number_of why) 3 ≡ false
 unfolding check_of
 check_kept cfg why =
     by_cond Not3 (outside 1 64 cfg.max_command_words) _ _ (λ t e. other CommandWords refl e) (λ t.
     by_cond Not3 (outside 1 300 cfg.idle_interval_ms) _ _ (λ u e. other IdleInterval refl e) (λ u.
     by_cond Not3 (eqb cfg.idle_growth 0) _ _ (λ v e. other IdleGrowth refl e) (λ v e. absurd (let z : ◌≡◌ {A = ℕ} 0 1 = cc in omega arith))))
   where
-    Not3 : Outcome → Type 0
-    Not3 k = k ≡ Refused why → eqb (number_of why) 3 ≡ false
+    Not3 : Result ⊤ Refusal → Type 0
+    Not3 k = k ≡ Err why → eqb (number_of why) 3 ≡ false
 
-    other : (w : Refusal) → eqb (number_of w) 3 ≡ false → Refused w ≡ Refused why → eqb (number_of why) 3 ≡ false
+    other : (w : Refusal) → eqb (number_of w) 3 ≡ false → ◌≡◌ {A = Result ⊤ Refusal} (Err w) (Err why) → eqb (number_of why) 3 ≡ false
     other w f e = let g : w ≡ why = cc in subst (λ (v : Refusal). eqb (number_of v) 3 ≡ false) g f
 
 module _ (c : ℕ) (some : 1 ≤ c) (b : Book) (small : Small b) (x : Past) (i : Agrees c b x) (cfg : StreamConfig) (time : ℕ) (p : PayloadWriter) (by : List ℕ) where
@@ -390,10 +389,10 @@ module _ (c : ℕ) (some : 1 ≤ c) (b : Book) (small : Small b) (x : Past) (i :
   unfolding write_in
   write_agrees = by_tests (check_of cfg) refl (payload_valid p (length by)) refl
     where
-      by_tests : (k : Outcome) → check_of cfg ≡ k → (v : Bool) → payload_valid p (length by) ≡ v → Wrote (entry k v (refused b p by) (written_in c cfg time b p by))
-      by_tests (Refused why) e v f = kept_agrees why (check_kept cfg why e)
-      by_tests Done e false f = kept_agrees InvalidState refl
-      by_tests Done e true f = written_agrees f
+      by_tests : (k : Result ⊤ Refusal) → check_of cfg ≡ k → (v : Bool) → payload_valid p (length by) ≡ v → Wrote (entry k v (refused b p by) (written_in c cfg time b p by))
+      by_tests (Err why) e v f = kept_agrees why (check_kept cfg why e)
+      by_tests (Ok _) e false f = kept_agrees InvalidState refl
+      by_tests (Ok _) e true f = written_agrees f
 
 -- ---- every list of calls
 

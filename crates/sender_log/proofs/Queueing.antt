@@ -1,5 +1,9 @@
 -- Queued words follow the book.
 use mathlib.Core.Path.{◌≡◌, refl, sym, ap, ◌∙◌, subst}
+use Rattle.std.proofs.Common.{Result, Ok, Err}
+use Rattle.config.specs.declared.refusal.Refusal.{Refusal}
+use Rattle.sender.specs.declared.sender.SenderAnswer.{SenderAnswer}
+use Rattle.std.specs.Bool.{⊤}
 use mathlib.Core.Bool.{Bool, true, false, cond}
 use mathlib.Core.List.{List, [], ◌∷◌, ◌++◌, append_assoc}
 use Prim.Native.Nat.{ℕ, ◌+◌, ◌-◌, ◌≤◌, ◌<◌}
@@ -10,8 +14,6 @@ use lib.Seq.{get_or_at}
 use lib.ListN.{length, length-append}
 use Rattle.config.specs.Settings.{check_of, tested}
 use Rattle.config.specs.declared.settings.StreamConfig.{StreamConfig}
-use Rattle.config.specs.declared.answer.Outcome.{Outcome}
-use Rattle.config.specs.declared.answer.Outcome.TheVariants.{Done, Refused}
 use Rattle.config.specs.declared.refusal.Refusal.TheVariants.{Full}
 use Rattle.history.specs.Headers.{length_at}
 use Rattle.history.specs.Entries.{size, Holds}
@@ -23,7 +25,6 @@ use Rattle.fronts.specs.Commands.{behind as rest}
 use Rattle.sender.specs.Queueing.{room_of, joining, further, need_of, joined_to, queued_to, sent, unsent, queued_of, words_check, placed_of, sent_of}
 use Rattle.sender.specs.Answers.{send_answer}
 use Rattle.sender.specs.declared.sender.Sender.{Sender}
-use Rattle.sender.specs.declared.sender.Sent.{Sent}
 use Rattle.sender.proofs.Validity.{valid_words}
 use Rattle.fronts.proofs.Fronts.{Divides, divides_behind}
 use Rattle.sender.proofs.Parts.{commands_parts}
@@ -130,7 +131,7 @@ module _ (c q : ℕ) (s : Sender) (ring : List ℕ) (b : Book) (f : Follows c q 
 
   -- ---- the ways out
 
-  abbrev Sends : Sent × List ℕ → QueueIn → Type 0
+  abbrev Sends : SenderAnswer ⊤ × List ℕ → QueueIn → Type 0
   Sends h a = Follows c q h.0.sender h.1 a.book × (h.0.answer ≡ a.answer)
 
   module _ (max : ℕ) (ws : List ℕ) (few : max ≤ 64) where
@@ -139,7 +140,7 @@ module _ (c q : ℕ) (s : Sender) (ring : List ℕ) (b : Book) (f : Follows c q 
     need_same = rw (room_same max)
 
     placed_follows : Divides max ws
-        → Sends (placed_of s ring max ws) (cond (ltb (c - size b.unwritten) (need_in max ws b)) (record { book = b; answer = Refused Full }) (record { book = queued_in c max ws b; answer = Done }))
+        → Sends (placed_of s ring max ws) (cond (ltb (c - size b.unwritten) (need_in max ws b)) (record { book = b; answer = Err Full }) (record { book = queued_in c max ws b; answer = Ok tt }))
     unfolding placed_of queued_of queued_in joined_book
     placed_follows d =
         let n : ltb (c - size b.unwritten) (need_in max ws b) ≡ ltb (s.history.size - s.unsent_words) (need_of s ring max ws) = cc (f.words, f.unsent_words, need_same) in
@@ -147,7 +148,7 @@ module _ (c q : ℕ) (s : Sender) (ring : List ℕ) (b : Book) (f : Follows c q 
       where
         by : (t : Bool) → ltb (s.history.size - s.unsent_words) (need_of s ring max ws) ≡ t
             → Sends (cond t (unsent s ring Full) (queued_of s ring max ws))
-            (cond t (record { book = b; answer = Refused Full }) (record { book = pushed_all_in c (further s ring max ws) (joined_in c (joining s ring max ws) b); answer = Done }))
+            (cond t (record { book = b; answer = Err Full }) (record { book = pushed_all_in c (further s ring max ws) (joined_in c (joining s ring max ws) b); answer = Ok tt }))
         by true e = (f, refl)
         by false e = (queued_follows max ws few d (ltb-false _ _ e), refl)
 
@@ -159,12 +160,12 @@ module _ (c q : ℕ) (s : Sender) (ring : List ℕ) (b : Book) (f : Follows c q 
       placed_in : QueueIn
       placed_in =
           let max : ℕ = cfg.max_command_words in
-          cond (ltb (c - size b.unwritten) (need_in max ws b)) (record { book = b; answer = Refused Full }) (record { book = queued_in c max ws b; answer = Done })
+          cond (ltb (c - size b.unwritten) (need_in max ws b)) (record { book = b; answer = Err Full }) (record { book = queued_in c max ws b; answer = Ok tt })
 
-      by : (k : Outcome) → check_of cfg ≡ k → (t : Bool) (w : Outcome) → words_check cfg.max_command_words ws ≡ w
-          → Sends (tested k (unsent s ring) (cond t (sent s Done, ring) (tested w (unsent s ring) (placed_of s ring cfg.max_command_words ws))))
-          (tested k (λ why. record { book = b; answer = Refused why }) (cond t (record { book = b; answer = Done }) (tested w (λ why. record { book = b; answer = Refused why }) placed_in)))
-      by (Refused why) e t w h = (f, refl)
-      by Done e true w h = (f, refl)
-      by Done e false (Refused why) h = (f, refl)
-      by Done e false Done h = placed_follows cfg.max_command_words ws (settings_few cfg e) (check_divides cfg.max_command_words ws h)
+      by : (k : Result ⊤ Refusal) → check_of cfg ≡ k → (t : Bool) (w : Result ⊤ Refusal) → words_check cfg.max_command_words ws ≡ w
+          → Sends (tested k (unsent s ring) (cond t (sent s (Ok tt), ring) (tested w (unsent s ring) (placed_of s ring cfg.max_command_words ws))))
+          (tested k (λ why. record { book = b; answer = Err why }) (cond t (record { book = b; answer = Ok tt }) (tested w (λ why. record { book = b; answer = Err why }) placed_in)))
+      by (Err why) e t w h = (f, refl)
+      by (Ok _) e true w h = (f, refl)
+      by (Ok _) e false (Err why) h = (f, refl)
+      by (Ok _) e false (Ok _) h = placed_follows cfg.max_command_words ws (settings_few cfg e) (check_divides cfg.max_command_words ws h)

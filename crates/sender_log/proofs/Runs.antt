@@ -1,5 +1,8 @@
 -- Every list of calls on a fresh sender.
 use Prim.Native.Nat.{ℕ}
+use Rattle.std.proofs.Common.{Ok, Err}
+use Rattle.sender.specs.declared.sender.SenderAnswer.{SenderAnswer}
+use Rattle.std.specs.Bool.{⊤}
 use mathlib.Core.Path.{◌≡◌, refl, ap, ◌∙◌}
 use mathlib.Core.Bool.{Bool, true, false, cond, not, ◌||◌}
 use mathlib.Core.List.{List, [], ◌∷◌}
@@ -14,8 +17,6 @@ use Rattle.sender.specs.State.{valid_of, start_of}
 use Rattle.sender.specs.Answers.{unstarted, not_started, new_answer, reset_answer, send_answer, request_answer, deadline_answer, wants_answer, next_answer}
 use Rattle.writing.specs.Answers.{write_answer}
 use Rattle.sender.specs.declared.sender.Sender.{Sender}
-use Rattle.config.specs.declared.answer.Outcome.TheVariants.{Done, Refused}
-use Rattle.sender.specs.declared.sender.Started.{Started as StartAnswer}
 use Rattle.sender_log.specs.Book.{Book, nothing}
 use Rattle.sender_log.specs.Calls.{Call, queue_words, retransmit_request, write, Entry, queue_entry, request_entry, Step, step_of, run_from, run, Typed, AllTyped}
 use Rattle.sender_log.specs.Answers.{told_of, book_from, book_of, said_from}
@@ -122,7 +123,7 @@ answered c q ring₀ started calls l = record {
   whole = run_said c q ring₀ started calls l;
 }
 
-refused_start : (t : Bool) (r : StartAnswer × List ℕ) (ring₀ : List ℕ) (why : Refusal) → r.0.answer ≡ Done → (cond t (not_started, ring₀) r).0.answer ≡ Refused why
+refused_start : (t : Bool) (r : SenderAnswer ⊤ × List ℕ) (ring₀ : List ℕ) (why : Refusal) → r.0.answer ≡ Ok tt → (cond t (not_started, ring₀) r).0.answer ≡ Err why
     → (ring : List ℕ) → StateRefused (cond t (not_started, ring₀) r).0.sender ring
 refused_start true r ring₀ why d e ring = state_refused unstarted ring (unstarted_invalid ring)
 refused_start false r ring₀ why d e ring = absurd (let z : ◌≡◌ {A = ℕ} 0 1 = cc in omega arith)
@@ -130,4 +131,4 @@ refused_start false r ring₀ why d e ring = absurd (let z : ◌≡◌ {A = ℕ}
 pub not_started_lem : NotStarted
 unfolding new_answer
 not_started_lem c q ring₀ why e ring =
-    refused_start (outside 65 32768 c || (not (eqb (length ring₀) c) || outside 1 16 q)) (record { sender = (start_of c q ring₀).0; answer = Done }, (start_of c q ring₀).1) ring₀ why refl e ring
+    refused_start (outside 65 32768 c || (not (eqb (length ring₀) c) || outside 1 16 q)) (record { sender = (start_of c q ring₀).0; answer = Ok tt }, (start_of c q ring₀).1) ring₀ why refl e ring

@@ -1,5 +1,8 @@
 -- The sender over ring and counters holds what the book says.
 use mathlib.Core.Path.{◌≡◌, refl, sym, ap, ◌∙◌}
+use Rattle.std.proofs.Common.{Ok}
+use Rattle.sender.specs.declared.sender.SenderAnswer.{SenderAnswer}
+use Rattle.std.specs.Bool.{⊤}
 use mathlib.Core.Bool.{Bool, true, false, cond, not}
 use mathlib.Core.List.{List, ◌++◌}
 use Prim.Native.Nat.{ℕ, zero, suc, ◌+◌, ◌≤◌}
@@ -22,10 +25,8 @@ use Rattle.sender.specs.State.{valid_of, fresh}
 use Rattle.sender.specs.Requests.{written_count, not_written, not_in_buffer, with_queue}
 use Rattle.sender.specs.Answers.{not_started, new_answer}
 use Rattle.sender.specs.declared.sender.Sender.{Sender}
-use Rattle.config.specs.declared.answer.Outcome.TheVariants.{Done}
 use Rattle.config.specs.inner.Choices.{or_left, or_right}
 use Rattle.config.specs.inner.Ranges.{not_outside}
-use Rattle.sender.specs.declared.sender.Started.{Started}
 use Rattle.sender.proofs.Validity.{passes}
 use Rattle.sender_log.specs.Book.{Book, nothing, oldest_in, absent_in, error_in, with_waiting}
 use Rattle.sender_log.proofs.Held.{Held}
@@ -105,7 +106,7 @@ module _ (c q : ℕ) (s : Sender) (ring : List ℕ) (b : Book) (f : Follows c q 
 
 -- ---- a start
 
-start_taken : (t : Bool) (r : Started × List ℕ) (ring₀ : List ℕ) → (cond t (not_started, ring₀) r).0.answer ≡ Done → t ≡ false
+start_taken : (t : Bool) (r : SenderAnswer ⊤ × List ℕ) (ring₀ : List ℕ) → (cond t (not_started, ring₀) r).0.answer ≡ Ok tt → t ≡ false
 start_taken true r ring₀ e = absurd (let z : ◌≡◌ {A = ℕ} 0 1 = cc in omega arith)
 start_taken false r ring₀ e = refl
 
@@ -129,7 +130,7 @@ fresh_follows c q l m o p = record {
   step = refl;
 }
 
-pub start_follows : (c q : ℕ) (ring₀ : List ℕ) → (new_answer c q ring₀).0.answer ≡ Done → Follows c q (new_answer c q ring₀).0.sender (new_answer c q ring₀).1 nothing
+pub start_follows : (c q : ℕ) (ring₀ : List ℕ) → (new_answer c q ring₀).0.answer ≡ Ok tt → Follows c q (new_answer c q ring₀).0.sender (new_answer c q ring₀).1 nothing
 unfolding new_answer
 start_follows c q ring₀ e =
     let t = start_taken _ _ ring₀ e in

@@ -1,5 +1,7 @@
 -- The words of the commands that a sender holds have 32 bits, and so payloads can hold the commands.
 use Prim.Native.Nat.{ℕ, zero, suc, ◌-◌, ◌≤◌}
+use Rattle.std.proofs.Common.{Option, Some, None}
+use Rattle.idle.specs.declared.idle.Idle.{Idle}
 use mathlib.Core.Path.{◌≡◌}
 use mathlib.Core.Bool.{Bool, true, false, cond, not, ◌||◌}
 use mathlib.Core.List.{List, [], ◌∷◌, ◌++◌}
@@ -16,8 +18,6 @@ use Rattle.command.specs.Messages.{whole_of}
 use Rattle.command.specs.declared.retransmit.RetransmitRequest.{RetransmitRequest}
 use Rattle.history.specs.Entries.{size, kept, Short}
 use Rattle.history.specs.Queue.{asks}
-use Rattle.idle.specs.declared.idle.IdleTimer.{IdleTimer}
-use Rattle.idle.specs.declared.idle.IdleTimer.TheVariants.{Off, Waiting}
 use Rattle.rows.specs.Rows.{fit_all}
 use Rattle.fronts.specs.Commands.{front, behind, commands_in, commands_of}
 use Rattle.sender.specs.Queueing.{words_check}
@@ -141,34 +141,34 @@ module _ (c : ℕ) where
   sent_32 : (b : Book) (cfg : StreamConfig) (ws : List ℕ) → Words32 ws → Book32 b → Book32 (sent_in c b cfg ws).book
   unfolding sent_in
   sent_32 b cfg ws h i =
-      by_check Ok (check_of cfg) _ _ (λ why. i) (λ passed.
-      by_cond Ok (eqb (length ws) 0) _ _ (λ none. i) (λ some.
-      by_check Ok (words_check cfg.max_command_words ws) _ _ (λ why. i) (λ divides.
-      by_cond Ok (ltb (c - size b.unwritten) (need_in cfg.max_command_words ws b)) _ _ (λ full. i) (λ fits.
+      by_check Fine (check_of cfg) _ _ (λ why. i) (λ passed.
+      by_cond Fine (eqb (length ws) 0) _ _ (λ none. i) (λ some.
+      by_check Fine (words_check cfg.max_command_words ws) _ _ (λ why. i) (λ divides.
+      by_cond Fine (ltb (c - size b.unwritten) (need_in cfg.max_command_words ws b)) _ _ (λ full. i) (λ fits.
       queued_32 cfg.max_command_words ws b (check_divides _ ws divides) h i))))
     where
-      Ok : QueueIn → Type 0
-      Ok q = Book32 q.book
+      Fine : QueueIn → Type 0
+      Fine q = Book32 q.book
 
   requested_32 : (q : ℕ) (b : Book) (cfg : StreamConfig) (r : RetransmitRequest) → Book32 b → Book32 (requested_in q b cfg r).book
   unfolding requested_in
   requested_32 q b cfg r i =
-      by_check Ok (check_of cfg) _ _ (λ why. i) (λ passed.
-      by_cond Ok (not cfg.retransmit) _ _ (λ off. i) (λ on.
-      by_cond Ok (absent_in b r.seq) _ _ (λ absent. i) (λ held.
-      by_cond Ok (asks b.waiting r.seq) _ _ (λ pending. i) (λ new.
-      by_cond Ok (leb q (length b.waiting)) _ _ (λ full. i) (λ room. record { written = i.written; unwritten = i.unwritten })))))
+      by_check Fine (check_of cfg) _ _ (λ why. i) (λ passed.
+      by_cond Fine (not cfg.retransmit) _ _ (λ off. i) (λ on.
+      by_cond Fine (absent_in b r.seq) _ _ (λ absent. i) (λ held.
+      by_cond Fine (asks b.waiting r.seq) _ _ (λ pending. i) (λ new.
+      by_cond Fine (leb q (length b.waiting)) _ _ (λ full. i) (λ room. record { written = i.written; unwritten = i.unwritten })))))
     where
-      Ok : RequestIn → Type 0
-      Ok a = Book32 a.book
+      Fine : RequestIn → Type 0
+      Fine a = Book32 a.book
 
   pub idled_32 : (cfg : StreamConfig) (time : ℕ) (b : Book) → Book32 b → Book32 (idled_in c cfg time b)
   unfolding idled_in Words32
   idled_32 cfg time b i = by b.idle
     where
-      by : (t : IdleTimer) → Book32 (idled_by c cfg time b t)
-      by Off = i
-      by (Waiting k) =
+      by : (t : Option Idle) → Book32 (idled_by c cfg time b t)
+      by None = i
+      by (Some k) =
           by_cond Book32 (not (is_empty b.unwritten) || ltb time k.due) _ _ (λ e. i)
           (λ e. let p = pushed_32 [] b tt i in record { written = p.written; unwritten = p.unwritten })
 
@@ -181,13 +181,13 @@ module _ (c : ℕ) where
   unfolding new_written
   new_32 cfg time n b p by i = go (new_in b)
     where
-      Ok : WriteIn → Type 0
-      Ok a = Book32 a.book
+      Fine : WriteIn → Type 0
+      Fine a = Book32 a.book
 
-      go : (cs : List Packet) → Ok (new_by cfg time n b p by cs)
+      go : (cs : List Packet) → Fine (new_by cfg time n b p by cs)
       go [] = i
       go (first ∷ others) =
-          by_cond Ok (not (fit_all p by (first ∷ []))) _ _ (λ over. by_cond Ok (eqb p.len 0) _ _ (λ empty. i) (λ more. i))
+          by_cond Fine (not (fit_all p by (first ∷ []))) _ _ (λ over. by_cond Fine (eqb p.len 0) _ _ (λ empty. i) (λ more. i))
           (λ fits. written_32 cfg time _ b i)
 
   write_32 : (cfg : StreamConfig) (time : ℕ) (b : Book) (p : PayloadWriter) (by : List ℕ) → Book32 b → Book32 (write_in c cfg time b p by).book
@@ -195,12 +195,12 @@ module _ (c : ℕ) where
   write_32 cfg time b p by i =
       let s = served_in b b.waiting p by in
       let left : Book32 (with_waiting b s.waiting) = record { written = i.written; unwritten = i.unwritten } in
-      entry_any Ok _ _ (λ why. i) (check_of cfg) (payload_valid p (length by)) (λ passed valid.
-      by_cond Ok s.more _ _ (λ more. left) (λ all.
+      entry_any Fine _ _ (λ why. i) (check_of cfg) (payload_valid p (length by)) (λ passed valid.
+      by_cond Fine s.more _ _ (λ more. left) (λ all.
       new_32 cfg time s.commands (idled_in c cfg time (with_waiting b s.waiting)) s.payload s.bytes (idled_32 cfg time _ left)))
     where
-      Ok : WriteIn → Type 0
-      Ok a = Book32 a.book
+      Fine : WriteIn → Type 0
+      Fine a = Book32 a.book
 
 module _ (c q : ℕ) where
   pub call_32 : (call : Call) (b : Book) → Typed call → Book32 b → Book32 (told_of c q b call).book

@@ -1,5 +1,9 @@
 -- A write follows the book.
 use mathlib.Core.Path.{◌≡◌, refl, sym, ap, ◌∙◌, subst}
+use Rattle.std.proofs.Common.{Option, Some, Result, Ok, Err}
+use Rattle.config.specs.declared.refusal.Refusal.{Refusal}
+use Rattle.idle.specs.declared.idle.Idle.{Idle}
+use Rattle.std.specs.Bool.{⊤}
 use mathlib.Core.Bool.{Bool, true, false, cond, not}
 use mathlib.Core.List.{List, [], ◌∷◌, ◌++◌, append_assoc}
 use Prim.Native.Nat.{ℕ, ◌+◌, ◌-◌, ◌≤◌, min}
@@ -13,8 +17,6 @@ use Rattle.config.specs.Settings.{check_of}
 use Rattle.config.specs.Time.{later}
 use Rattle.config.specs.declared.refusal.Refusal.TheVariants.{TooLarge}
 use Rattle.config.specs.declared.settings.StreamConfig.{StreamConfig}
-use Rattle.config.specs.declared.answer.Outcome.{Outcome}
-use Rattle.config.specs.declared.answer.Outcome.TheVariants.{Done, Refused}
 use Rattle.packet.specs.Layout.{Packet}
 use Rattle.packet.specs.Write.{valid_of as payload_valid}
 use Rattle.packet.specs.declared.writer.PayloadWriter.{PayloadWriter}
@@ -23,8 +25,6 @@ use Rattle.history.specs.Headers.{header_at, words_from}
 use Rattle.history.specs.Entries.{size, Holds}
 use Rattle.history.proofs.Flat.{size_append}
 use Rattle.idle.specs.Schedule.{idle_ok}
-use Rattle.idle.specs.declared.idle.IdleTimer.{IdleTimer}
-use Rattle.idle.specs.declared.idle.IdleTimer.TheVariants.{Waiting}
 use Rattle.rows.specs.Rows.{Row, row_of, packets_from, fit_all, any_words}
 use Rattle.rows.proofs.Filling.{row_few}
 use Rattle.sender.specs.Requests.{written_count}
@@ -42,10 +42,10 @@ use Rattle.sender_log.proofs.Idling.{idled_follows}
 
 -- ---- new commands
 
-after_ok : (cfg : StreamConfig) (time : ℕ) (cs : List Packet) (i : IdleTimer) → idle_ok i ≡ true → idle_ok (idle_after cfg time cs i) ≡ true
+after_ok : (cfg : StreamConfig) (time : ℕ) (cs : List Packet) (i : Option Idle) → idle_ok i ≡ true → idle_ok (idle_after cfg time cs i) ≡ true
 after_ok cfg time cs i e = on (any_words cs)
   where
-    on : (t : Bool) → idle_ok (cond t (Waiting record { due = later time cfg.idle_interval_ms; step = 0; interval = cfg.idle_interval_ms }) i) ≡ true
+    on : (t : Bool) → idle_ok (cond t (Some record { due = later time cfg.idle_interval_ms; step = 0; interval = cfg.idle_interval_ms }) i) ≡ true
     on true = refl
     on false = e
 
@@ -181,9 +181,9 @@ pub write_follows : (c q : ℕ) (s : Sender) (ring : List ℕ) (b : Book) → Fo
 unfolding write_answer write_in
 write_follows c q s ring b f cfg typed time p by = rw (follows_valid c q s ring b f) (on (check_of cfg) (payload_valid p (length by)))
   where
-    on : (k : Outcome) (v : Bool) → Writes c q ring b cfg typed time
+    on : (k : Result ⊤ Refusal) (v : Bool) → Writes c q ring b cfg typed time
         (entry k v (write_refused s p by ring) (written_by s cfg time p by ring))
         (entry k v (refused_in b p by) (written_in c cfg time b p by))
-    on (Refused why) v = (f, refl, refl, refl)
-    on Done false = (f, refl, refl, refl)
-    on Done true = written_follows c q ring b cfg typed time s p by f
+    on (Err why) v = (f, refl, refl, refl)
+    on (Ok _) false = (f, refl, refl, refl)
+    on (Ok _) true = written_follows c q ring b cfg typed time s p by f

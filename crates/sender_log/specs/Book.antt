@@ -1,5 +1,7 @@
 -- 01, "History, repeats, idle": what a sender holds, as plain lists, and what queueing and requests do to it. No ring, no numbers that wrap, no counters.
-use Rattle.std.specs.Prelude.{ℕ, ◌+◌, ◌-◌, ◌%◌, Bool, cond, not, List, [], ◌∷◌, ◌++◌, length, ltb, leb, eqb}
+use Rattle.std.specs.Prelude.{ℕ, ◌+◌, ◌-◌, ◌%◌, Bool, cond, not, List, [], ◌∷◌, ◌++◌, length, ltb, leb, eqb, Option, None, Result, Ok, Err, ⊤}
+use Rattle.config.specs.declared.refusal.Refusal.{Refusal}
+use Rattle.idle.specs.declared.idle.Idle.{Idle}
 use Rattle.config.specs.Sequence.{turn, ahead}
 use Rattle.config.specs.Settings.{check_of, tested}
 use Rattle.config.specs.declared.refusal.Refusal.TheVariants.{Full}
@@ -9,14 +11,10 @@ use Rattle.command.specs.declared.retransmit.RetransmitError.{RetransmitError}
 use Rattle.history.specs.Entries.{size, kept}
 use Rattle.history.specs.Queue.{asks}
 use Rattle.history.specs.declared.queue.Ignored.TheVariants.{Pending, Full as NoPlace}
-use Rattle.idle.specs.declared.idle.IdleTimer.{IdleTimer}
-use Rattle.idle.specs.declared.idle.IdleTimer.TheVariants.{Off}
 use Rattle.fronts.specs.Commands.{front, behind, commands_of}
 use Rattle.sender.specs.Queueing.{words_check}
-use Rattle.config.specs.declared.answer.Outcome.{Outcome}
-use Rattle.config.specs.declared.answer.Outcome.TheVariants.{Done, Refused}
 use Rattle.sender.specs.declared.sender.RequestOutcome.{RequestOutcome}
-use Rattle.sender.specs.declared.sender.RequestOutcome.TheVariants.{Queued, Ignored, Error, NotSupported, Refused as RequestRefused}
+use Rattle.sender.specs.declared.sender.RequestOutcome.TheVariants.{Queued, Ignored, Error, NotSupported}
 
 pub record Book : Type 0 where
   -- the position of the oldest command held
@@ -26,11 +24,11 @@ pub record Book : Type 0 where
   pub unwritten : List (List ℕ)
   -- the requests that wait, oldest first
   pub waiting : List RetransmitRequest
-  pub idle : IdleTimer
+  pub idle : Option Idle
 
 -- a fresh sender
 abbrev pub nothing : Book
-nothing = record { first = 0; written = []; unwritten = []; waiting = []; idle = Off }
+nothing = record { first = 0; written = []; unwritten = []; waiting = []; idle = None }
 
 -- the oldest number
 abbrev pub oldest_in : Book → ℕ
@@ -97,17 +95,17 @@ queued_in c max ws b = pushed_all_in c (further_in max ws b) (joined_in c (joini
 -- the answer, and what is held after it
 pub record QueueIn : Type 0 where
   pub book : Book
-  pub answer : Outcome
+  pub answer : Result ⊤ Refusal
 
 -- 6 words and new headers exceed the history less unwritten words and their headers
 unfoldable pub sent_in : ℕ → Book → StreamConfig → List ℕ → QueueIn
 sent_in c b cfg ws =
     let max : ℕ = cfg.max_command_words in
-    tested (check_of cfg) (λ why. record { book = b; answer = Refused why })
-    (cond (eqb (length ws) 0) (record { book = b; answer = Done })
-    (tested (words_check max ws) (λ why. record { book = b; answer = Refused why })
-    (cond (ltb (c - size b.unwritten) (need_in max ws b)) (record { book = b; answer = Refused Full })
-    (record { book = queued_in c max ws b; answer = Done }))))
+    tested (check_of cfg) (λ why. record { book = b; answer = Err why })
+    (cond (eqb (length ws) 0) (record { book = b; answer = Ok tt })
+    (tested (words_check max ws) (λ why. record { book = b; answer = Err why })
+    (cond (ltb (c - size b.unwritten) (need_in max ws b)) (record { book = b; answer = Err Full })
+    (record { book = queued_in c max ws b; answer = Ok tt }))))
 
 -- ---- a received Retransmit Request
 
@@ -128,14 +126,14 @@ with_waiting b rs = record { first = b.first; written = b.written; unwritten = b
 
 pub record RequestIn : Type 0 where
   pub book : Book
-  pub outcome : RequestOutcome
+  pub outcome : Result RequestOutcome Refusal
 
 -- the ring has q places
 unfoldable pub requested_in : ℕ → Book → StreamConfig → RetransmitRequest → RequestIn
 requested_in q b cfg r =
-    tested (check_of cfg) (λ why. record { book = b; outcome = RequestRefused why })
-    (cond (not cfg.retransmit) (record { book = b; outcome = NotSupported })
-    (cond (absent_in b r.seq) (record { book = b; outcome = Error (error_in b) })
-    (cond (asks b.waiting r.seq) (record { book = b; outcome = Ignored Pending })
-    (cond (leb q (length b.waiting)) (record { book = b; outcome = Ignored NoPlace })
-    (record { book = with_waiting b (b.waiting ++ (r ∷ [])); outcome = Queued })))))
+    tested (check_of cfg) (λ why. record { book = b; outcome = Err why })
+    (cond (not cfg.retransmit) (record { book = b; outcome = Ok NotSupported })
+    (cond (absent_in b r.seq) (record { book = b; outcome = Ok (Error (error_in b)) })
+    (cond (asks b.waiting r.seq) (record { book = b; outcome = Ok (Ignored Pending) })
+    (cond (leb q (length b.waiting)) (record { book = b; outcome = Ok (Ignored NoPlace) })
+    (record { book = with_waiting b (b.waiting ++ (r ∷ [])); outcome = Ok Queued })))))

@@ -1,5 +1,7 @@
 -- 01, "The runs of demand 3": lists of calls on a fresh sender, refused ones included, each taking what the last left.
-use Rattle.std.specs.Prelude.{ℕ, ◌<◌, List, [], ◌∷◌}
+use Rattle.std.specs.Prelude.{ℕ, ◌<◌, List, [], ◌∷◌, Result, ⊤}
+use Rattle.config.specs.declared.refusal.Refusal.{Refusal}
+use Rattle.writing.specs.declared.writing.Written.{Written}
 use Rattle.config.specs.Sequence.{turn}
 use Rattle.config.specs.declared.settings.StreamConfig.{StreamConfig}
 use Rattle.packet.specs.Layout.{Words32}
@@ -8,9 +10,7 @@ use Rattle.command.specs.declared.retransmit.RetransmitRequest.{RetransmitReques
 use Rattle.sender.specs.Answers.{new_answer, send_answer, request_answer}
 use Rattle.writing.specs.Answers.{write_answer}
 use Rattle.sender.specs.declared.sender.Sender.{Sender}
-use Rattle.config.specs.declared.answer.Outcome.{Outcome}
 use Rattle.sender.specs.declared.sender.RequestOutcome.{RequestOutcome}
-use Rattle.writing.specs.declared.writing.Writing.{Writing}
 
 -- a call, each argument free
 pub data Call : Type 0 where
@@ -23,9 +23,9 @@ pub data Call : Type 0 where
 
 -- a call with its answer; of a write also the payload and the buffer after it
 pub data Entry : Type 0 where
-  queue_entry : StreamConfig → List ℕ → Outcome → Entry
-  request_entry : StreamConfig → RetransmitRequest → RequestOutcome → Entry
-  write_entry : StreamConfig → ℕ → PayloadWriter → List ℕ → Writing → PayloadWriter → List ℕ → Entry
+  queue_entry : StreamConfig → List ℕ → Result ⊤ Refusal → Entry
+  request_entry : StreamConfig → RetransmitRequest → Result RequestOutcome Refusal → Entry
+  write_entry : StreamConfig → ℕ → PayloadWriter → List ℕ → Result Written Refusal → PayloadWriter → List ℕ → Entry
 
 -- the state and the history's words that a call leaves, and what goes into the log
 pub record Step : Type 0 where
@@ -39,7 +39,7 @@ step_of s ring (queue_words cfg ws) =
     record { sender = h.0.sender; ring = h.1; entry = queue_entry cfg ws h.0.answer }
 step_of s ring (retransmit_request cfg r) =
     let h = request_answer s cfg ring r in
-    record { sender = h.sender; ring = ring; entry = request_entry cfg r h.outcome }
+    record { sender = h.sender; ring = ring; entry = request_entry cfg r h.answer }
 step_of s ring (write cfg time p b) =
     let h = write_answer s cfg time p b ring in
     record { sender = h.0.sender; ring = h.2; entry = write_entry cfg time p b h.0.answer h.0.payload h.1 }

@@ -1,6 +1,7 @@
 -- 01, "History, repeats, idle", "Write the stream", and "A paragraph to the testers": the commands that a write has to write, and that reading the payload finds them,
 -- up to the first that doesn't fit, exactly as many as the answer says.
-use Rattle.std.specs.Prelude.{ℕ, ◌-◌, min, ◌≡◌, Bool, true, false, List, [], ◌∷◌, ◌++◌, length, take, drop}
+use Rattle.std.specs.Prelude.{ℕ, ◌-◌, min, ◌≡◌, Bool, true, false, List, [], ◌∷◌, ◌++◌, length, take, drop, Result, Ok, Err}
+use Rattle.writing.specs.declared.writing.Written.{Written}
 use Rattle.config.specs.declared.refusal.Refusal.{Refusal}
 use Rattle.config.specs.declared.settings.StreamConfig.{StreamConfig}
 use Rattle.packet.specs.Layout.{Packet, payload_of, AllEncodable}
@@ -9,8 +10,6 @@ use Rattle.packet.specs.Write.{start_of, bytes_in}
 use Rattle.packet.specs.declared.writer.PayloadWriter.{PayloadWriter}
 use Rattle.rows.specs.Rows.{fit_all}
 use Rattle.writing.specs.Answers.{write_answer}
-use Rattle.writing.specs.declared.writing.Writing.{Writing}
-use Rattle.writing.specs.declared.writing.Writing.TheVariants.{Written, Refused}
 use Rattle.sender_log.specs.Calls.{Call, AllTyped, TypedConfig, run}
 use Rattle.sender_log.specs.Promise.{NoRoom, Started}
 use Rattle.sender_log.specs.Added.{items_added}
@@ -37,18 +36,18 @@ wanted_in c cfg time x p by =
     retransmits ++ (repeats_on retransmits p by (last_written c y cfg.fec_repeats) (new_of y) ++ new_of y)
 
 -- what a write answers and leaves in the payload, of the commands that it has to write
-pub record CountedIn (wanted : List Packet) (p : PayloadWriter) (by : List ℕ) (a : Writing) (p' : PayloadWriter) (by' : List ℕ) : Type 0 where
+pub record CountedIn (wanted : List Packet) (p : PayloadWriter) (by : List ℕ) (a : Result Written Refusal) (p' : PayloadWriter) (by' : List ℕ) : Type 0 where
   -- what the payload held stays, and reading on finds as many whole commands as the answer says and nothing else: the first of those wanted
   pub kept : bytes_in p by' ≡ bytes_in p by
-  pub found : (n : ℕ) (more : Bool) → a ≡ Written record { commands = n; more = more } → items_added p p' by' ≡ placed (start_of p) (take n wanted)
-  pub counted : (n : ℕ) (more : Bool) → a ≡ Written record { commands = n; more = more } → length (take n wanted) ≡ n
+  pub found : (n : ℕ) (more : Bool) → a ≡ Ok record { commands = n; more = more } → items_added p p' by' ≡ placed (start_of p) (take n wanted)
+  pub counted : (n : ℕ) (more : Bool) → a ≡ Ok record { commands = n; more = more } → length (take n wanted) ≡ n
   -- so where the payload held commands, reading it finds those and then these
-  pub reads : (held : List Packet) → AllEncodable held → bytes_in p by ≡ payload_of held → (n : ℕ) (more : Bool) → a ≡ Written record { commands = n; more = more }
+  pub reads : (held : List Packet) → AllEncodable held → bytes_in p by ≡ payload_of held → (n : ℕ) (more : Bool) → a ≡ Ok record { commands = n; more = more }
       → items_of (bytes_in p' by') ≡ placed 4 (held ++ take n wanted)
   -- cut at the first that doesn't fit
-  pub more : (n : ℕ) → a ≡ Written record { commands = n; more = true } → NoRoom p' by' (drop n wanted)
-  pub no_more : (n : ℕ) → a ≡ Written record { commands = n; more = false } → take n wanted ≡ wanted
-  pub refused : (why : Refusal) → a ≡ Refused why → (p' ≡ p) × (by' ≡ by)
+  pub more : (n : ℕ) → a ≡ Ok record { commands = n; more = true } → NoRoom p' by' (drop n wanted)
+  pub no_more : (n : ℕ) → a ≡ Ok record { commands = n; more = false } → take n wanted ≡ wanted
+  pub refused : (why : Refusal) → a ≡ Err why → (p' ≡ p) × (by' ≡ by)
 
 -- every write after every list of calls, into any payload
 abbrev pub Counted : Type 0

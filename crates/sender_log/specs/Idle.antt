@@ -1,15 +1,13 @@
 -- 01, "History, repeats, idle": writing a new command with words starts the idle schedule: 1 + R Zero Length Commands at steps of T1, then K more, each step G times
 -- the one before (saturating), each due one step after the last was queued.
-use Rattle.std.specs.Prelude.{ℕ, zero, suc, ◌+◌, ◌*◌, ◌≤◌, min, ◌≡◌, true, List, [], ◌∷◌, ◌++◌, length, replicate}
+use Rattle.std.specs.Prelude.{ℕ, zero, suc, ◌+◌, ◌*◌, ◌≤◌, min, ◌≡◌, true, List, [], ◌∷◌, ◌++◌, length, replicate, Option, Some, None, Ok}
+use Rattle.idle.specs.declared.idle.Idle.{Idle}
 use Rattle.config.specs.Settings.{check_of}
 use Rattle.config.specs.Time.{last_time, later}
-use Rattle.config.specs.declared.answer.Outcome.TheVariants.{Done}
 use Rattle.config.specs.declared.settings.StreamConfig.{StreamConfig}
 use Rattle.packet.specs.Write.{limit_of, start_of, valid_of as payload_valid}
 use Rattle.packet.specs.declared.writer.PayloadWriter.{PayloadWriter}
 use Rattle.history.specs.Entries.{Short}
-use Rattle.idle.specs.declared.idle.IdleTimer.{IdleTimer}
-use Rattle.idle.specs.declared.idle.IdleTimer.TheVariants.{Off, Waiting}
 use Rattle.sender_log.specs.Book.{Book}
 use Rattle.sender_log.specs.Writes.{write_in}
 
@@ -28,9 +26,9 @@ times_at time [] = []
 times_at time (step ∷ steps) = later time step ∷ times_at (later time step) steps
 
 -- the due times of a sender that is written at each of them, in at most so many writes
-abbrev pub due_of : IdleTimer → List ℕ
-due_of Off = []
-due_of (Waiting i) = i.due ∷ []
+abbrev pub due_of : Option Idle → List ℕ
+due_of None = []
+due_of (Some i) = i.due ∷ []
 
 abbrev pub at_due : List ℕ → (ℕ → List ℕ) → List ℕ
 at_due [] go = []
@@ -44,8 +42,8 @@ dues_in (suc f) c cfg p by b = at_due (due_of b.idle) (λ due. dues_in f c cfg p
 abbrev pub IdleTimes : Type 0
 IdleTimes =
     (c : ℕ) (cfg : StreamConfig) (p : PayloadWriter) (by : List ℕ) (b : Book) (time f : ℕ)
-    → check_of cfg ≡ Done → payload_valid p (length by) ≡ true → start_of p + 4 ≤ limit_of p (length by)
+    → check_of cfg ≡ Ok tt → payload_valid p (length by) ≡ true → start_of p + 4 ≤ limit_of p (length by)
     → Short b.written → b.unwritten ≡ [] → b.waiting ≡ []
-    → b.idle ≡ Waiting record { due = later time cfg.idle_interval_ms; step = 0; interval = cfg.idle_interval_ms }
+    → b.idle ≡ Some record { due = later time cfg.idle_interval_ms; step = 0; interval = cfg.idle_interval_ms }
     → 2 + cfg.fec_repeats + cfg.idle_further ≤ f
     → dues_in f c cfg p by b ≡ times_at time (steps_of cfg.idle_interval_ms cfg.idle_growth cfg.idle_further cfg.fec_repeats)

@@ -1,5 +1,7 @@
 -- 01, "History, repeats, idle", over past calls and answers: what each call of the log adds, and what a sender holds after them.
-use Rattle.std.specs.Prelude.{ℕ, ◌≤◌, ◌%◌, ◌≡◌, Bool, true, cond, ◌&&◌, List, [], ◌∷◌, ◌++◌, length, take, drop, ltb, eqb}
+use Rattle.std.specs.Prelude.{ℕ, ◌≤◌, ◌%◌, ◌≡◌, Bool, true, cond, ◌&&◌, List, [], ◌∷◌, ◌++◌, length, take, drop, ltb, eqb, Result, Ok, Err, ⊤}
+use Rattle.config.specs.declared.refusal.Refusal.{Refusal}
+use Rattle.writing.specs.declared.writing.Written.{Written}
 use Rattle.config.specs.Refusals.{number_of}
 use Rattle.config.specs.Sequence.{turn}
 use Rattle.config.specs.declared.settings.StreamConfig.{StreamConfig}
@@ -9,12 +11,8 @@ use Rattle.command.specs.declared.retransmit.RetransmitRequest.{RetransmitReques
 use Rattle.history.specs.Entries.{size, entries_of}
 use Rattle.history.specs.Queue.{waiting}
 use Rattle.fronts.specs.Commands.{front, behind, commands_of}
-use Rattle.config.specs.declared.answer.Outcome.{Outcome}
-use Rattle.config.specs.declared.answer.Outcome.TheVariants.{Done, Refused}
 use Rattle.sender.specs.declared.sender.RequestOutcome.{RequestOutcome}
-use Rattle.sender.specs.declared.sender.RequestOutcome.TheVariants.{Queued, Ignored, Error, NotSupported, Refused as RequestRefused}
-use Rattle.writing.specs.declared.writing.Writing.{Writing}
-use Rattle.writing.specs.declared.writing.Writing.TheVariants.{Written, Refused as WriteRefused}
+use Rattle.sender.specs.declared.sender.RequestOutcome.TheVariants.{Queued, Ignored, Error, NotSupported}
 use Rattle.sender.specs.declared.sender.Sender.{Sender}
 use Rattle.sender_log.specs.Book.{joined_last, room_in}
 use Rattle.sender_log.specs.Writes.{is_empty}
@@ -28,9 +26,9 @@ use Rattle.sender_log.specs.Requests.{in_turn, left_after}
 -- ---- queue words
 
 -- Words join the newest unwritten command up to the set size, whole messages only, then open further commands.
-abbrev pub queued_on : Past → ℕ → List ℕ → Outcome → Past
-queued_on x max ws (Refused why) = x
-queued_on x max ws Done =
+abbrev pub queued_on : Past → ℕ → List ℕ → Result ⊤ Refusal → Past
+queued_on x max ws (Err why) = x
+queued_on x max ws (Ok tt) =
     let room : ℕ = room_in max x.unwritten in
     record {
       written = x.written;
@@ -44,24 +42,24 @@ queued_on x max ws Done =
 abbrev pub with_requests : Past → List RetransmitRequest → Past
 with_requests x rs = record { written = x.written; unwritten = x.unwritten; waiting = rs; schedule = x.schedule }
 
-abbrev pub requested_on : Past → RetransmitRequest → RequestOutcome → Past
-requested_on x r Queued = with_requests x (x.waiting ++ (r ∷ []))
-requested_on x r (Ignored why) = x
-requested_on x r (Error e) = x
-requested_on x r NotSupported = x
-requested_on x r (RequestRefused why) = x
+abbrev pub requested_on : Past → RetransmitRequest → Result RequestOutcome Refusal → Past
+requested_on x r (Ok Queued) = with_requests x (x.waiting ++ (r ∷ []))
+requested_on x r (Ok (Ignored why)) = x
+requested_on x r (Ok (Error e)) = x
+requested_on x r (Ok NotSupported) = x
+requested_on x r (Err why) = x
 
 -- ---- a write
 
 -- the commands that it counts
-abbrev pub count_of : Writing → ℕ
-count_of (Written w) = w.commands
-count_of (WriteRefused why) = 0
+abbrev pub count_of : Result Written Refusal → ℕ
+count_of (Ok w) = w.commands
+count_of (Err why) = 0
 
 -- 3 is the one refusal that changes something
-abbrev pub changes : Writing → Bool
-changes (Written w) = true
-changes (WriteRefused why) = eqb (number_of why) 3
+abbrev pub changes : Result Written Refusal → Bool
+changes (Ok w) = true
+changes (Err why) = eqb (number_of why) 3
 
 -- a due idle command opens one, if none is unwritten
 abbrev pub idled_on : Past → StreamConfig → ℕ → Past

@@ -1,5 +1,5 @@
 -- What holds of every list of calls on a fresh sender with a history of c words and q places for requests.
-use Rattle.std.specs.Prelude.{ℕ, ◌+◌, ◌<◌, ◌≡◌, true, false, List, [], ◌∷◌, ◌++◌, length}
+use Rattle.std.specs.Prelude.{ℕ, ◌+◌, ◌<◌, ◌≡◌, true, false, List, [], ◌∷◌, ◌++◌, length, Ok, Err}
 use Rattle.packet.specs.Layout.{Packet, size_of}
 use Rattle.packet.specs.Write.{limit_of, start_of, valid_of as payload_valid}
 use Rattle.packet.specs.declared.writer.PayloadWriter.{PayloadWriter}
@@ -18,11 +18,6 @@ use Rattle.writing.specs.Writing.{written_by}
 use Rattle.sender.specs.Answers.{new_answer, reset_answer, send_answer, request_refused, request_answer, deadline_answer, wants_answer, next_answer}
 use Rattle.writing.specs.Answers.{write_refused, write_answer}
 use Rattle.sender.specs.declared.sender.Sender.{Sender}
-use Rattle.config.specs.declared.answer.Outcome.TheVariants.{Done, Refused}
-use Rattle.config.specs.declared.answer.Answered.TheVariants.{Is, Refused as AnsweredRefused}
-use Rattle.config.specs.declared.answer.Deadline.TheVariants.{Refused as DeadlineRefused}
-use Rattle.sender.specs.declared.sender.Next.TheVariants.{Number, Refused as NextRefused}
-use Rattle.writing.specs.declared.writing.Writing.TheVariants.{Written}
 use Rattle.sender_log.specs.Book.{Book, oldest_in, nothing}
 use Rattle.sender_log.specs.Writes.{new_in, answer_in, write_in}
 use Rattle.sender_log.specs.Calls.{Call, AllTyped, Typed, step_of, run}
@@ -50,9 +45,9 @@ pub record StateTaken (s : Sender) (ring : List ℕ) : Type 0 where
       → write_answer s cfg time p by ring
       ≡ entry (check_of cfg) (payload_valid p (length by)) (write_refused s p by ring) (written_by s cfg time p by ring)
   pub deadline : deadline_answer s ring ≡ deadline_of s
-  pub wants : (time : ℕ) → wants_answer s ring time ≡ Is (wants_of s time)
-  pub next : next_answer s ring ≡ Number (next_of s)
-  pub reset : reset_answer s ring ≡ (record { sender = (reset_of s ring).0; answer = Done }, (reset_of s ring).1)
+  pub wants : (time : ℕ) → wants_answer s ring time ≡ Ok (wants_of s time)
+  pub next : next_answer s ring ≡ Ok (next_of s)
+  pub reset : reset_answer s ring ≡ (record { sender = (reset_of s ring).0; answer = Ok tt }, (reset_of s ring).1)
 
 -- every call with settings that pass is refused with 13, and so is every call without
 pub record StateRefused (s : Sender) (ring : List ℕ) : Type 0 where
@@ -60,10 +55,10 @@ pub record StateRefused (s : Sender) (ring : List ℕ) : Type 0 where
   pub retransmit_request : (cfg : StreamConfig) (r : RetransmitRequest) → request_answer s cfg ring r ≡ tested (check_of cfg) (request_refused s) (request_refused s InvalidState)
   pub write : (cfg : StreamConfig) (time : ℕ) (p : PayloadWriter) (by : List ℕ)
       → write_answer s cfg time p by ring ≡ tested (check_of cfg) (write_refused s p by ring) (write_refused s p by ring InvalidState)
-  pub deadline : deadline_answer s ring ≡ DeadlineRefused InvalidState
-  pub wants : (time : ℕ) → wants_answer s ring time ≡ AnsweredRefused InvalidState
-  pub next : next_answer s ring ≡ NextRefused InvalidState
-  pub reset : reset_answer s ring ≡ (record { sender = s; answer = Refused InvalidState }, ring)
+  pub deadline : deadline_answer s ring ≡ Err InvalidState
+  pub wants : (time : ℕ) → wants_answer s ring time ≡ Err InvalidState
+  pub next : next_answer s ring ≡ Err InvalidState
+  pub reset : reset_answer s ring ≡ (record { sender = s; answer = Err InvalidState }, ring)
 
 -- ---- "more"
 
@@ -83,17 +78,17 @@ NoRoom p by (c ∷ cs) = limit_of p (length by) < start_of p + size_of c
 -- A write answers "more" exactly when a command is left that doesn't fit; without it nothing is left.
 pub record MoreRight (c : ℕ) (b : Book) : Type 0 where
   pub more : (cfg : StreamConfig) (time : ℕ) (p : PayloadWriter) (by : List ℕ) (n : ℕ)
-      → (write_in c cfg time b p by).answer ≡ Written record { commands = n; more = true }
+      → (write_in c cfg time b p by).answer ≡ Ok record { commands = n; more = true }
       → NoRoom (write_in c cfg time b p by).payload (write_in c cfg time b p by).bytes (next_in (write_in c cfg time b p by).book)
   pub no_more : (cfg : StreamConfig) (time : ℕ) (p : PayloadWriter) (by : List ℕ) (n : ℕ)
-      → (write_in c cfg time b p by).answer ≡ Written record { commands = n; more = false }
+      → (write_in c cfg time b p by).answer ≡ Ok record { commands = n; more = false }
       → ((write_in c cfg time b p by).book.waiting ≡ []) × ((write_in c cfg time b p by).book.unwritten ≡ [])
 
 -- ---- the theorems
 
 -- a start that isn't refused
 abbrev pub Started : ℕ → ℕ → List ℕ → Type 0
-Started c q ring₀ = (new_answer c q ring₀).0.answer ≡ Done
+Started c q ring₀ = (new_answer c q ring₀).0.answer ≡ Ok tt
 
 abbrev pub Reached : Type 0
 Reached =
@@ -107,7 +102,7 @@ NeverInvalid =
 
 -- a start that is refused leaves a sender that every call refuses, whatever history is lent
 abbrev pub NotStarted : Type 0
-NotStarted = (c q : ℕ) (ring₀ : List ℕ) (why : Refusal) → (new_answer c q ring₀).0.answer ≡ Refused why → (ring : List ℕ) → StateRefused (new_answer c q ring₀).0.sender ring
+NotStarted = (c q : ℕ) (ring₀ : List ℕ) (why : Refusal) → (new_answer c q ring₀).0.answer ≡ Err why → (ring : List ℕ) → StateRefused (new_answer c q ring₀).0.sender ring
 
 -- each answer, and with it the whole log, is settled by the past calls
 pub record AnsweredIn (c q : ℕ) (ring₀ : List ℕ) (calls : List Call) : Type 0 where

@@ -1,9 +1,8 @@
 -- 01, "History, repeats, idle": the idle schedule, from the last write of a command with words and the idle commands queued since, with the settings of each of those calls.
-use Rattle.std.specs.Prelude.{ℕ, ◌+◌, ◌*◌, min, Bool, false, cond, List, [], ◌∷◌, length, ltb, leb}
+use Rattle.std.specs.Prelude.{ℕ, ◌+◌, ◌*◌, min, Bool, false, cond, List, [], ◌∷◌, length, ltb, leb, Option, Some, None}
+use Rattle.idle.specs.declared.idle.Idle.{Idle}
 use Rattle.config.specs.Time.{last_time, later}
 use Rattle.config.specs.declared.settings.StreamConfig.{StreamConfig}
-use Rattle.idle.specs.declared.idle.IdleTimer.{IdleTimer}
-use Rattle.idle.specs.declared.idle.IdleTimer.TheVariants.{Off, Waiting}
 
 -- a write that queued an idle command
 pub record Queued : Type 0 where
@@ -33,14 +32,14 @@ all_queued [] = false
 all_queued (k ∷ ks) = leb (1 + k.settings.fec_repeats + k.settings.idle_further) (length (k ∷ ks))
 
 -- each due one step after the last was queued
-unfoldable pub timer_of : Schedule → IdleTimer
-timer_of none = Off
+unfoldable pub timer_of : Schedule → Option Idle
+timer_of none = None
 timer_of (since t0 T1 ks) =
-    cond (all_queued ks) Off (Waiting record { due = later (last_at t0 ks) (step_after T1 ks); step = length ks; interval = step_after T1 ks })
+    cond (all_queued ks) None (Some record { due = later (last_at t0 ks) (step_after T1 ks); step = length ks; interval = step_after T1 ks })
 
-abbrev pub is_due : ℕ → IdleTimer → Bool
-is_due time Off = false
-is_due time (Waiting i) = leb i.due time
+abbrev pub is_due : ℕ → Option Idle → Bool
+is_due time None = false
+is_due time (Some i) = leb i.due time
 
 abbrev pub one_more_at : StreamConfig → ℕ → Schedule → Schedule
 one_more_at cfg time none = none

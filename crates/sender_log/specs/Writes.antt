@@ -1,6 +1,8 @@
 -- 01, "History, repeats, idle" and "Write the stream": a write, over what is held as plain lists.
 -- Waiting retransmits come first, then a due idle command is queued, then up to R of the last written commands, then new ones.
-use Rattle.std.specs.Prelude.{ℕ, ◌+◌, ◌-◌, min, Bool, true, false, cond, not, ◌||◌, List, [], ◌∷◌, ◌++◌, length, take, drop, ltb, eqb}
+use Rattle.std.specs.Prelude.{ℕ, ◌+◌, ◌-◌, min, Bool, true, false, cond, not, ◌||◌, List, [], ◌∷◌, ◌++◌, length, take, drop, ltb, eqb, Option, Some, None, Result, Ok, Err}
+use Rattle.idle.specs.declared.idle.Idle.{Idle}
+use Rattle.writing.specs.declared.writing.Written.{Written}
 use Rattle.config.specs.Entry.{entry}
 use Rattle.config.specs.Sequence.{after}
 use Rattle.config.specs.Settings.{check_of}
@@ -14,13 +16,9 @@ use Rattle.command.specs.Write.{error_packet}
 use Rattle.command.specs.declared.retransmit.RetransmitRequest.{RetransmitRequest}
 use Rattle.history.specs.Written.{data_packet}
 use Rattle.idle.specs.Schedule.{idle_next}
-use Rattle.idle.specs.declared.idle.IdleTimer.{IdleTimer}
-use Rattle.idle.specs.declared.idle.IdleTimer.TheVariants.{Off, Waiting}
 use Rattle.rows.specs.Rows.{row_of, fit_all}
 use Rattle.rows.specs.Choice.{repeats_of}
 use Rattle.writing.specs.Writing.{idle_after}
-use Rattle.writing.specs.declared.writing.Writing.{Writing}
-use Rattle.writing.specs.declared.writing.Writing.TheVariants.{Written, Refused}
 use Rattle.sender_log.specs.Book.{Book, oldest_in, pushed_in, index_in, absent_in, error_in, with_waiting}
 
 -- commands as data commands, numbered from n on
@@ -79,13 +77,13 @@ abbrev pub is_empty : {A : Type 0} → List A → Bool
 is_empty [] = true
 is_empty (x ∷ xs) = false
 
-abbrev pub with_idle : Book → IdleTimer → Book
+abbrev pub with_idle : Book → Option Idle → Book
 with_idle b i = record { first = b.first; written = b.written; unwritten = b.unwritten; waiting = b.waiting; idle = i }
 
 -- none is queued while a command is unwritten
-abbrev pub idled_by : ℕ → StreamConfig → ℕ → Book → IdleTimer → Book
-idled_by c cfg time b Off = b
-idled_by c cfg time b (Waiting i) =
+abbrev pub idled_by : ℕ → StreamConfig → ℕ → Book → Option Idle → Book
+idled_by c cfg time b None = b
+idled_by c cfg time b (Some i) =
     cond (not (is_empty b.unwritten) || ltb time i.due) b (with_idle (pushed_in c [] b) (idle_next cfg time i))
 
 unfoldable pub idled_in : ℕ → StreamConfig → ℕ → Book → Book
@@ -111,15 +109,15 @@ written_on cfg time n b =
 -- what is held, the answer, the payload and its bytes
 pub record WriteIn : Type 0 where
   pub book : Book
-  pub answer : Writing
+  pub answer : (Result Written Refusal)
   pub payload : PayloadWriter
   pub bytes : List ℕ
 
 abbrev pub wrote : Book → PayloadWriter → List ℕ → ℕ → Bool → WriteIn
-wrote b p by n more = record { book = b; answer = Written record { commands = n; more = more }; payload = p; bytes = by }
+wrote b p by n more = record { book = b; answer = Ok record { commands = n; more = more }; payload = p; bytes = by }
 
 abbrev pub refused : Book → PayloadWriter → List ℕ → Refusal → WriteIn
-refused b p by why = record { book = b; answer = Refused why; payload = p; bytes = by }
+refused b p by why = record { book = b; answer = Err why; payload = p; bytes = by }
 
 -- n commands were written before
 abbrev pub new_by : StreamConfig → ℕ → ℕ → Book → PayloadWriter → List ℕ → List Packet → WriteIn

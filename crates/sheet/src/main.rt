@@ -6,188 +6,86 @@
 // from 1 to 4,096.
 #![tactic(auto)]
 
-ghost use Rattle.std.specs.Prelude.{◌≤◌, ◌<◌};
-ghost use Rattle.text.specs.Counts.{IsPrefixLen};
-
 use loss_sheet::sheet;
-use loss_sheet::sheet::{Answered, Sheet};
+use loss_sheet::sheet::Sheet;
 use std::io;
 use std::rt::Env;
-use text::{blocks, fields, lines, out};
+use text::blocks;
+use text::fields::Fields;
 
-// What is left after a block of input.
-#[derive(Clone, Copy)]
-struct Left {
+// The bytes of a record.
+const RECORD: usize = 16;
+
+// A sheet, and what is lent to it.
+#[derive(Drop)]
+struct Run<'r, 'a, R: Print + Eprint> {
+    rt: &'r R,
     sheet: Sheet,
-    // Another may follow.
-    more: bool,
+    ring: &'a mut [u32],
+    to: &'a mut [u8],
+}
+
+impl<'r, 'a, R: Print + Eprint> Run<'r, 'a, R> {
+    // The figures of some records, written where they are not refused; 0, or the refusal's number.
+    fn step(&mut self, bytes: &[u8]) -> io::Result<u8> {
+        let rt = self.rt;
+        let a = self.sheet.block(self.ring, bytes, self.to);
+        self.sheet = a.sheet;
+        if a.refusal == 0 {
+            if let Some(done) = self.to.get(..bytes.len()) {
+                rt.write_all(done)?;
+            }
+        }
+        Ok(a.refusal)
+    }
+
+    // The figures of a block; where it is refused, those of its records, each as a block of its own, up to the first
+    // that is refused. Answers whether another block is wanted.
+    fn block(&mut self, bytes: &[u8]) -> io::Result<bool> {
+        if self.step(bytes)? == 0 {
+            return Ok(true);
+        }
+        for record in bytes.chunks(RECORD) {
+            let answer = self.step(record)?;
+            if answer != 0 {
+                refused(self.rt, answer)?;
+                break;
+            }
+        }
+        Ok(false)
+    }
 }
 
 fn refused(rt: &impl Eprint, answer: u8) -> io::Result<()> {
     eprintln!(rt; "refused {answer}")
 }
 
-// Where the record at `at` ends, or the input in it.
-fn end(len: usize, at: usize) -> usize
-    requires { at < len }
-    ensures { (at < result) × (result ≤ len) }
-{
-    if len - at < 16 {
-        return len;
-    }
-    at + 16
+// The number that an argument is; none where it is no number, or one past 65,535.
+fn number(word: &[u8]) -> Option<usize> {
+    let mut fields = Fields::new(word);
+    let n = fields.figure(0xFFFF)?;
+    fields.is_done().then_some(n as usize)
 }
 
-// The figures of some records, written where they are not refused.
-fn step(
-    rt: &impl Print,
-    s: Sheet,
-    ring: &mut [u32],
-    bytes: &[u8],
-    to: &mut [u8],
-) -> io::Result<Answered> {
-    let a = s.block(ring, bytes, to);
-    if a.refusal == 0 {
-        out::flush(rt, &to[..], bytes.len())?;
-        return Ok(a);
-    }
-    Ok(a)
-}
-
-// Record after record, each as a block of its own, up to the first that is refused.
-fn singly(
-    rt: &(impl Print + Eprint),
-    first: Sheet,
-    ring: &mut [u32],
-    bytes: &[u8],
-    to: &mut [u8],
-) -> io::Result<()> {
-    let mut sheet = first;
-    let mut at = 0;
-    while at < bytes.len() {
-        let next = end(bytes.len(), at);
-        let a = step(rt, sheet, ring, &bytes[at..next], to)?;
-        sheet = a.sheet;
-        at = next;
-        if a.refusal != 0 {
-            return refused(rt, a.refusal);
-        }
-    }
-    Ok(())
-}
-
-// Reads a block of input, and writes its figures; where it is refused, those of the records before.
-fn turn(
-    rt: &(impl Print + Eprint + Input),
-    s: Sheet,
-    ring: &mut [u32],
-    input: &mut [u8],
-    to: &mut [u8],
-) -> io::Result<Left> {
-    let n = blocks::full(rt, input)?;
-    let full = n == input.len();
-    let a = step(rt, s, ring, &input[..n], to)?;
-    let next = a.sheet;
-    if a.refusal == 0 {
-        return Ok(Left {
-            sheet: next,
-            more: full,
-        });
-    }
-    singly(rt, s, ring, &input[..n], to)?;
-    Ok(Left {
-        sheet: next,
-        more: false,
-    })
-}
-
-// A proved loop has to end, and nothing says that the input does: it counts down from a number that
-// no run uses up.
-fn all(
-    rt: &(impl Print + Eprint + Input),
-    first: Sheet,
-    ring: &mut [u32],
-    input: &mut [u8],
-    to: &mut [u8],
-) -> io::Result<()> {
-    let mut sheet = first;
-    let mut turns = u64::MAX;
-    while 0 < turns {
-        let left = turn(rt, sheet, ring, input, to)?;
-        sheet = left.sheet;
-        turns = lines::to_go(turns, left.more);
-    }
-    Ok(())
-}
-
-fn started(
-    rt: &(impl Print + Eprint + Input),
-    n: usize,
-    ring: &mut [u32],
-    input: &mut [u8],
-    to: &mut [u8],
-) -> io::Result<()> {
-    let a = sheet::start(n, ring);
-    if a.refusal == 0 {
-        let first = a.sheet;
-        return all(rt, first, ring, input, to);
-    }
-    refused(rt, a.refusal)
-}
-
-// How many of a ring's first `n` words there are.
-fn places(ring: &[u32], n: usize) -> usize
-    ensures { IsPrefixLen result ring.now }
-{
-    if ring.len() < n {
-        return ring.len();
-    }
-    n
-}
-
-fn run(
-    rt: &(impl Print + Eprint + Input),
-    n: usize,
-    ring: &mut [u32],
-    input: &mut [u8],
-    to: &mut [u8],
-) -> io::Result<()> {
-    let m = places(&ring[..], n);
-    started(rt, n, &mut ring[..m], input, to)
-}
-
-// The first argument, after a blank; none where it is missing or too long.
-fn word(rt: &impl Env, line: &mut [u8]) -> usize {
-    if line.len() == 0 {
-        return 0;
-    }
-    rt.arg(1, &mut line[1..]).unwrap_or(0)
-}
-
-// The figure after a blank; 0 where it is none.
-fn figure(line: &[u8]) -> usize {
-    let f = fields::figure(line, 0, 0xFFFF);
-    if f.next == line.len() {
-        return f.n as usize;
-    }
-    0
-}
-
-// The figure in the blank and the `k` bytes after it; 0 where there are fewer.
-fn whole(line: &[u8], k: usize) -> usize {
-    if line.len() <= k {
-        return 0;
-    }
-    let m = lines::lent(line, k + 1);
-    figure(&line[..m])
-}
-
+// An argument that is missing, too long or no number is as good as 0.
 fn main(rt: HostRuntime) -> io::Result<()> {
-    let mut line = [b' '; 32];
-    let k = word(&rt, &mut line);
-    let n = whole(&line, k);
-    let mut ring = [0u32; 4096];
+    let mut word = [0u8; 31];
+    let k = rt.arg(1, &mut word).unwrap_or(0);
+    let n = number(&word[..k]).unwrap_or(0);
+    let mut words = [0u32; sheet::MAX_ARRIVALS];
+    let places = n.min(words.len());
+    let ring = &mut words[..places];
+    let started = sheet::start(n, ring);
+    if started.refusal != 0 {
+        return refused(&rt, started.refusal);
+    }
     let mut input = [0u8; blocks::SIZE];
     let mut to = [0u8; blocks::SIZE];
-    run(&rt, n, &mut ring, &mut input, &mut to)
+    let mut run = Run {
+        rt: &rt,
+        sheet: started.sheet,
+        ring,
+        to: &mut to,
+    };
+    blocks::each(&rt, &mut input, |bytes| run.block(bytes))
 }

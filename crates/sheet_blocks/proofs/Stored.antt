@@ -11,19 +11,6 @@ use Rattle.sheet_blocks.specs.Records.{is_block, rows}
 use Rattle.sheet_blocks.specs.Columns.{every_of, by_column, columns_of, records_of, stored_of, restored_of}
 use Rattle.sheet_blocks.proofs.Splice.{spliced_sets, spliced_append, spliced_nil}
 
--- ---- products
-
-pub pred_mul : (k d : ℕ) → 0 < k → k * d ≡ (k - 1) * d + d
-pred_mul zero d h = absurd (let z : ⊥ = omega arith in z)
-pred_mul (suc k) d h = let e : suc k - 1 ≡ k = omega arith in rw e (suc-mul k d)
-
-pub step_mul : (n c d : ℕ) → c < n → (n - c) * d ≡ (n - (c + 1)) * d + d
-step_mul n c d h = let e : n - (c + 1) ≡ n - c - 1 = omega arith in rw e (pred_mul (n - c) d (omega arith))
-
--- the whole is still to be stored
-pub mul_start : (c r : ℕ) → 0 + (c - 0) * r ≡ c * r
-mul_start c r = let e : c - 0 ≡ c = omega arith in rw e (omega arith)
-
 -- ---- lengths
 
 pub length_every : (b : List ℕ) (d k i : ℕ) → length (every_of b d k i) ≡ k
@@ -58,9 +45,6 @@ pub every_done : (b s z : List ℕ) (o i d k : ℕ) → k ≤ 0 → o ≤ length
 unfolding every_of
 every_done b s z o i d zero h f inv = sym (spliced_nil b o f) ∙ inv
 every_done b s z o i d (suc k) h f inv = absurd (let z : ⊥ = omega arith in z)
-
-pub columns_start : (b s : List ℕ) (d r c : ℕ) → spliced b 0 (by_column s d r (c - 0) 0) ≡ spliced b 0 (by_column s d r c 0)
-columns_start b s d r c = let e : c - 0 ≡ c = omega arith in rw e
 
 -- a turn of the loop that stores the columns from column i on
 pub columns_turn : (b b' s z : List ℕ) (o d r c i : ℕ) → i < c → o + (c - i) * r ≤ length b

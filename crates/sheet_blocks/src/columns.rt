@@ -12,14 +12,8 @@ fn put_every(out: &mut [u8], at: usize, from: &[u8], first: usize, step: usize, 
     requires { (at + k ≤ length out.old) × (first < step) × (k * step ≤ length from.now) × (step ≤ 4096) × (length from.now ≤ 65536) }
     ensures { out.new ≡ spliced out.old at (every_of from.now step k first) }
 {
-    let mut o = at;
-    let mut i = first;
-    let mut left = k;
-    while 0 < left {
-        out[o] = from[i];
-        o += 1;
-        i += step;
-        left -= 1;
+    for j in 0..k {
+        out[at + j] = from[first + j * step];
     }
 }
 
@@ -28,12 +22,8 @@ fn put_columns(out: &mut [u8], from: &[u8], rows: usize, cols: usize)
     requires { (cols * rows ≤ length out.old) × (rows * cols ≤ length from.now) × (cols ≤ 4096) × (length from.now ≤ 65536) }
     ensures { out.new ≡ spliced out.old 0 (by_column from.now cols rows cols 0) }
 {
-    let mut o = 0;
-    let mut c = 0;
-    while c < cols {
-        put_every(out, o, from, c, cols, rows);
-        o += rows;
-        c += 1;
+    for c in 0..cols {
+        put_every(out, c * rows, from, c, cols, rows);
     }
 }
 

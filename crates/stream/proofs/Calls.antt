@@ -1,11 +1,11 @@
 -- A write is made of its ends' calls: their tests are passed, and the payload is still valid after the first.
 use Prim.Native.Nat.{ℕ}
+use Rattle.std.proofs.Common.{Ok}
 use mathlib.Core.Path.{◌≡◌, sym}
 use mathlib.Core.Bool.{true}
 use mathlib.Core.List.{List}
 use lib.ListN.{length}
 use Rattle.config.specs.Settings.{check_of}
-use Rattle.config.specs.declared.answer.Outcome.TheVariants.{Done}
 use Rattle.config.specs.declared.settings.StreamConfig.{StreamConfig}
 use Rattle.packet.specs.Write.{valid_of as payload_valid}
 use Rattle.packet.specs.declared.writer.PayloadWriter.{PayloadWriter}
@@ -20,12 +20,12 @@ use Rattle.stream.specs.declared.stream.DataStream.{DataStream}
 use Rattle.stream.proofs.Validity.{valid_receiver, valid_sender}
 use Rattle.stream.proofs.Taking.{taken_valid}
 
-taken_called : (s : DataStream) (cfg : StreamConfig) (p : PayloadWriter) (b ring : List ℕ) → check_of cfg ≡ Done → valid_of s ring ≡ true → payload_valid p (length b) ≡ true
+taken_called : (s : DataStream) (cfg : StreamConfig) (p : PayloadWriter) (b ring : List ℕ) → check_of cfg ≡ Ok tt → valid_of s ring ≡ true → payload_valid p (length b) ≡ true
     → taken_of s.receiver cfg p b ≡ take_answer s.receiver cfg p b
 unfolding take_answer
 taken_called s cfg p b ring e v w = rw (e, valid_receiver s ring v, w)
 
-write_called : (s : DataStream) (cfg : StreamConfig) (p : PayloadWriter) (b ring : List ℕ) → check_of cfg ≡ Done → valid_of s ring ≡ true → payload_valid p (length b) ≡ true
+write_called : (s : DataStream) (cfg : StreamConfig) (p : PayloadWriter) (b ring : List ℕ) → check_of cfg ≡ Ok tt → valid_of s ring ≡ true → payload_valid p (length b) ≡ true
     → (time : ℕ) (t : RequestWritten × List ℕ) → t ≡ taken_of s.receiver cfg p b
     → written_by s.sender cfg time t.0.payload t.1 ring ≡ write_answer s.sender cfg time t.0.payload t.1 ring
 unfolding write_answer

@@ -1,5 +1,7 @@
 -- How many commands a sender's write has at most.
 use mathlib.Core.Path.{◌≡◌, sym, ap, ◌∙◌}
+use Rattle.std.proofs.Common.{Result, Ok, Err}
+use Rattle.config.specs.declared.refusal.Refusal.{Refusal}
 use mathlib.Core.Bool.{true}
 use mathlib.Core.Logic.{inl, inr}
 use mathlib.Core.List.{List, [], ◌∷◌}
@@ -19,16 +21,14 @@ use Rattle.sender.specs.State.{valid_of as sender_valid}
 use Rattle.sender.specs.Requests.{written_count}
 use Rattle.writing.specs.Writing.{commands_at, served_of, idled_of, new_by, new_of, written_by}
 use Rattle.sender.specs.declared.sender.Sender.{Sender}
-use Rattle.writing.specs.declared.writing.Writing.{Writing}
-use Rattle.writing.specs.declared.writing.Writing.TheVariants.{Written as Counted, Refused}
 use Rattle.writing.specs.declared.writing.Written.{Written}
 use Rattle.writing.specs.declared.writing.Wrote.{Wrote}
 use Rattle.writing.proofs.Serving.{served_sound}
 
 -- none where the write is refused
-abbrev commands_in : Writing → ℕ
-commands_in (Counted w) = w.commands
-commands_in (Refused why) = 0
+abbrev commands_in : Result Written Refusal → ℕ
+commands_in (Ok w) = w.commands
+commands_in (Err why) = 0
 
 -- each command takes four bytes of at most 1,400
 row_most : (cs : List Packet) (p : PayloadWriter) (b : List ℕ) → payload_valid p (length b) ≡ true → (row_of p b cs).written ≤ 350
@@ -65,7 +65,7 @@ module _ (s : Sender) (cfg : StreamConfig) (time : ℕ) (p : PayloadWriter) (b r
         | inr m ↦ rw m (le_trans (new_most idled.0 cfg time z.written z.payload z.bytes idled.1 sound.payload) (omega arith))
       ]
 
-  pub written_most : (w : Wrote) (bytes next : List ℕ) → (w, bytes, next) ≡ written_by s cfg time p b ring → (x : Written) → w.answer ≡ Counted x → x.commands ≤ 700
+  pub written_most : (w : Wrote) (bytes next : List ℕ) → (w, bytes, next) ≡ written_by s cfg time p b ring → (x : Written) → w.answer ≡ Ok x → x.commands ≤ 700
   written_most w bytes next e x a =
-      let f : (written_by s cfg time p b ring).0.answer ≡ Counted x = sym (ap (λ (y : Wrote × List ℕ × List ℕ). y.0.answer) e) ∙ a in
+      let f : (written_by s cfg time p b ring).0.answer ≡ Ok x = sym (ap (λ (y : Wrote × List ℕ × List ℕ). y.0.answer) e) ∙ a in
       rw f at all_most

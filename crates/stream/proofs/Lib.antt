@@ -1,6 +1,5 @@
 -- Laws that this crate's proofs and those of the crates above cite.
 pub mod Validity
-mod Ends
 mod Answers
 pub mod NotStarted
 mod Taking

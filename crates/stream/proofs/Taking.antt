@@ -1,5 +1,9 @@
 -- Taking a due request leaves a payload that passes the state test.
 use mathlib.Core.Path.{◌≡◌, refl, sym, subst}
+use Rattle.std.proofs.Common.{Option, Some, None, Result, Ok, Err}
+use Rattle.config.specs.declared.refusal.Refusal.{Refusal}
+use Rattle.window.specs.declared.window.SeqRange.{SeqRange}
+use Rattle.std.specs.Bool.{⊤}
 use mathlib.Core.Bool.{Bool, true, false, cond, not}
 use mathlib.Core.List.{List}
 use Prim.Native.Nat.{ℕ}
@@ -7,14 +11,10 @@ use lib.ListN.{length}
 use Rattle.config.specs.declared.settings.StreamConfig.{StreamConfig}
 use Rattle.packet.specs.Write.{valid_of as payload_valid}
 use Rattle.packet.specs.declared.writer.PayloadWriter.{PayloadWriter}
-use Rattle.config.specs.declared.answer.Outcome.{Outcome}
-use Rattle.config.specs.declared.answer.Outcome.TheVariants.{Done, Refused}
 use Rattle.packet.proofs.Outcomes.{outcome, written_valid, written_length}
 use Rattle.command.specs.Write.{request_packet}
 use Rattle.command.specs.declared.retransmit.RetransmitRequest.{RetransmitRequest}
 use Rattle.window.specs.Window.{request_of}
-use Rattle.window.specs.declared.window.Span.{Span}
-use Rattle.window.specs.declared.window.Span.TheVariants.{Nothing, Of}
 use Rattle.receiver.specs.Receiver.{enabled_of, with_asked, not_due, taken_by, offered_of, taken_span, taken_of}
 use Rattle.receiver.specs.declared.receiver.Receiver.{Receiver}
 use Rattle.receiver.specs.declared.receiver.RequestWritten.{RequestWritten}
@@ -23,14 +23,14 @@ module _ (r : Receiver) (cfg : StreamConfig) (p : PayloadWriter) (b : List ℕ) 
   abbrev Kept : RequestWritten × List ℕ → Type 0
   Kept t = (payload_valid t.0.payload (length b) ≡ true) × (length t.1 ≡ length b)
 
-  taken_payload : (q : RetransmitRequest) (w : PayloadWriter) (a : Outcome) → (taken_by r q w a).payload ≡ w
-  taken_payload q w Done = refl
-  taken_payload q w (Refused why) = refl
+  taken_payload : (q : RetransmitRequest) (w : PayloadWriter) (a : Result ⊤ Refusal) → (taken_by r q w a).payload ≡ w
+  taken_payload q w (Ok _) = refl
+  taken_payload q w (Err why) = refl
 
-  span_kept : (span : Span) → Kept (taken_span r p b span)
+  span_kept : (span : Option SeqRange) → Kept (taken_span r p b span)
   unfolding offered_of
-  span_kept Nothing = (v, refl)
-  span_kept (Of range) =
+  span_kept None = (v, refl)
+  span_kept (Some range) =
       let q : RetransmitRequest = record { seq = range.first; count = range.count } in
       let o = outcome p b (request_packet q) in
       (rw (taken_payload q) (written_valid p b (request_packet q) _ o v), written_length p b (request_packet q) _ o)

@@ -1,7 +1,6 @@
 -- 01, "The runs of demand 3": a stream's call counts as those calls of its ends that it makes.
-use Rattle.std.specs.Prelude.{ℕ, ◌≡◌, true, List, length}
+use Rattle.std.specs.Prelude.{ℕ, ◌≡◌, true, List, length, Ok}
 use Rattle.config.specs.Settings.{check_of}
-use Rattle.config.specs.declared.answer.Outcome.TheVariants.{Done}
 use Rattle.config.specs.declared.settings.StreamConfig.{StreamConfig}
 use Rattle.packet.specs.Write.{valid_of as payload_valid}
 use Rattle.packet.specs.declared.writer.PayloadWriter.{PayloadWriter}
@@ -22,4 +21,4 @@ pub record EndsCalled (s : DataStream) (cfg : StreamConfig) (p : PayloadWriter) 
 abbrev pub WriteCallsEnds : Type 0
 WriteCallsEnds =
     (s : DataStream) (cfg : StreamConfig) (p : PayloadWriter) (b ring : List ℕ)
-    → check_of cfg ≡ Done → valid_of s ring ≡ true → payload_valid p (length b) ≡ true → EndsCalled s cfg p b ring
+    → check_of cfg ≡ Ok tt → valid_of s ring ≡ true → payload_valid p (length b) ≡ true → EndsCalled s cfg p b ring

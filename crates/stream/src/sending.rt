@@ -2,27 +2,25 @@
 // and each end's state are tested once: what queueing leaves of a state that passed passes again.
 ghost use Rattle.std.specs.Prelude.{◌≡◌, true};
 ghost use Rattle.config.specs.Settings.{check_of};
-ghost use Rattle.config.specs.declared.answer.Outcome.TheVariants.{Done};
 ghost use Rattle.history.specs.State.{Marks};
 ghost use Rattle.sender.specs.State.{valid_of as sender_valid};
 ghost use Rattle.stream.specs.Writing.{write_answer};
-ghost use Rattle.stream.specs.Sending.{send_and_write_answer};
+ghost use Rattle.stream.specs.Sending.{not_queued_of, send_and_write_answer};
 
 use super::stream::{DataStream, Wrote};
 use super::tested;
-use config::answer::Outcome;
 use config::refusal::Refusal;
 use config::settings::StreamConfig;
 use history::history::Mark;
 use packet::writer::PayloadWriter;
-use writing::writing::Writing;
+use writing::writing::Written;
 
 #[derive(Clone, Copy)]
 pub enum SendAndWrite {
     // What `send_ump` refuses: nothing is queued and nothing written.
     NotQueued(Refusal),
     // The words are queued, and this is what `write_data` answers.
-    Queued(Writing),
+    Queued(Result<Written, Refusal>),
 }
 
 #[derive(Clone, Copy)]
@@ -30,6 +28,17 @@ pub struct SentAndWrote {
     pub stream: DataStream,
     pub payload: PayloadWriter,
     pub answer: SendAndWrite,
+}
+
+// Words that are refused end the call.
+fn not_queued(stream: DataStream, payload: PayloadWriter, why: Refusal) -> SentAndWrote
+    ensures { result ≡ not_queued_of stream payload why }
+{
+    SentAndWrote {
+        stream,
+        payload,
+        answer: SendAndWrite::NotQueued(why),
+    }
 }
 
 // Writes behind a queue call: the settings and the sender's state have passed.
@@ -42,20 +51,13 @@ fn write_queued(
     ring: &mut [u32],
     from: Mark,
 ) -> Wrote
-    requires { (check_of cfg ≡ Done) × (sender_valid s.sender ring.old ≡ true) × Marks s.sender.history ring.old from }
+    requires { (check_of cfg ≡ Ok tt) × (sender_valid s.sender ring.old ≡ true) × Marks s.sender.history ring.old from }
     ensures { (result, buf.new, ring.new) ≡ write_answer s cfg time p buf.old ring.old }
 {
-    let receiver = s.receiver;
-    if receiver::tested::is_valid(receiver) {
-        if packet::tested::is_valid(p, buf.len()) {
-            return tested::write_data(s, cfg, time, p, buf, ring, from);
-        }
+    if receiver::tested::is_valid(s.receiver) && packet::tested::is_valid(p, buf.len()) {
+        return tested::write_data(s, cfg, time, p, buf, ring, from);
     }
-    Wrote {
-        stream: s,
-        payload: p,
-        answer: Writing::Refused(Refusal::InvalidState),
-    }
+    Wrote::refused(s, p, Refusal::InvalidState)
 }
 
 impl DataStream {
@@ -72,57 +74,27 @@ impl DataStream {
     ) -> SentAndWrote
         ensures { (result, buf.new, ring.new) ≡ send_and_write_answer self cfg time words.now p buf.old ring.old }
     {
-        match cfg.check() {
-            Outcome::Refused(why) => SentAndWrote {
-                stream: self,
-                payload: p,
-                answer: SendAndWrite::NotQueued(why),
-            },
-            Outcome::Done => {
-                let before = self.sender;
-                let receiver = self.receiver;
-                let back = cfg.fec_repeats as usize;
-                let found = writing::placing::test(before, &ring[..], back);
-                if found.ok {
-                    let sent = sender::tested::send_ump(before, cfg, ring, words);
-                    let sender = sent.sender;
-                    let answer = sent.answer;
-                    match answer {
-                        Outcome::Refused(why) => {
-                            return SentAndWrote {
-                                stream: DataStream { sender, receiver },
-                                payload: p,
-                                answer: SendAndWrite::NotQueued(why),
-                            };
-                        }
-                        Outcome::Done => {
-                            let mark = writing::placing::mark_queued(before, sender, found.mark);
-                            let wrote = write_queued(
-                                DataStream { sender, receiver },
-                                cfg,
-                                time,
-                                p,
-                                buf,
-                                ring,
-                                mark,
-                            );
-                            let stream = wrote.stream;
-                            let payload = wrote.payload;
-                            let writing = wrote.answer;
-                            return SentAndWrote {
-                                stream,
-                                payload,
-                                answer: SendAndWrite::Queued(writing),
-                            };
-                        }
-                    }
-                }
-                SentAndWrote {
-                    stream: self,
-                    payload: p,
-                    answer: SendAndWrite::NotQueued(Refusal::InvalidState),
-                }
-            }
+        if let Err(why) = cfg.check() {
+            return not_queued(self, p, why);
+        }
+        let back = cfg.fec_repeats as usize;
+        let Some(found) = writing::placing::test(self.sender, &ring[..], back) else {
+            return not_queued(self, p, Refusal::InvalidState);
+        };
+        let sent = sender::tested::send_ump(self.sender, cfg, ring, words);
+        let stream = DataStream {
+            sender: sent.sender,
+            ..self
+        };
+        if let Err(why) = sent.answer {
+            return not_queued(stream, p, why);
+        }
+        let mark = writing::placing::mark_queued(self.sender, sent.sender, found);
+        let wrote = write_queued(stream, cfg, time, p, buf, ring, mark);
+        SentAndWrote {
+            stream: wrote.stream,
+            payload: wrote.payload,
+            answer: SendAndWrite::Queued(wrote.answer),
         }
     }
 }

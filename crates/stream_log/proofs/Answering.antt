@@ -1,5 +1,9 @@
 -- What each call answers is what the past calls of both ends say.
 use Prim.Native.Nat.{ℕ, suc, ◌≤◌}
+use Rattle.std.proofs.Common.{Result, Ok}
+use Rattle.config.specs.declared.refusal.Refusal.{Refusal}
+use Rattle.stream.specs.declared.stream.StreamAnswer.{StreamAnswer}
+use Rattle.std.specs.Bool.{⊤}
 use mathlib.Core.Path.{◌≡◌, refl, ap, ◌∙◌}
 use mathlib.Core.Bool.{not}
 use mathlib.Core.List.{List, [], ◌∷◌}
@@ -36,8 +40,6 @@ use Rattle.stream.specs.Answers.{new_answer, deadline_answer, wants_answer}
 use Rattle.stream.specs.Ends.{send_answer, request_answer, data_answer, error_answer, nak_answer, poll_answer, take_answer}
 use Rattle.stream.specs.Writing.{write_answer}
 use Rattle.stream.specs.declared.stream.DataStream.{DataStream}
-use Rattle.stream.specs.declared.stream.WasReset.{WasReset}
-use Rattle.config.specs.declared.answer.Answered.TheVariants.{Is}
 use Rattle.stream.specs.declared.stream.Wrote.{Wrote}
 use Rattle.stream_log.specs.Calls.{Call, send_ump, on_retransmit_request, on_ump_data, on_retransmit_error, on_retransmit_nak, poll, write_request, write_data, next_deadline, wants_write, reset, Entry, by_sender, by_receiver, wrote, deadline, wants, was_reset, step_of, run_from, run, Typed, AllTyped}
 use Rattle.stream_log.specs.Ends.{Ends, uncalled, ends_after, ends_of}
@@ -81,7 +83,7 @@ module _ (W c q : ℕ) (ring₀ : List ℕ) (least : 1 ≤ W) (most : W ≤ max_
     unfolding Sender.step_of told_of
     sender_wrote p b = let h = sender_says_lem (Sender.write cfg time p b) typed in (cc, cc, cc)
 
-    behind_says : (p : PayloadWriter) (b : List ℕ) (a : Request) (r : Receiver) (p₁ : PayloadWriter) (b₁ : List ℕ) → Took s.receiver cfg p b a r p₁ b₁
+    behind_says : (p : PayloadWriter) (b : List ℕ) (a : Result Request Refusal) (r : Receiver) (p₁ : PayloadWriter) (b₁ : List ℕ) → Took s.receiver cfg p b a r p₁ b₁
         → out_of (behind_take a (with_receiver s r) cfg time p₁ b₁ ring)
         ≡ entry (check_of cfg) (payload_valid p (length b)) (refused_out p b) (request_first c (book_of c q e.sent) cfg time p b (wanted_by s.receiver cfg))
     behind_says p b a r p₁ b₁ (settings why k) = rw k
@@ -113,7 +115,7 @@ module _ (W c q : ℕ) (ring₀ : List ℕ) (least : 1 ≤ W) (most : W ≤ max_
       deadline_tested W c q ring₀ least most started s ring e i
       ∙ cc (g.timer, n, h.idle)
 
-  wants_says : (time : ℕ) → wants_answer s ring time ≡ Is (wants_in W (log_of W e.received) (book_of c q e.sent) time)
+  wants_says : (time : ℕ) → wants_answer s ring time ≡ Ok (wants_in W (log_of W e.received) (book_of c q e.sent) time)
   unfolding wants_of
   wants_says time =
       let k = book_of c q e.sent in
@@ -122,7 +124,7 @@ module _ (W c q : ℕ) (ring₀ : List ℕ) (least : 1 ≤ W) (most : W ≤ max_
       let f : Follows c q s.sender ring k = moved i.sender_is i.ring_is (λ (a : Sender) (m : List ℕ). Follows c q a m k) (sender_run c q ring₀ started e.sent i.sender_typed) in
       let n : ltb 0 s.sender.unsent ≡ not (is_empty k.unwritten) = ap (ltb 0) h.unsent ∙ some_is k.unwritten in
       let m : ltb 0 s.sender.queue.len ≡ not (is_empty k.waiting) = ap (ltb 0) (waiting_count c q s.sender ring k f) ∙ some_is k.waiting in
-      wants_tested W c q ring₀ least most started s ring e i time ∙ ap Is (cc (g.due, n, m, h.idle))
+      wants_tested W c q ring₀ least most started s ring e i time ∙ ap Ok (cc (g.due, n, m, h.idle))
 
   -- ---- one call
 
@@ -138,7 +140,7 @@ module _ (W c q : ℕ) (ring₀ : List ℕ) (least : 1 ≤ W) (most : W ≤ max_
   call_says (write_data cfg time p b) l = ap (λ (o : Out). wrote cfg time p b o.answer o.payload o.bytes) (write_says cfg l time p b)
   call_says next_deadline l = ap deadline deadline_says
   call_says (wants_write time) l = ap (wants time) (wants_says time)
-  call_says reset l = ap (λ (x : WasReset × List ℕ). was_reset x.0.answer) (reset_is W c q ring₀ least most started s ring e i)
+  call_says reset l = ap (λ (x : StreamAnswer ⊤ × List ℕ). was_reset x.0.answer) (reset_is W c q ring₀ least most started s ring e i)
 
 -- ---- all calls
 

@@ -1,5 +1,9 @@
 -- A stream with its payloads is a stream on its calls, and its sender with the payloads is crate delivery's console on the calls that these count as.
 use Prim.Native.Nat.{ℕ, ◌≤◌}
+use Rattle.std.proofs.Common.{Option, Some, None, Result, Ok, Err}
+use Rattle.command.specs.declared.retransmit.RetransmitRequest.{RetransmitRequest}
+use Rattle.config.specs.declared.refusal.Refusal.{Refusal}
+use Rattle.std.specs.Bool.{⊤}
 use mathlib.Core.Path.{◌≡◌, refl, sym, ap, ◌∙◌, subst}
 use mathlib.Core.Bool.{Bool, true, false, cond, ◌&&◌}
 use mathlib.Core.List.{List, [], ◌∷◌, ◌++◌}
@@ -9,22 +13,16 @@ use lib.ListN.{length, get_or, set, replicate, length-set}
 use lib.Seq.{get_or-set_same, set-get_or, set-set}
 use Rattle.config.specs.Entry.{entry}
 use Rattle.config.specs.Settings.{check_of}
-use Rattle.config.specs.declared.answer.Outcome.{Outcome}
-use Rattle.config.specs.declared.answer.Outcome.TheVariants.{Done, Refused}
 use Rattle.config.specs.declared.settings.StreamConfig.{StreamConfig}
 use Rattle.config.specs.inner.Tests.{tests}
 use Rattle.packet.specs.Write.{valid_of as payload_valid, opened_of}
 use Rattle.packet.specs.declared.writer.PayloadWriter.{PayloadWriter}
-use Rattle.packet.specs.declared.writer.Opened.{Opened}
-use Rattle.packet.specs.declared.writer.Opened.TheVariants.{Payload, Refused as OpenRefused}
 use Rattle.command.specs.Calls.{request, Typed as WriteTyped}
 use Rattle.command.specs.Calls as Writes
 use Rattle.window.specs.Set.{max_window}
 use Rattle.receiver.specs.declared.receiver.Receiver.{Receiver}
-use Rattle.receiver.specs.declared.receiver.Asked.{Asked}
-use Rattle.receiver.specs.declared.receiver.Asked.TheVariants.{Nothing as Unasked, Request as AskedFor}
 use Rattle.receiver.specs.declared.receiver.Request.{Request}
-use Rattle.receiver.specs.declared.receiver.Request.TheVariants.{Nothing as NotDue, Written as Taken, More as NoSpace, Refused as NotTaken}
+use Rattle.receiver.specs.declared.receiver.Request.TheVariants.{Nothing as NotDue, Written as Taken, More as NoSpace}
 use Rattle.receiver_log.specs.Calls as Receiver
 use Rattle.config.specs.inner.Choices.{by_cond}
 use Rattle.receiver_log.proofs.Follows.{AskedOk}
@@ -74,10 +72,10 @@ write_again d k x cfg time there =
     ∙ ap (λ (vs : List Lent). let w = writing.write_answer d.sender cfg time x.payload x.buffer d.ring in record { sender = w.0.sender; ring = w.2; payloads = vs }) (set-set d.payloads k x (u x))
 
 -- a call on the payloads leaves the sender and its history
-open_rest : (d : Delivery.Console) (buffer : List ℕ) (o : Opened)
+open_rest : (d : Delivery.Console) (buffer : List ℕ) (o : Result PayloadWriter Refusal)
     → record { sender = d.sender; ring = d.ring; payloads = (Delivery.open_step d buffer o).console.payloads } ≡ (Delivery.open_step d buffer o).console
-open_rest d buffer (OpenRefused why) = refl
-open_rest d buffer (Payload p) = refl
+open_rest d buffer (Err why) = refl
+open_rest d buffer (Ok p) = refl
 
 put_rest : (d : Delivery.Console) (k : ℕ) (v : Lent) (o : Bool)
     → record { sender = d.sender; ring = d.ring; payloads = (cond o (Delivery.put_step d k v) (Delivery.noting d)).console.payloads } ≡ (cond o (Delivery.put_step d k v) (Delivery.noting d)).console
@@ -97,7 +95,7 @@ module _ (c : Console) (k : ℕ) (cfg : StreamConfig) (there : is_open c k ≡ t
   same_payload = rw (set-get_or c.payloads k no_payload)
 
   -- taking a due request is writing it into the payload
-  put_is : (a : Request) (r : Receiver) (p : PayloadWriter) (b : List ℕ) → Took c.stream.receiver cfg v.payload v.buffer a r p b
+  put_is : (a : Result Request Refusal) (r : Receiver) (p : PayloadWriter) (b : List ℕ) → Took c.stream.receiver cfg v.payload v.buffer a r p b
       → leaving c.stream.sender c.ring p b ≡ end_from (sending_end c) (put_by k a r.asked)
   unfolding end_from
   put_is a r p b (settings why e) = same_payload
@@ -105,9 +103,9 @@ module _ (c : Console) (k : ℕ) (cfg : StreamConfig) (there : is_open c k ≡ t
   put_is a r p b (too_large g x w l z) = same_payload
   put_is a r p b (no_space g x w l z) = same_payload
   put_is a r p b (none_due g _ w d) = same_payload
-  put_is a r p b (taken g q _ w d e l) = sym (ap (λ (y : Asked). end_from (sending_end c) (put_by k Taken y)) e ∙ put_done (sending_end c) k there (request q))
+  put_is a r p b (taken g q _ w d e l) = sym (ap (λ (y : Option RetransmitRequest). end_from (sending_end c) (put_by k (Ok Taken) y)) e ∙ put_done (sending_end c) k there (request q))
 
-  write_is : (time : ℕ) (a : Request) (r : Receiver) (p : PayloadWriter) (b : List ℕ) → Took c.stream.receiver cfg v.payload v.buffer a r p b
+  write_is : (time : ℕ) (a : Result Request Refusal) (r : Receiver) (p : PayloadWriter) (b : List ℕ) → Took c.stream.receiver cfg v.payload v.buffer a r p b
       → (let w = behind_take a (with_receiver c.stream r) cfg time p b c.ring in
       leaving w.0.stream.sender w.2 w.0.payload w.1 ≡ end_from (sending_end c) (put_by k a r.asked ++ Console.unless_cut a (Delivery.write_into k cfg time)))
   unfolding end_from
@@ -120,7 +118,7 @@ module _ (c : Console) (k : ℕ) (cfg : StreamConfig) (there : is_open c k ≡ t
       let x : Lent = Delivery.put_into (request q) v in
       let d₁ : Delivery.Console = Delivery.with_payload (sending_end c) k x in
       let still : ltb k (length (set c.payloads k x)) ≡ true = rw (length-set c.payloads k x) there in
-      sym (ap (λ (y : Asked). end_from (sending_end c) (put_by k Taken y ++ (Delivery.write_into k cfg time ∷ []))) e
+      sym (ap (λ (y : Option RetransmitRequest). end_from (sending_end c) (put_by k (Ok Taken) y ++ (Delivery.write_into k cfg time ∷ []))) e
       ∙ ap (λ (y : Delivery.Console). (Delivery.step_of y (Delivery.write_into k cfg time)).console) (put_done (sending_end c) k there (request q)) ∙ write_done d₁ k still cfg time ∙ write_again (sending_end c) k x cfg time there)
 
 -- ---- lists of allowed calls
@@ -129,11 +127,11 @@ both_allowed : (xs ys : List Delivery.Call) → AllAllowed xs → AllAllowed ys 
 both_allowed [] ys h k = k
 both_allowed (x ∷ xs) ys h k = (h.0, both_allowed xs ys h.1 k)
 
-cut_allowed : (a : Request) (call : Delivery.Call) → Delivery.Allowed call → AllAllowed (Console.unless_cut a call)
-cut_allowed NotDue call h = (h, tt)
-cut_allowed Taken call h = (h, tt)
-cut_allowed NoSpace call h = tt
-cut_allowed (NotTaken why) call h = tt
+cut_allowed : (a : Result Request Refusal) (call : Delivery.Call) → Delivery.Allowed call → AllAllowed (Console.unless_cut a call)
+cut_allowed (Ok NotDue) call h = (h, tt)
+cut_allowed (Ok Taken) call h = (h, tt)
+cut_allowed (Ok NoSpace) call h = tt
+cut_allowed (Err why) call h = tt
 
 -- ---- a console whose stream's ends are what their calls leave
 
@@ -180,12 +178,12 @@ module _ (W n q : ℕ) (ring₀ : List ℕ) (least : 1 ≤ W) (most : W ≤ max_
   unfolding write_answer
   astray cfg time p b x = rw x (go (check_of cfg) (valid_of c.stream c.ring))
     where
-      go : (k : Outcome) (o : Bool)
+      go : (k : Result ⊤ Refusal) (o : Bool)
           → (let w = entry k (o && false) (write_refused c.stream p b c.ring) (data_written c.stream cfg time p b c.ring) in
           (w.0.stream.sender ≡ c.stream.sender) × (w.2 ≡ c.ring))
-      go (Refused why) o = (refl, refl)
-      go Done true = (refl, refl)
-      go Done false = (refl, refl)
+      go (Err why) o = (refl, refl)
+      go (Ok _) true = (refl, refl)
+      go (Ok _) false = (refl, refl)
 
   stream_step : (call : Stream.Call) → Aside call → sending_end (step_of c (on_stream call)) ≡ end_from (sending_end c) (of_sender call)
   unfolding step_of end_from Stream.step_of Delivery.step_of send_answer request_answer data_answer error_answer nak_answer poll_answer take_answer
@@ -219,13 +217,13 @@ module _ (W n q : ℕ) (ring₀ : List ℕ) (least : 1 ≤ W) (most : W ≤ max_
       let j = receiving_on W n q ring₀ c.stream c.ring e i take tt in
       subst (λ (r : Receiver). AskedOk W r.asked) (sym j.receiver_is) (receiver_run W least most (receiving e take).received j.receiver_typed).few
 
-  put_allowed : (k : ℕ) (a : Request) (asked : Asked) → AskedOk W asked → AllAllowed (put_by k a asked)
+  put_allowed : (k : ℕ) (a : Result Request Refusal) (asked : Option RetransmitRequest) → AskedOk W asked → AllAllowed (put_by k a asked)
   unfolding WriteTyped
-  put_allowed k Taken (AskedFor x) h = ((omega (arith, h.1), refl), tt)
-  put_allowed k Taken Unasked h = tt
-  put_allowed k NotDue asked h = tt
-  put_allowed k NoSpace asked h = tt
-  put_allowed k (NotTaken why) asked h = tt
+  put_allowed k (Ok Taken) (Some x) h = ((omega (arith, h.1), refl), tt)
+  put_allowed k (Ok Taken) None h = tt
+  put_allowed k (Ok NotDue) asked h = tt
+  put_allowed k (Ok NoSpace) asked h = tt
+  put_allowed k (Err why) asked h = tt
 
   sender_allowed : (call : Stream.Call) → Typed call → AllAllowed (of_sender call)
   sender_allowed (send_ump cfg ws) l = (l.1, tt)

@@ -1,5 +1,7 @@
 -- What a stream's write adds: a due request, and then what its sender's write adds.
 use Prim.Native.Nat.{ℕ, ◌+◌, ◌≤◌, ◌<◌}
+use Rattle.std.proofs.Common.{Some, Result, Ok, Err}
+use Rattle.writing.specs.declared.writing.Written.{Written}
 use mathlib.Core.Path.{◌≡◌, refl, sym, ◌∙◌, subst}
 use mathlib.Core.Logic.{inl, inr}
 use mathlib.Core.Bool.{Bool, true}
@@ -11,7 +13,6 @@ use lib.Seq.{take_all}
 use Rattle.config.specs.Settings.{check_of}
 use Rattle.config.specs.declared.refusal.Refusal.{Refusal}
 use Rattle.config.specs.declared.refusal.Refusal.TheVariants.{TooLarge, InvalidState}
-use Rattle.config.specs.declared.answer.Outcome.TheVariants.{Done}
 use Rattle.config.specs.declared.settings.StreamConfig.{StreamConfig}
 use Rattle.config.specs.inner.Tests.{split, tests}
 use Rattle.packet.specs.Layout.{Packet, AllEncodable, Words32}
@@ -25,7 +26,6 @@ use Rattle.window.specs.Set.{max_window}
 use Rattle.receiver.specs.Receiver.{valid_of as receiver_valid}
 use Rattle.receiver.specs.Answers as receiver
 use Rattle.receiver.specs.declared.receiver.Receiver.{Receiver}
-use Rattle.receiver.specs.declared.receiver.Asked.TheVariants.{Request as AskedFor}
 use Rattle.receiver.specs.declared.receiver.Request.{Request}
 use Rattle.receiver_log.specs.Calls as Receiver
 use Rattle.receiver_log.specs.Promise.{log_of}
@@ -33,8 +33,6 @@ use Rattle.receiver_log.proofs.Follows.{Follows as ReceiverFollows, AskedOk}
 use Rattle.receiver_log.proofs.Runs.{step_ok as receiver_step, run_ok as receiver_run}
 use Rattle.writing.specs.Answers as writing
 use Rattle.sender.specs.declared.sender.Sender.{Sender}
-use Rattle.writing.specs.declared.writing.Writing.{Writing}
-use Rattle.writing.specs.declared.writing.Writing.TheVariants.{Written, Refused}
 use Rattle.sender_log.specs.Book.{Book}
 use Rattle.sender_log.specs.Calls.{TypedConfig}
 use Rattle.sender_log.specs.Answers.{book_of}
@@ -65,8 +63,8 @@ use Rattle.stream_log.proofs.Runs.{start_is, moved, reached}
 
 -- ---- what the sender's write adds behind it
 
-out_behind : (p q r : PayloadWriter) (b b₁ b₂ : List ℕ) (cs wanted : List Packet) (k : ℕ) (a : Writing) → k ≡ length cs → p.len ≤ length b → Appends p b cs q b₁
-    → Out wanted q b₁ a r b₂ → (length cs ≡ 0 → (q ≡ p) × (b₁ ≡ b)) → (0 < length cs → (why : Refusal) → a ≡ Refused why → ⊥)
+out_behind : (p q r : PayloadWriter) (b b₁ b₂ : List ℕ) (cs wanted : List Packet) (k : ℕ) (a : Result Written Refusal) → k ≡ length cs → p.len ≤ length b → Appends p b cs q b₁
+    → Out wanted q b₁ a r b₂ → (length cs ≡ 0 → (q ≡ p) × (b₁ ≡ b)) → (0 < length cs → (why : Refusal) → a ≡ Err why → ⊥)
     → Out (cs ++ wanted) p b (counted_also k a) r b₂
 out_behind p q r b b₁ b₂ cs wanted k a e l h (wrote n x _ _ m j few left all) none' some' =
     let z = length-append cs wanted in
@@ -89,7 +87,7 @@ module _ (W c q : ℕ) (most : W ≤ max_window) (s : DataStream) (ring : List �
     (c-some : 1 ≤ c) (x' : Past) (agree : Agrees c bk x') (h32 : Book32 bk) (cfg : StreamConfig) (typed : TypedConfig cfg) (time : ℕ) (p : PayloadWriter) (b : List ℕ) where
   abbrev Counts : List Packet → Wrote × List ℕ × List ℕ → Type 0
   Counts wanted w =
-      ((n : ℕ) (x : Bool) → w.0.answer ≡ Written record { commands = n; more = x } → AllEncodable (take n wanted)) × Out wanted p b w.0.answer w.0.payload w.1
+      ((n : ℕ) (x : Bool) → w.0.answer ≡ Ok record { commands = n; more = x } → AllEncodable (take n wanted)) × Out wanted p b w.0.answer w.0.payload w.1
 
   small : Small bk
   small = follows_small c q s.sender ring bk g
@@ -98,8 +96,8 @@ module _ (W c q : ℕ) (most : W ≤ max_window) (s : DataStream) (ring : List �
   sender_out : (p₁ : PayloadWriter) (b₁ : List ℕ) → (let w = writing.write_answer s.sender cfg time p₁ b₁ ring in Out (wanted_in c cfg time x' p₁ b₁) p₁ b₁ w.0.answer w.0.payload w.1)
   sender_out p₁ b₁ = let w = write_follows c q s.sender ring bk g cfg typed time p₁ b₁ in rw (w.1, w.2, w.3) (wanted_out c c-some cfg time bk small x' agree p₁ b₁)
 
-  sender_taken : (p₁ : PayloadWriter) (b₁ : List ℕ) → check_of cfg ≡ Done → payload_valid p₁ (length b₁) ≡ true → (p₁.len ≡ 0 → ⊥) → (why : Refusal)
-      → (writing.write_answer s.sender cfg time p₁ b₁ ring).0.answer ≡ Refused why → ⊥
+  sender_taken : (p₁ : PayloadWriter) (b₁ : List ℕ) → check_of cfg ≡ Ok tt → payload_valid p₁ (length b₁) ≡ true → (p₁.len ≡ 0 → ⊥) → (why : Refusal)
+      → (writing.write_answer s.sender cfg time p₁ b₁ ring).0.answer ≡ Err why → ⊥
   sender_taken p₁ b₁ k v o why e =
       let w = write_follows c q s.sender ring bk g cfg typed time p₁ b₁ in
       write_taken c cfg time bk small p₁ b₁ o v k why (sym w.1 ∙ e)
@@ -110,7 +108,7 @@ module _ (W c q : ℕ) (most : W ≤ max_window) (s : DataStream) (ring : List �
   refused_out_lem : (wanted : List Packet) (r : Receiver) (why : Refusal) → Counts wanted (write_refused (with_receiver s r) p b ring why)
   refused_out_lem wanted r why = (λ n x e. absurd (let z : ◌≡◌ {A = ℕ} 0 1 = cc in omega arith), unchanged why)
 
-  behind_out : (a : Request) (r : Receiver) (p₁ : PayloadWriter) (b₁ : List ℕ) → Took s.receiver cfg p b a r p₁ b₁ → AskedOk W r.asked
+  behind_out : (a : Result Request Refusal) (r : Receiver) (p₁ : PayloadWriter) (b₁ : List ℕ) → Took s.receiver cfg p b a r p₁ b₁ → AskedOk W r.asked
       → Counts (wanted_by s.receiver cfg ++ wanted_in c cfg time x' p₁ b₁) (behind_take a (with_receiver s r) cfg time p₁ b₁ ring)
   unfolding AllEncodable
   behind_out a r p₁ b₁ (settings why k) ok = refused_out_lem _ r why
@@ -128,7 +126,7 @@ module _ (W c q : ℕ) (most : W ≤ max_window) (s : DataStream) (ring : List �
   )
   behind_out a r p₁ b₁ (taken g q' _ e d k l) ok =
       let request : List Packet = request_packet q' ∷ [] in
-      let few : AskedOk W (AskedFor q') = subst (AskedOk W) k ok in
+      let few : AskedOk W (Some q') = subst (AskedOk W) k ok in
       let w = one_written p b g.valid (request_packet q') l refl in
       let adds : Appends p b request p₁ b₁ = rw w (one_appended p b (request_packet q') (omega (arith, tests)) (omega arith)) in
       let some : p₁.len ≡ 0 → ⊥ = rw w (λ z. omega arith) in

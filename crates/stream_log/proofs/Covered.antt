@@ -1,5 +1,6 @@
 -- What the theorems are said of: every call of `DataStream`, with any arguments of its types, refused ones too, every size that a start takes, and any number of payloads.
 use Prim.Native.Nat.{ℕ, ◌≤◌, ◌<◌}
+use Rattle.std.proofs.Common.{Ok}
 use mathlib.Core.Path.{◌≡◌}
 use mathlib.Core.Bool.{false}
 use mathlib.Core.List.{List, [], ◌∷◌}
@@ -9,7 +10,6 @@ use lib.ListN.{length}
 use borrow.Author.Tests.{le-leb, eq-eqb, ne_eqb}
 use Rattle.config.specs.Range.{outside}
 use Rattle.config.specs.Settings.{check_of}
-use Rattle.config.specs.declared.answer.Outcome.TheVariants.{Done}
 use Rattle.config.specs.declared.settings.StreamConfig.{StreamConfig}
 use Rattle.packet.specs.Layout.{Words32}
 use Rattle.packet.specs.Write.{valid_of as payload_valid}
@@ -84,20 +84,20 @@ in_range_lem : (l m n : ℕ) → l ≤ n → n ≤ m → outside l m n ≡ false
 in_range_lem l m n p q = rw (le-leb l n p, le-leb n m q)
 
 -- a command size of 1 to 64 words, an idle interval of 1 to 300 ms and any growth but 0: whatever the other settings are
-pub every_setting : (cfg : StreamConfig) → 1 ≤ cfg.max_command_words → cfg.max_command_words ≤ 64 → 1 ≤ cfg.idle_interval_ms → cfg.idle_interval_ms ≤ 300 → 1 ≤ cfg.idle_growth → check_of cfg ≡ Done
+pub every_setting : (cfg : StreamConfig) → 1 ≤ cfg.max_command_words → cfg.max_command_words ≤ 64 → 1 ≤ cfg.idle_interval_ms → cfg.idle_interval_ms ≤ 300 → 1 ≤ cfg.idle_growth → check_of cfg ≡ Ok tt
 unfolding check_of
 every_setting cfg a b c d g =
     let z : eqb cfg.idle_growth 0 ≡ false = ne_eqb cfg.idle_growth 0 (λ e. let w : ⊥ = omega arith in w) in
     rw (le-leb 1 cfg.max_command_words a, le-leb cfg.max_command_words 64 b, le-leb 1 cfg.idle_interval_ms c, le-leb cfg.idle_interval_ms 300 d, z)
 
 -- a window of 1 to 128, a history of 65 to 32,768 words, 1 to 16 places for requests
-pub every_size : (cfg : StreamConfig) → check_of cfg ≡ Done → (W c q : ℕ) (ring₀ : List ℕ) → 1 ≤ W → W ≤ 128 → 65 ≤ c → c ≤ 32768 → length ring₀ ≡ c → 1 ≤ q → q ≤ 16 → Started cfg W c q ring₀
+pub every_size : (cfg : StreamConfig) → check_of cfg ≡ Ok tt → (W c q : ℕ) (ring₀ : List ℕ) → 1 ≤ W → W ≤ 128 → 65 ≤ c → c ≤ 32768 → length ring₀ ≡ c → 1 ≤ q → q ≤ 16 → Started cfg W c q ring₀
 unfolding new_answer
 every_size cfg k W c q ring₀ a b d f e g h =
     rw (k, le-leb 1 W a, le-leb W 128 b, le-leb 65 c d, le-leb c 32768 f, eq-eqb (length ring₀) c e, le-leb 1 q g, le-leb q 16 h)
 
 -- so each of them is an end of a line, with any calls
-pub every_end : (cfg : StreamConfig) → check_of cfg ≡ Done → (W c q : ℕ) (ring₀ : List ℕ) → 1 ≤ W → W ≤ 128 → 65 ≤ c → c ≤ 32768 → length ring₀ ≡ c → 1 ≤ q → q ≤ 16
+pub every_end : (cfg : StreamConfig) → check_of cfg ≡ Ok tt → (W c q : ℕ) (ring₀ : List ℕ) → 1 ≤ W → W ≤ 128 → 65 ≤ c → c ≤ 32768 → length ring₀ ≡ c → 1 ≤ q → q ≤ 16
     → (calls : List Call) → EachAllowed calls → End
 every_end cfg k W c q ring₀ a b d f e g h calls l =
     record { settings = cfg; window = W; words = c; places = q; ring₀ = ring₀; started = every_size cfg k W c q ring₀ a b d f e g h; calls = calls; allowed = l }

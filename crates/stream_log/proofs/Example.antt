@@ -4,6 +4,10 @@
 --   chamber   its payload 0   request for 0          written when it is due, and told to the console
 --   console   payload 2   A, number 0                retransmitted, arrives: Late
 use Prim.Native.Nat.{ℕ, ◌+◌}
+use Rattle.std.proofs.Common.{Option, Some, None, Result, Ok, Err}
+use Rattle.config.specs.declared.refusal.Refusal.{Refusal}
+use Rattle.window.specs.declared.window.SeqRange.{SeqRange}
+use Rattle.writing.specs.declared.writing.Written.{Written}
 use mathlib.Core.Path.{◌≡◌, refl, ap, ◌∙◌}
 use mathlib.Core.Bool.{false}
 use mathlib.Core.List.Memᴰ
@@ -28,8 +32,6 @@ use Rattle.window.specs.Set.{val, set_of}
 use Rattle.window.specs.Window as Window
 use Rattle.window.specs.declared.window.Class.{Class}
 use Rattle.window.specs.declared.window.Class.TheVariants.{New, Late}
-use Rattle.window.specs.declared.window.Span.{Span}
-use Rattle.window.specs.declared.window.Span.TheVariants.{Nothing, Of}
 use Rattle.idle.specs.Schedule.{idle_next}
 use Rattle.rows.specs.Rows.{row_of, packets_from, sizes_of, any_words}
 use Rattle.rows.specs.Choice.{repeats_of}
@@ -37,10 +39,8 @@ use Rattle.receiver.specs.Receiver.{due_after, taken_of}
 use Rattle.receiver.specs.Receiver as Receiver
 use Rattle.receiver.specs.Answers as receiver
 use Rattle.receiver.specs.declared.receiver.Delivery.{Delivery}
-use Rattle.receiver.specs.declared.receiver.Hearing.TheVariants.{Delivery as Delivered}
-use Rattle.receiver.specs.declared.receiver.StreamEvent.TheVariants.{Nothing as NoEvent}
 use Rattle.receiver.specs.declared.receiver.Request.{Request}
-use Rattle.receiver.specs.declared.receiver.Request.TheVariants.{Nothing as NotDue, Written as Taken, More as NoSpace, Refused as NotTaken}
+use Rattle.receiver.specs.declared.receiver.Request.TheVariants.{Nothing as NotDue, Written as Taken, More as NoSpace}
 use Rattle.receiver_log.specs.Calls.{data_command, poll, take_request, Entry as Heard, data_entry, poll_entry, take_entry, AllTyped}
 use Rattle.receiver_log.specs.Calls as Chamber
 use Rattle.receiver_log.specs.Log.{reports, origin, is_ahead, place, start, high, times, unprocessed, Missing}
@@ -55,9 +55,6 @@ use Rattle.sender.specs.State.{valid_of}
 use Rattle.sender.specs.Queueing.{room_of, need_of, joined_to, pushed_all, queued_to, queued_of, words_check, placed_of, sent_of}
 use Rattle.sender.specs.Requests.{requested_of}
 use Rattle.writing.specs.Writing.{served_in, served_of, idled_of, written_off, new_of, written_by}
-use Rattle.config.specs.declared.answer.Outcome.TheVariants.{Done}
-use Rattle.writing.specs.declared.writing.Writing.{Writing}
-use Rattle.writing.specs.declared.writing.Writing.TheVariants.{Written}
 use Rattle.sender_log.specs.Calls as Sender
 use Rattle.delivery.specs.Commands.{Command, data_in, wholes_in, data_of}
 use Rattle.delivery.specs.Positions.{opens, position, newest_with}
@@ -132,14 +129,14 @@ with_a = full (0x4D494449 ∷ 0xFF010000 ∷ A)
 abbrev with_b : Lent
 with_b = full (0x4D494449 ∷ 0xFF010001 ∷ B)
 
-abbrev one : Writing
-one = Written record { commands = 1; more = false }
+abbrev one : Result Written Refusal
+one = Ok record { commands = 1; more = false }
 
 abbrev sent : List Entry
 sent =
     wrote 2 empty with_a one ∷ stood 2 empty ∷ noted
-    ∷ wrote 1 empty with_b one ∷ queued plain B Done ∷ stood 1 empty
-    ∷ wrote 0 empty with_a one ∷ queued plain A Done ∷ stood 0 empty
+    ∷ wrote 1 empty with_b one ∷ queued plain B (Ok tt) ∷ stood 1 empty
+    ∷ wrote 0 empty with_a one ∷ queued plain A (Ok tt) ∷ stood 0 empty
     ∷ []
 
 counted_log : log_from (fresh_console 65 4 (zeros 65)) [] counted ≡ sent
@@ -172,11 +169,11 @@ abbrev arrivals : List Chamber.Call
 arrivals = data_command plain 6 1 B ∷ poll plain 16 ∷ take_request plain (record { len = 0; max = 1400 }) (zeros 12) ∷ data_command plain 21 0 A ∷ []
 
 -- whatever the take comes to, it is the receiver's call
-same_received : (a : Request) (e : Ends) (c : Sender.Call) → (unless_cut a e c).received ≡ e.received
-same_received NotDue e c = refl
-same_received Taken e c = refl
-same_received NoSpace e c = refl
-same_received (NotTaken why) e c = refl
+same_received : (a : Result Request Refusal) (e : Ends) (c : Sender.Call) → (unless_cut a e c).received ≡ e.received
+same_received (Ok NotDue) e c = refl
+same_received (Ok Taken) e c = refl
+same_received (Ok NoSpace) e c = refl
+same_received (Err why) e c = refl
 
 write_received : (W : ℕ) (e : Ends) (cfg : StreamConfig) (time : ℕ) (p : PayloadWriter) (b : List ℕ) → (ends_after W e (Calls.write_data cfg time p b)).received ≡ e.received ++ (take_request cfg p b ∷ [])
 unfolding ends_after
@@ -191,15 +188,15 @@ arrivals_are =
     ∙ ap (λ (xs : List Chamber.Call). xs ++ (data_command plain 21 0 A ∷ []))
     (write_received 4 record { received = data_command plain 6 1 B ∷ poll plain 16 ∷ []; sent = [] } plain 16 (record { len = 0; max = 1400 }) (zeros 12))
 
-abbrev delivery : ℕ → Class → Span → Delivery
-delivery seq class gap = record { seq = seq; class = class; gap = gap; lost = Nothing }
+abbrev delivery : ℕ → Class → Option SeqRange → Delivery
+delivery seq class gap = record { seq = seq; class = class; gap = gap; lost = None }
 
 abbrev arrived : List Heard
 arrived =
-    data_entry plain 21 0 A (Delivered (delivery 0 Late Nothing))
-    ∷ take_entry plain (record { len = 0; max = 1400 }) (zeros 12) Taken (record { len = 12; max = 1400 }) (bytes_of (0x4D494449 ∷ 0x80010000 ∷ 0x00010000 ∷ []))
-    ∷ poll_entry plain 16 NoEvent
-    ∷ data_entry plain 6 1 B (Delivered (delivery 1 (New 1) (Of record { first = 0; count = 1 })))
+    data_entry plain 21 0 A (Ok (delivery 0 Late None))
+    ∷ take_entry plain (record { len = 0; max = 1400 }) (zeros 12) (Ok Taken) (record { len = 12; max = 1400 }) (bytes_of (0x4D494449 ∷ 0x80010000 ∷ 0x00010000 ∷ []))
+    ∷ poll_entry plain 16 (Ok None)
+    ∷ data_entry plain 6 1 B (Ok (delivery 1 (New 1) (Some record { first = 0; count = 1 })))
     ∷ []
 
 typed : AllTyped arrivals

@@ -1,5 +1,7 @@
 -- A write answers "more" exactly when the next command doesn't fit.
 use Prim.Native.Nat.{ℕ, ◌+◌, ◌≤◌}
+use Rattle.std.proofs.Common.{Result, Ok, Err}
+use Rattle.writing.specs.declared.writing.Written.{Written}
 use mathlib.Core.Path.{◌≡◌, refl, sym, ap, ◌∙◌, subst}
 use mathlib.Core.Bool.{Bool, true, false}
 use mathlib.Core.List.{List, [], ◌∷◌, ◌++◌}
@@ -16,8 +18,6 @@ use Rattle.receiver.specs.declared.receiver.Request.{Request}
 use Rattle.receiver_log.specs.Calls as Receiver
 use Rattle.receiver_log.specs.Timing.{due_in}
 use Rattle.receiver_log.specs.Promise.{log_of}
-use Rattle.writing.specs.declared.writing.Writing.{Writing}
-use Rattle.writing.specs.declared.writing.Writing.TheVariants.{Written, Refused}
 use Rattle.sender_log.specs.Book.{Book}
 use Rattle.sender_log.specs.Writes.{write_in}
 use Rattle.sender_log.specs.Calls as Sender
@@ -45,17 +45,17 @@ book_next c q [] x k = refl
 book_next c q (y ∷ xs) x k = book_next c q xs x (told_of c q k y).book
 
 -- the sender's own answer
-counted_back : (k : ℕ) (a : Writing) (n : ℕ) (x : Bool) → counted_also k a ≡ Written record { commands = n; more = x } → (m : ℕ) × (a ≡ Written record { commands = m; more = x })
-counted_back k (Written w) n x e = (w.commands, ap (λ (y : Bool). Written record { commands = w.commands; more = y }) (same_amount (k + w.commands) n w.more x e).1)
-counted_back k (Refused why) n x e = absurd (let z : ◌≡◌ {A = ℕ} 0 1 = cc in omega arith)
+counted_back : (k : ℕ) (a : Result Written Refusal) (n : ℕ) (x : Bool) → counted_also k a ≡ Ok record { commands = n; more = x } → (m : ℕ) × (a ≡ Ok record { commands = m; more = x })
+counted_back k (Ok w) n x e = (w.commands, ap (λ (y : Bool). Ok record { commands = w.commands; more = y }) (same_amount (k + w.commands) n w.more x e).1)
+counted_back k (Err why) n x e = absurd (let z : ◌≡◌ {A = ℕ} 0 1 = cc in omega arith)
 
 -- what a write leaves
 abbrev LeavesNone : ℕ → ℕ → ℕ → Ends → Type 0
 LeavesNone W c q e = (due_in W (log_of W e.received) ≡ false) × ((book_of c q e.sent).waiting ≡ []) × ((book_of c q e.sent).unwritten ≡ [])
 
-abbrev Right : ℕ → ℕ → ℕ → StreamConfig → Ends → Writing → PayloadWriter → List ℕ → Type 0
+abbrev Right : ℕ → ℕ → ℕ → StreamConfig → Ends → Result Written Refusal → PayloadWriter → List ℕ → Type 0
 Right W c q cfg e a p b =
-    ((n : ℕ) → a ≡ Written record { commands = n; more = true } → NoRoom p b (next_of W c q e cfg)) × ((n : ℕ) → a ≡ Written record { commands = n; more = false } → LeavesNone W c q e)
+    ((n : ℕ) → a ≡ Ok record { commands = n; more = true } → NoRoom p b (next_of W c q e cfg)) × ((n : ℕ) → a ≡ Ok record { commands = n; more = false } → LeavesNone W c q e)
 
 abbrev RightBy : ℕ → ℕ → ℕ → StreamConfig → Ends → Wrote × List ℕ × List ℕ → Type 0
 RightBy W c q cfg e w = Right W c q cfg e w.0.answer w.0.payload w.1
@@ -63,7 +63,7 @@ RightBy W c q cfg e w = Right W c q cfg e w.0.answer w.0.payload w.1
 module _ (W c q : ℕ) (ring₀ : List ℕ) (least : 1 ≤ W) (most : W ≤ max_window) (started : Sent.Started c q ring₀) (s : DataStream) (ring : List ℕ) (e : Ends)
     (cfg : StreamConfig) (typed : Sender.TypedConfig cfg) (time : ℕ) where
   -- behind a request that was taken, or where none was due
-  sent_right : (r : Receiver) → Tied W c q ring₀ (with_receiver s r) ring e → r.request_due ≡ false → (k : ℕ) (p : PayloadWriter) (b : List ℕ) (y : Writing) (p₁ : PayloadWriter) (b₁ : List ℕ)
+  sent_right : (r : Receiver) → Tied W c q ring₀ (with_receiver s r) ring e → r.request_due ≡ false → (k : ℕ) (p : PayloadWriter) (b : List ℕ) (y : Result Written Refusal) (p₁ : PayloadWriter) (b₁ : List ℕ)
       → (let v = write_in c cfg time (book_of c q e.sent) p b in
       y ≡ counted_also k v.answer → p₁ ≡ v.payload → b₁ ≡ v.bytes → Right W c q cfg (sending e (Sender.write cfg time p b)) y p₁ b₁)
   unfolding told_of
@@ -78,10 +78,10 @@ module _ (W c q : ℕ) (ring₀ : List ℕ) (least : 1 ≤ W) (most : W ≤ max_
         λ n x. let a = counted_back k v.answer n false (sym ea ∙ x) in let none_left = m.no_more cfg time p b a.0 a.1 in (sym g.due ∙ d, ap (λ (z : Book). z.waiting) book ∙ none_left.0, ap (λ (z : Book). z.unwritten) book ∙ none_left.1),
       )
 
-  refused_right : (why : Refusal) (p : PayloadWriter) (b : List ℕ) → Right W c q cfg e (Refused why) p b
+  refused_right : (why : Refusal) (p : PayloadWriter) (b : List ℕ) → Right W c q cfg e (Err why) p b
   refused_right why p b = (λ n y. absurd (let z : ◌≡◌ {A = ℕ} 0 1 = cc in omega arith), λ n y. absurd (let z : ◌≡◌ {A = ℕ} 0 1 = cc in omega arith))
 
-  behind_right : (p : PayloadWriter) (b : List ℕ) (a : Request) (r : Receiver) (p₁ : PayloadWriter) (b₁ : List ℕ) → Took s.receiver cfg p b a r p₁ b₁ → Tied W c q ring₀ (with_receiver s r) ring e
+  behind_right : (p : PayloadWriter) (b : List ℕ) (a : Result Request Refusal) (r : Receiver) (p₁ : PayloadWriter) (b₁ : List ℕ) → Took s.receiver cfg p b a r p₁ b₁ → Tied W c q ring₀ (with_receiver s r) ring e
       → RightBy W c q cfg (unless_cut a e (Sender.write cfg time p₁ b₁)) (behind_take a (with_receiver s r) cfg time p₁ b₁ ring)
   behind_right p b a r p₁ b₁ (settings why k) i = refused_right why p b
   behind_right p b a r p₁ b₁ (invalid k v) i = refused_right InvalidState p b

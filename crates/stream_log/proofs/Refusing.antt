@@ -1,5 +1,10 @@
 -- No call is refused with 13 for the stream's state: where settings, words and payloads refuse, 13 is a payload's alone.
 use Prim.Native.Nat.{ℕ, ◌-◌}
+use Rattle.std.proofs.Common.{Option, Some, None, Result, Ok, Err}
+use Rattle.idle.specs.declared.idle.Idle.{Idle}
+use Rattle.receiver.specs.declared.receiver.RequestTimer.{RequestTimer}
+use Rattle.writing.specs.declared.writing.Written.{Written}
+use Rattle.std.specs.Bool.{⊤}
 use mathlib.Core.Path.{◌≡◌, refl, subst}
 use mathlib.Core.Logic.{inl, inr}
 use mathlib.Core.Bool.{Bool, true, false, cond, not, ◌&&◌}
@@ -12,9 +17,6 @@ use Rattle.config.specs.Refusals.{number_of, outcome_number}
 use Rattle.config.specs.Settings.{check_of, tested}
 use Rattle.config.specs.declared.refusal.Refusal.{Refusal}
 use Rattle.config.specs.declared.refusal.Refusal.TheVariants.{TooLarge, InvalidUmpData, IdleInterval, IdleGrowth, CommandWords}
-use Rattle.config.specs.declared.answer.Outcome.{Outcome}
-use Rattle.config.specs.declared.answer.Outcome.TheVariants.{Done, Refused}
-use Rattle.config.specs.declared.answer.Deadline.TheVariants.{Nothing}
 use Rattle.config.specs.declared.settings.StreamConfig.{StreamConfig}
 use Rattle.config.specs.inner.Tests.{split}
 use Rattle.packet.specs.Layout.{Packet}
@@ -25,23 +27,13 @@ use Rattle.command.specs.Write.{request_packet}
 use Rattle.command.specs.declared.retransmit.RetransmitRequest.{RetransmitRequest}
 use Rattle.command.specs.declared.retransmit.RetransmitError.{RetransmitError}
 use Rattle.window.specs.declared.window.SeqRange.{SeqRange}
-use Rattle.window.specs.declared.window.Span.{Span}
-use Rattle.window.specs.declared.window.Span.TheVariants.{Nothing as NoSpan, Of}
 use Rattle.history.specs.Entries.{size}
 use Rattle.history.specs.Queue.{asks as pending}
 use Rattle.history.specs.declared.queue.Ignored.TheVariants.{Pending, Full as NoPlace}
-use Rattle.idle.specs.declared.idle.IdleTimer.{IdleTimer}
-use Rattle.idle.specs.declared.idle.IdleTimer.TheVariants.{Off, Waiting}
 use Rattle.rows.specs.Rows.{fit_all}
 use Rattle.receiver.specs.Receiver.{loss_of, deadline_at, error_event}
-use Rattle.receiver.specs.declared.receiver.Asked.{Asked}
-use Rattle.receiver.specs.declared.receiver.Asked.TheVariants.{Nothing as Unasked, Request as AskedFor}
 use Rattle.receiver.specs.declared.receiver.Delivery.{Delivery}
-use Rattle.receiver.specs.declared.receiver.Hearing.TheVariants.{Delivery as Delivered, Refused as HearingRefused}
 use Rattle.receiver.specs.declared.receiver.Request.TheVariants.{Nothing as NotDue}
-use Rattle.receiver.specs.declared.receiver.StreamEvent.TheVariants.{Refused as EventRefused}
-use Rattle.receiver.specs.declared.receiver.Timer.{Timer}
-use Rattle.receiver.specs.declared.receiver.Timer.TheVariants.{Stopped, Running}
 use Rattle.receiver_log.specs.Log.{Report, reports}
 use Rattle.receiver_log.specs.Spans.{missing_in, request_in, asked_for}
 use Rattle.receiver_log.specs.Timing.{Tick, waits, asks, gives_up, tick_at, timer_in, due_in, enabled_in, asked_in}
@@ -52,8 +44,6 @@ use Rattle.fronts.specs.Commands.{above}
 use Rattle.sender.specs.Queueing.{words_check}
 use Rattle.sender.specs.Requests.{due_at}
 use Rattle.sender.specs.declared.sender.RequestOutcome.TheVariants.{Queued, Ignored, Error, NotSupported}
-use Rattle.writing.specs.declared.writing.Writing.{Writing}
-use Rattle.writing.specs.declared.writing.Writing.TheVariants.{Written, Refused as NotWritten}
 use Rattle.sender_log.specs.Book.{Book, need_in, sent_in, absent_in, error_in as absent_error, with_waiting, RequestIn, requested_in}
 use Rattle.sender_log.specs.Writes.{new_in, served_in, is_empty, idled_in, new_by, new_written, written_in, write_in}
 use Rattle.sender_log.specs.Answers.{told_of, book_of}
@@ -79,11 +69,11 @@ other n t = eqb-false n 13 t
 none : Other 0
 none = other 0 refl
 
-data Tested (k : Outcome) : Type 0 where
-  passes : k ≡ Done → Tested k
-  refuses : (why : Refusal) → k ≡ Refused why → Other (number_of why) → Tested k
+data Tested (k : Result ⊤ Refusal) : Type 0 where
+  passes : k ≡ Ok tt → Tested k
+  refuses : (why : Refusal) → k ≡ Err why → Other (number_of why) → Tested k
 
-check_tested : (o : Bool) (why : Refusal) (k : Outcome) → Other (number_of why) → Tested k → Tested (cond o (Refused why) k)
+check_tested : (o : Bool) (why : Refusal) (k : Result ⊤ Refusal) → Other (number_of why) → Tested k → Tested (cond o (Err why) k)
 check_tested true why k f g = refuses why refl f
 check_tested false why k f g = g
 
@@ -91,11 +81,11 @@ settings_tested : (cfg : StreamConfig) → Tested (check_of cfg)
 unfolding check_of
 settings_tested cfg =
     check_tested (outside 1 64 cfg.max_command_words) CommandWords _ (other 9 refl)
-    (check_tested (outside 1 300 cfg.idle_interval_ms) IdleInterval _ (other 7 refl) (check_tested (eqb cfg.idle_growth 0) IdleGrowth Done (other 8 refl) (passes refl)))
+    (check_tested (outside 1 300 cfg.idle_interval_ms) IdleInterval _ (other 7 refl) (check_tested (eqb cfg.idle_growth 0) IdleGrowth (Ok tt) (other 8 refl) (passes refl)))
 
 words_tested : (max : ℕ) (ws : List ℕ) → Tested (words_check max ws)
 unfolding words_check
-words_tested max ws = check_tested (not (whole_of ws)) InvalidUmpData _ (other 5 refl) (check_tested (above max ws) TooLarge Done (other 3 refl) (passes refl))
+words_tested max ws = check_tested (not (whole_of ws)) InvalidUmpData _ (other 5 refl) (check_tested (above max ws) TooLarge (Ok tt) (other 3 refl) (passes refl))
 
 -- ---- the sender's calls
 
@@ -120,11 +110,11 @@ request_other q k cfg r = elim (settings_tested cfg) [
 ]
   where
     by : (off absent asked full : Bool)
-        → Other (request_number (cond {A = RequestIn} off (record { book = k; outcome = NotSupported })
-        (cond absent (record { book = k; outcome = Error (absent_error k) })
-        (cond asked (record { book = k; outcome = Ignored Pending })
-        (cond full (record { book = k; outcome = Ignored NoPlace })
-        (record { book = with_waiting k (k.waiting ++ (r ∷ [])); outcome = Queued }))))).outcome)
+        → Other (request_number (cond {A = RequestIn} off (record { book = k; outcome = Ok NotSupported })
+        (cond absent (record { book = k; outcome = Ok (Error (absent_error k)) })
+        (cond asked (record { book = k; outcome = Ok (Ignored Pending) })
+        (cond full (record { book = k; outcome = Ok (Ignored NoPlace) })
+        (record { book = with_waiting k (k.waiting ++ (r ∷ [])); outcome = Ok Queued }))))).outcome)
     by true absent asked full = none
     by false true asked full = none
     by false false true full = none
@@ -151,61 +141,61 @@ write_other c cfg time k p b v =
 
 -- ---- the receiver's calls
 
-hear_other : (cfg : StreamConfig) (d : Delivery) → Other (hearing_number (tested (check_of cfg) HearingRefused (Delivered d)))
+hear_other : (cfg : StreamConfig) (d : Delivery) → Other (hearing_number (tested (check_of cfg) Err (Ok d)))
 hear_other cfg d = elim (settings_tested cfg) [ refuses why e h ↦ rw e h | passes e ↦ rw e none ]
 
-loss_other : (s : Span) → Other (event_number (loss_of s))
-loss_other NoSpan = none
-loss_other (Of range) = none
+loss_other : (s : Option SeqRange) → Other (event_number (loss_of s))
+loss_other None = none
+loss_other (Some range) = none
 
-tick_other : (s : Span) (t : Tick) → Other (event_number (poll_event s t))
+tick_other : (s : Option SeqRange) (t : Tick) → Other (event_number (poll_event s t))
 tick_other s waits = none
 tick_other s asks = none
 tick_other s gives_up = loss_other s
 
-poll_other : (cfg : StreamConfig) (s : Span) (t : Tick) → Other (event_number (tested (check_of cfg) EventRefused (poll_event s t)))
+poll_other : (cfg : StreamConfig) (s : Option SeqRange) (t : Tick) → Other (event_number (tested (check_of cfg) Err (poll_event s t)))
 poll_other cfg s t = elim (settings_tested cfg) [ refuses why e h ↦ rw e h | passes e ↦ rw e (tick_other s t) ]
 
-error_other : (W : ℕ) (t : List Report) (err : RetransmitError) (a : Asked) → Other (event_number (error_in W t err a))
-error_other W t err Unasked = none
-error_other W t err (AskedFor q) = by (asked_for W t q)
+error_other : (W : ℕ) (t : List Report) (err : RetransmitError) (a : Option RetransmitRequest) → Other (event_number (error_in W t err a))
+error_other W t err None = none
+error_other W t err (Some q) = by (asked_for W t q)
   where
-    by : (s : Span) → Other (event_number (error_event err s))
-    by NoSpan = none
-    by (Of range) = none
+    by : (s : Option SeqRange) → Other (event_number (error_event err s))
+    by None = none
+    by (Some range) = none
 
-nak_other : (s : Span) (a : Asked) → Other (event_number (nak_event s a))
-nak_other s Unasked = none
-nak_other s (AskedFor q) = loss_other s
+nak_other : (s : Option SeqRange) (a : Option RetransmitRequest) → Other (event_number (nak_event s a))
+nak_other s None = none
+nak_other s (Some q) = loss_other s
 
 abbrev as_request : SeqRange → Packet
 as_request range = request_packet record { seq = range.first; count = range.count }
 
 module _ (cfg : StreamConfig) (p : PayloadWriter) (b : List ℕ) (v : payload_valid p (length b) ≡ true) where
-  offered_other : (s : Span) → Other (number_in (by_receiver (offered cfg p b s)))
-  offered_other NoSpan = none
-  offered_other (Of range) = elim (split (left p b (as_request range))) [
+  offered_other : (s : Option SeqRange) → Other (number_in (by_receiver (offered cfg p b s)))
+  offered_other None = none
+  offered_other (Some range) = elim (split (left p b (as_request range))) [
     | inl l ↦ elim (split (eqb p.len 0)) [ inl z ↦ rw (one_left p b v (as_request range) l, z) (other 3 refl) | inr z ↦ rw (one_left p b v (as_request range) l, z) none ]
     | inr l ↦ rw (one_written p b v (as_request range) l refl) none
   ]
 
-  take_other : (o : Bool) (s : Span) → Other (number_in (by_receiver (take_in cfg p b o s)))
+  take_other : (o : Bool) (s : Option SeqRange) → Other (number_in (by_receiver (take_in cfg p b o s)))
   take_other o s = elim (settings_tested cfg) [ refuses why e h ↦ rw e h | passes e ↦ rw (e, v) (by o) ]
     where
-      by : (o : Bool) → Other (number_in (by_receiver (cond o (offered cfg p b s) (Receiver.take_entry cfg p b NotDue p b))))
+      by : (o : Bool) → Other (number_in (by_receiver (cond o (offered cfg p b s) (Receiver.take_entry cfg p b (Ok NotDue) p b))))
       by true = offered_other s
       by false = none
 
 -- ---- a stream's
 
-counted_other : (n : ℕ) (a : Writing) → Other (write_number a) → Other (write_number (counted_also n a))
-counted_other n (Written w) h = h
-counted_other n (NotWritten why) h = h
+counted_other : (n : ℕ) (a : Result Written Refusal) → Other (write_number a) → Other (write_number (counted_also n a))
+counted_other n (Ok w) h = h
+counted_other n (Err why) h = h
 
 module _ (c : ℕ) (k : Book) (cfg : StreamConfig) (time : ℕ) (p : PayloadWriter) (b : List ℕ) (v : payload_valid p (length b) ≡ true) where
-  first_other : (s : Span) → Other (write_number (request_first c k cfg time p b (as_command s)).answer)
-  first_other NoSpan = counted_other 0 (write_in c cfg time k p b).answer (write_other c cfg time k p b v)
-  first_other (Of range) =
+  first_other : (s : Option SeqRange) → Other (write_number (request_first c k cfg time p b (as_command s)).answer)
+  first_other None = counted_other 0 (write_in c cfg time k p b).answer (write_other c cfg time k p b v)
+  first_other (Some range) =
       let r = as_request range in
       elim (split (left p b r)) [
         | inl l ↦ elim (split (eqb p.len 0)) [ inl z ↦ rw (l, z) (other 3 refl) | inr z ↦ rw (l, z) none ]
@@ -218,16 +208,16 @@ module _ (c : ℕ) (k : Book) (cfg : StreamConfig) (time : ℕ) (p : PayloadWrit
   unfolding write_out request_wanted
   out_other W t = elim (settings_tested cfg) [
     | refuses why e h ↦ rw e h
-    | passes e ↦ elim (split (due_in W t && enabled_in t cfg)) [ inl o ↦ rw (e, v, o) (first_other (request_in W (reports t))) | inr o ↦ rw (e, v, o) (first_other NoSpan) ]
+    | passes e ↦ elim (split (due_in W t && enabled_in t cfg)) [ inl o ↦ rw (e, v, o) (first_other (request_in W (reports t))) | inr o ↦ rw (e, v, o) (first_other None) ]
   ]
 
-deadline_other : (t : Timer) (o : Bool) (i : IdleTimer) → Other (deadline_number (earlier (deadline_at t) (cond o (due_at i) Nothing)))
-deadline_other Stopped true Off = none
-deadline_other Stopped true (Waiting x) = none
-deadline_other Stopped false i = none
-deadline_other (Running k) true Off = none
-deadline_other (Running k) true (Waiting x) = none
-deadline_other (Running k) false i = none
+deadline_other : (t : Option RequestTimer) (o : Bool) (i : Option Idle) → Other (deadline_number (earlier (deadline_at t) (cond o (due_at i) (Ok None))))
+deadline_other None true None = none
+deadline_other None true (Some x) = none
+deadline_other None false i = none
+deadline_other (Some k) true None = none
+deadline_other (Some k) true (Some x) = none
+deadline_other (Some k) false i = none
 
 -- ---- all calls
 

@@ -1,5 +1,8 @@
 -- Every list of calls on a fresh stream: each end is what its own calls leave.
 use Prim.Native.Nat.{ℕ, ◌≤◌}
+use Rattle.std.proofs.Common.{Result, Ok, Err}
+use Rattle.stream.specs.declared.stream.StreamAnswer.{StreamAnswer}
+use Rattle.std.specs.Bool.{⊤}
 use mathlib.Core.Path.{◌≡◌, refl, sym, ap, ◌∙◌, subst}
 use mathlib.Core.Bool.{Bool, true, false, cond, not, ◌||◌}
 use mathlib.Core.List.{List, [], ◌∷◌, ◌++◌}
@@ -12,9 +15,6 @@ use Rattle.config.specs.Range.{outside}
 use Rattle.config.specs.Settings.{check_of, tested}
 use Rattle.config.specs.declared.refusal.Refusal.{Refusal}
 use Rattle.config.specs.declared.refusal.Refusal.TheVariants.{SizeNotAllowed}
-use Rattle.config.specs.declared.answer.Outcome.{Outcome}
-use Rattle.config.specs.declared.answer.Outcome.TheVariants.{Done, Refused}
-use Rattle.config.specs.declared.answer.Answered.TheVariants.{Is}
 use Rattle.config.specs.declared.settings.StreamConfig.{StreamConfig}
 use Rattle.packet.specs.Write.{valid_of as payload_valid}
 use Rattle.packet.specs.declared.writer.PayloadWriter.{PayloadWriter}
@@ -24,7 +24,7 @@ use Rattle.receiver.specs.Receiver.{fresh_of, deadline_of as receiver_deadline}
 use Rattle.receiver.specs.Answers as receiver
 use Rattle.receiver.specs.declared.receiver.Receiver.{Receiver}
 use Rattle.receiver.specs.declared.receiver.Request.{Request}
-use Rattle.receiver.specs.declared.receiver.Request.TheVariants.{Nothing as NotDue, Written as Taken, More as NoSpace, Refused as NotTaken}
+use Rattle.receiver.specs.declared.receiver.Request.TheVariants.{Nothing as NotDue, Written as Taken, More as NoSpace}
 use Rattle.receiver_log.specs.Calls as Receiver
 use Rattle.receiver_log.specs.Log.{reports}
 use Rattle.receiver_log.specs.Promise.{log_of}
@@ -48,8 +48,6 @@ use Rattle.stream.specs.Answers.{not_started, new_answer, reset_answer, earlier,
 use Rattle.stream.specs.Ends.{send_answer, request_answer, data_answer, error_answer, nak_answer, poll_answer, take_answer}
 use Rattle.stream.specs.Writing.{write_refused, data_written, write_answer}
 use Rattle.stream.specs.declared.stream.DataStream.{DataStream}
-use Rattle.stream.specs.declared.stream.Started.{Started as StartAnswer}
-use Rattle.stream.specs.declared.stream.WasReset.{WasReset}
 use Rattle.stream.proofs.Validity.{test_sender}
 use Rattle.stream_log.specs.Calls.{Call, send_ump, on_retransmit_request, on_ump_data, on_retransmit_error, on_retransmit_nak, poll, write_request, write_data, next_deadline, wants_write, reset, Entry, step_of, run_from, run, Typed, AllTyped}
 use Rattle.stream_log.specs.Ends.{Ends, uncalled, receiving, sending, unless_cut, ends_after, ends_from, ends_of}
@@ -63,10 +61,10 @@ abbrev sizes_out : ℕ → ℕ → List ℕ → Bool
 sizes_out c q ring₀ = outside 65 32768 c || (not (eqb (length ring₀) c) || outside 1 16 q)
 
 -- both ends are started, over a history of zeros
-pub record StartIs (W c q : ℕ) (ring₀ : List ℕ) (x : StartAnswer × List ℕ) : Type 0 where
+pub record StartIs (W c q : ℕ) (ring₀ : List ℕ) (x : StreamAnswer ⊤ × List ℕ) : Type 0 where
   pub least : 1 ≤ W
   pub most : W ≤ max_window
-  pub started : (sender.new_answer c q ring₀).0.answer ≡ Done
+  pub started : (sender.new_answer c q ring₀).0.answer ≡ Ok tt
   pub stream_is : fresh W c q ≡ x.0.stream
   pub ring_is : replicate c 0 ≡ x.1
   pub sender_is : fresh_sender c q ≡ (sender.new_answer c q ring₀).0.sender
@@ -76,16 +74,16 @@ pub start_is : (cfg : StreamConfig) (W c q : ℕ) (ring₀ : List ℕ) → Start
 unfolding new_answer sender.new_answer
 start_is cfg W c q ring₀ e = by (check_of cfg) (outside 1 max_window W) refl (sizes_out c q ring₀) refl e
   where
-    ready : StartAnswer × List ℕ
-    ready = (record { stream = fresh W c q; answer = Done }, replicate (length ring₀) 0)
+    ready : StreamAnswer ⊤ × List ℕ
+    ready = (record { stream = fresh W c q; answer = Ok tt }, replicate (length ring₀) 0)
 
-    by : (k : Outcome) (t : Bool) → outside 1 max_window W ≡ t → (o : Bool) → sizes_out c q ring₀ ≡ o
-        → (tested k (λ (why : Refusal). (not_started why, ring₀)) (cond (t || o) (not_started SizeNotAllowed, ring₀) ready)).0.answer ≡ Done
+    by : (k : Result ⊤ Refusal) (t : Bool) → outside 1 max_window W ≡ t → (o : Bool) → sizes_out c q ring₀ ≡ o
+        → (tested k (λ (why : Refusal). (not_started why, ring₀)) (cond (t || o) (not_started SizeNotAllowed, ring₀) ready)).0.answer ≡ Ok tt
         → StartIs W c q ring₀ (tested k (λ (why : Refusal). (not_started why, ring₀)) (cond (t || o) (not_started SizeNotAllowed, ring₀) ready))
-    by (Refused why) t f o g e = absurd (let z : ◌≡◌ {A = ℕ} 0 1 = cc in omega arith)
-    by Done true f o g e = absurd (let z : ◌≡◌ {A = ℕ} 0 1 = cc in omega arith)
-    by Done false f true g e = absurd (let z : ◌≡◌ {A = ℕ} 0 1 = cc in omega arith)
-    by Done false f false g e =
+    by (Err why) t f o g e = absurd (let z : ◌≡◌ {A = ℕ} 0 1 = cc in omega arith)
+    by (Ok _) true f o g e = absurd (let z : ◌≡◌ {A = ℕ} 0 1 = cc in omega arith)
+    by (Ok _) false f true g e = absurd (let z : ◌≡◌ {A = ℕ} 0 1 = cc in omega arith)
+    by (Ok tt) false f false g e =
         let w = not_outside 1 max_window W f in
         let l : length ring₀ ≡ c = eqb-true (length ring₀) c (not-false (eqb (length ring₀) c) (or_left _ _ (or_right (outside 65 32768 c) _ g))) in
         record { least = w.0; most = w.1; started = rw g; stream_is = refl; ring_is = rw l; sender_is = rw g; history_is = rw (g, l) }
@@ -164,13 +162,13 @@ module _ (W c q : ℕ) (ring₀ : List ℕ) where
       }
 
   -- the sender's write, unless the take was refused or found no space
-  behind_on : (s : DataStream) (ring : List ℕ) (e : Ends) → Tied W c q ring₀ s ring e → (a : Request) (cfg : StreamConfig) → Sender.TypedConfig cfg → (time : ℕ) (p : PayloadWriter) (b : List ℕ)
+  behind_on : (s : DataStream) (ring : List ℕ) (e : Ends) → Tied W c q ring₀ s ring e → (a : Result Request Refusal) (cfg : StreamConfig) → Sender.TypedConfig cfg → (time : ℕ) (p : PayloadWriter) (b : List ℕ)
       → (let w = behind_take a s cfg time p b ring in Tied W c q ring₀ w.0.stream w.2 (unless_cut a e (Sender.write cfg time p b)))
   unfolding Sender.step_of
-  behind_on s ring e i (NotTaken why) cfg l time p b = i
-  behind_on s ring e i NoSpace cfg l time p b = i
-  behind_on s ring e i NotDue cfg l time p b = sending_on s ring e i (Sender.write cfg time p b) l
-  behind_on s ring e i Taken cfg l time p b = sending_on s ring e i (Sender.write cfg time p b) l
+  behind_on s ring e i (Err why) cfg l time p b = i
+  behind_on s ring e i (Ok NoSpace) cfg l time p b = i
+  behind_on s ring e i (Ok NotDue) cfg l time p b = sending_on s ring e i (Sender.write cfg time p b) l
+  behind_on s ring e i (Ok Taken) cfg l time p b = sending_on s ring e i (Sender.write cfg time p b) l
 
   module _ (least : 1 ≤ W) (most : W ≤ max_window) (started : Sent.Started c q ring₀) where
     module _ (s : DataStream) (ring : List ℕ) (e : Ends) (i : Tied W c q ring₀ s ring e) where
@@ -197,7 +195,7 @@ module _ (W c q : ℕ) (ring₀ : List ℕ) where
       }
 
       -- a reset is a start with the same sizes
-      pub reset_is : reset_answer s ring ≡ (record { stream = fresh W c q; answer = Done }, replicate c 0)
+      pub reset_is : reset_answer s ring ≡ (record { stream = fresh W c q; answer = Ok tt }, replicate c 0)
       unfolding reset_answer
       reset_is =
           let l : length ring ≡ c = (valid_good s.sender ring sender_keeps.valid).ring ∙ sender_keeps.words in
@@ -213,7 +211,7 @@ module _ (W c q : ℕ) (ring₀ : List ℕ) where
       unfolding deadline_answer
       deadline_tested = rw both_valid
 
-      pub wants_tested : (time : ℕ) → wants_answer s ring time ≡ Is (s.receiver.request_due || wants_of s.sender time)
+      pub wants_tested : (time : ℕ) → wants_answer s ring time ≡ Ok (s.receiver.request_due || wants_of s.sender time)
       unfolding wants_answer
       wants_tested time = rw both_valid
 
@@ -261,7 +259,7 @@ module _ (W c q : ℕ) (ring₀ : List ℕ) where
       step_on s ring e i next_deadline l = i
       step_on s ring e i (wants_write time) l = i
       step_on s ring e i reset l =
-          subst (λ (x : WasReset × List ℕ). Tied W c q ring₀ x.0.stream x.1 uncalled) (sym (reset_is s ring e i)) again
+          subst (λ (x : StreamAnswer ⊤ × List ℕ). Tied W c q ring₀ x.0.stream x.1 uncalled) (sym (reset_is s ring e i)) again
 
       -- ---- all calls
 

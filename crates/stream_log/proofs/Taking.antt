@@ -1,5 +1,8 @@
 -- Taking a due request: what comes of it, by the ways out.
 use Prim.Native.Nat.{ℕ, ◌+◌, ◌≤◌}
+use Rattle.std.proofs.Common.{Option, Some, None, Result, Ok, Err}
+use Rattle.window.specs.declared.window.SeqRange.{SeqRange}
+use Rattle.std.specs.Bool.{⊤}
 use mathlib.Core.Path.{◌≡◌, refl, ap}
 use mathlib.Core.Logic.{inl, inr}
 use mathlib.Core.Bool.{Bool, true, false, cond, not, ◌&&◌}
@@ -11,8 +14,6 @@ use Rattle.config.specs.Entry.{entry}
 use Rattle.config.specs.Settings.{check_of}
 use Rattle.config.specs.declared.refusal.Refusal.{Refusal}
 use Rattle.config.specs.declared.refusal.Refusal.TheVariants.{TooLarge, InvalidState}
-use Rattle.config.specs.declared.answer.Outcome.{Outcome}
-use Rattle.config.specs.declared.answer.Outcome.TheVariants.{Done, Refused}
 use Rattle.config.specs.declared.settings.StreamConfig.{StreamConfig}
 use Rattle.config.specs.inner.Tests.{split, tests}
 use Rattle.packet.specs.Layout.{Packet, size_of}
@@ -22,14 +23,11 @@ use Rattle.packet.proofs.Outcomes.{written_length, written_valid}
 use Rattle.command.specs.Write.{request_packet}
 use Rattle.command.specs.declared.retransmit.RetransmitRequest.{RetransmitRequest}
 use Rattle.window.specs.Window.{request_of}
-use Rattle.window.specs.declared.window.Span.{Span}
-use Rattle.window.specs.declared.window.Span.TheVariants.{Nothing as NoSpan, Of}
 use Rattle.receiver.specs.Receiver.{valid_of as receiver_valid, enabled_of, with_asked, not_due, taken_span, taken_of, offered_of}
 use Rattle.receiver.specs.Answers.{request_refused, take_answer}
 use Rattle.receiver.specs.declared.receiver.Receiver.{Receiver}
-use Rattle.receiver.specs.declared.receiver.Asked.TheVariants.{Request as AskedFor}
 use Rattle.receiver.specs.declared.receiver.Request.{Request}
-use Rattle.receiver.specs.declared.receiver.Request.TheVariants.{Nothing as NotDue, Written as Taken, More as NoSpace, Refused as NotTaken}
+use Rattle.receiver.specs.declared.receiver.Request.TheVariants.{Nothing as NotDue, Written as Taken, More as NoSpace}
 use Rattle.receiver.specs.declared.receiver.RequestWritten.{RequestWritten}
 use Rattle.receiver_log.specs.Calls as Receiver
 use Rattle.receiver_log.specs.Promise as Received
@@ -52,7 +50,7 @@ none_wanted r cfg e = ap (λ (d : Bool). cond (d && enabled_of r cfg) (as_comman
 
 -- settings and payload that pass their tests
 pub record Passing (cfg : StreamConfig) (p : PayloadWriter) (b : List ℕ) : Type 0 where
-  pub check : check_of cfg ≡ Done
+  pub check : check_of cfg ≡ Ok tt
   pub valid : payload_valid p (length b) ≡ true
 
 -- a command doesn't fit
@@ -60,14 +58,14 @@ abbrev pub left : PayloadWriter → List ℕ → Packet → Bool
 left p b c = ltb (limit_of p (length b)) (start_of p + size_of c)
 
 -- answer, receiver, payload and its bytes
-pub data Took (r : Receiver) (cfg : StreamConfig) (p : PayloadWriter) (b : List ℕ) : Request → Receiver → PayloadWriter → List ℕ → Type 0 where
-  settings : (why : Refusal) → check_of cfg ≡ Refused why → Took r cfg p b (NotTaken why) r p b
-  invalid : check_of cfg ≡ Done → payload_valid p (length b) ≡ false → Took r cfg p b (NotTaken InvalidState) r p b
-  too_large : Passing cfg p b → (c : Packet) → wanted_by r cfg ≡ c ∷ [] → left p b c ≡ true → eqb p.len 0 ≡ true → Took r cfg p b (NotTaken TooLarge) r p b
-  no_space : Passing cfg p b → (c : Packet) → wanted_by r cfg ≡ c ∷ [] → left p b c ≡ true → eqb p.len 0 ≡ false → Took r cfg p b NoSpace r p b
-  none_due : Passing cfg p b → (r' : Receiver) → wanted_by r cfg ≡ [] → r'.request_due ≡ false → Took r cfg p b NotDue r' p b
-  taken : Passing cfg p b → (q : RetransmitRequest) (r' : Receiver) → wanted_by r cfg ≡ request_packet q ∷ [] → r'.request_due ≡ false → r'.asked ≡ AskedFor q
-      → left p b (request_packet q) ≡ false → Took r cfg p b Taken r' (written_of p b (request_packet q)).0.payload (written_of p b (request_packet q)).1
+pub data Took (r : Receiver) (cfg : StreamConfig) (p : PayloadWriter) (b : List ℕ) : Result Request Refusal → Receiver → PayloadWriter → List ℕ → Type 0 where
+  settings : (why : Refusal) → check_of cfg ≡ Err why → Took r cfg p b (Err why) r p b
+  invalid : check_of cfg ≡ Ok tt → payload_valid p (length b) ≡ false → Took r cfg p b (Err InvalidState) r p b
+  too_large : Passing cfg p b → (c : Packet) → wanted_by r cfg ≡ c ∷ [] → left p b c ≡ true → eqb p.len 0 ≡ true → Took r cfg p b (Err TooLarge) r p b
+  no_space : Passing cfg p b → (c : Packet) → wanted_by r cfg ≡ c ∷ [] → left p b c ≡ true → eqb p.len 0 ≡ false → Took r cfg p b (Ok NoSpace) r p b
+  none_due : Passing cfg p b → (r' : Receiver) → wanted_by r cfg ≡ [] → r'.request_due ≡ false → Took r cfg p b (Ok NotDue) r' p b
+  taken : Passing cfg p b → (q : RetransmitRequest) (r' : Receiver) → wanted_by r cfg ≡ request_packet q ∷ [] → r'.request_due ≡ false → r'.asked ≡ Some q
+      → left p b (request_packet q) ≡ false → Took r cfg p b (Ok Taken) r' (written_of p b (request_packet q)).0.payload (written_of p b (request_packet q)).1
 
 abbrev pub TookBy : Receiver → StreamConfig → PayloadWriter → List ℕ → RequestWritten × List ℕ → Type 0
 TookBy r cfg p b t = Took r cfg p b t.0.answer t.0.receiver t.0.payload t.1
@@ -98,14 +96,14 @@ module _ (r : Receiver) (cfg : StreamConfig) (p : PayloadWriter) (b : List ℕ) 
         | inr z ↦ rw z (no_space g (request_packet q) e l z)
       ])
       | inr l ↦
-          let x : Took r cfg p b Taken (with_asked r (AskedFor q)) (written_of p b (request_packet q)).0.payload (written_of p b (request_packet q)).1 = taken g q (with_asked r (AskedFor q)) e refl refl l in
+          let x : Took r cfg p b (Ok Taken) (with_asked r (Some q)) (written_of p b (request_packet q)).0.payload (written_of p b (request_packet q)).1 = taken g q (with_asked r (Some q)) e refl refl l in
           let w = one_written p b g.valid (request_packet q) l refl in
           rw w (rw w at x)
     ]
 
-    span_took : (s : Span) → wanted_by r cfg ≡ as_command s → TookBy r cfg p b (taken_span r p b s)
-    span_took NoSpan e = none_due g (with_asked r r.asked) e refl
-    span_took (Of range) e = offered_took record { seq = range.first; count = range.count } e
+    span_took : (s : Option SeqRange) → wanted_by r cfg ≡ as_command s → TookBy r cfg p b (taken_span r p b s)
+    span_took None e = none_due g (with_asked r r.asked) e refl
+    span_took (Some range) e = offered_took record { seq = range.first; count = range.count } e
 
     taken_took : TookBy r cfg p b (taken_of r cfg p b)
     unfolding taken_of
@@ -122,8 +120,8 @@ module _ (r : Receiver) (cfg : StreamConfig) (p : PayloadWriter) (b : List ℕ) 
   unfolding take_answer
   take_took v = rw v (go (check_of cfg) refl (payload_valid p (length b)) refl)
     where
-      go : (k : Outcome) → check_of cfg ≡ k → (o : Bool) → payload_valid p (length b) ≡ o
+      go : (k : Result ⊤ Refusal) → check_of cfg ≡ k → (o : Bool) → payload_valid p (length b) ≡ o
           → TookBy r cfg p b (entry k o (request_refused r p b) (taken_of r cfg p b))
-      go (Refused why) k o e = settings why k
-      go Done k false e = invalid k e
-      go Done k true e = taken_took record { check = k; valid = e }
+      go (Err why) k o e = settings why k
+      go (Ok _) k false e = invalid k e
+      go (Ok _) k true e = taken_took record { check = k; valid = e }

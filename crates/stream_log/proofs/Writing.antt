@@ -1,23 +1,23 @@
 -- A stream's write is made of its ends' calls, refused ones too.
 use Prim.Native.Nat.{ℕ}
+use Rattle.std.proofs.Common.{Result, Ok, Err}
+use Rattle.config.specs.declared.refusal.Refusal.{Refusal}
+use Rattle.std.specs.Bool.{⊤}
 use mathlib.Core.Path.{◌≡◌, refl, ap, ◌∙◌}
 use mathlib.Core.Bool.{Bool, true, false}
 use mathlib.Core.List.{List}
 use lib.ListN.{length}
 use Rattle.config.specs.Settings.{check_of}
-use Rattle.config.specs.declared.answer.Outcome.{Outcome}
-use Rattle.config.specs.declared.answer.Outcome.TheVariants.{Done, Refused}
 use Rattle.config.specs.declared.settings.StreamConfig.{StreamConfig}
 use Rattle.packet.specs.Write.{valid_of as payload_valid}
 use Rattle.packet.specs.declared.writer.PayloadWriter.{PayloadWriter}
 use Rattle.receiver.specs.Answers as receiver
 use Rattle.receiver.specs.declared.receiver.Receiver.{Receiver}
 use Rattle.receiver.specs.declared.receiver.Request.{Request}
-use Rattle.receiver.specs.declared.receiver.Request.TheVariants.{Nothing as NotDue, Written as Taken, More as NoSpace, Refused as NotTaken}
+use Rattle.receiver.specs.declared.receiver.Request.TheVariants.{Nothing as NotDue, Written as Taken, More as NoSpace}
 use Rattle.receiver.specs.declared.receiver.RequestWritten.{RequestWritten}
 use Rattle.writing.specs.Writing.{written_by}
 use Rattle.writing.specs.Answers as writing
-use Rattle.writing.specs.declared.writing.Writing.TheVariants.{Written}
 use Rattle.stream.specs.State.{valid_of, with_sender, with_receiver}
 use Rattle.stream.specs.Writing.{write_refused, counted_also, sent_after, after_request, data_written, write_answer}
 use Rattle.stream.specs.declared.stream.DataStream.{DataStream}
@@ -33,11 +33,11 @@ sent_behind n s cfg time p b ring =
     let w = writing.write_answer s.sender cfg time p b ring in
     (record { stream = with_sender s w.0.sender; payload = w.0.payload; answer = counted_also n w.0.answer }, w.1, w.2)
 
-abbrev pub behind_take : Request → DataStream → StreamConfig → ℕ → PayloadWriter → List ℕ → List ℕ → Wrote × List ℕ × List ℕ
-behind_take (NotTaken why) s cfg time p b ring = write_refused s p b ring why
-behind_take NoSpace s cfg time p b ring = (record { stream = s; payload = p; answer = Written record { commands = 0; more = true } }, b, ring)
-behind_take NotDue s cfg time p b ring = sent_behind 0 s cfg time p b ring
-behind_take Taken s cfg time p b ring = sent_behind 1 s cfg time p b ring
+abbrev pub behind_take : Result Request Refusal → DataStream → StreamConfig → ℕ → PayloadWriter → List ℕ → List ℕ → Wrote × List ℕ × List ℕ
+behind_take (Err why) s cfg time p b ring = write_refused s p b ring why
+behind_take (Ok NoSpace) s cfg time p b ring = (record { stream = s; payload = p; answer = Ok record { commands = 0; more = true } }, b, ring)
+behind_take (Ok NotDue) s cfg time p b ring = sent_behind 0 s cfg time p b ring
+behind_take (Ok Taken) s cfg time p b ring = sent_behind 1 s cfg time p b ring
 
 abbrev pub Joined : DataStream → List ℕ → Type 0
 Joined s ring =
@@ -48,14 +48,14 @@ Joined s ring =
 
 module _ (s : DataStream) (ring : List ℕ) (cfg : StreamConfig) (time : ℕ) where
   same_behind : (p : PayloadWriter) (b : List ℕ) → written_by s.sender cfg time p b ring ≡ writing.write_answer s.sender cfg time p b ring
-      → (r : Receiver) (a : Request) → after_request a (with_receiver s r) cfg time p b ring ≡ behind_take a (with_receiver s r) cfg time p b ring
+      → (r : Receiver) (a : Result Request Refusal) → after_request a (with_receiver s r) cfg time p b ring ≡ behind_take a (with_receiver s r) cfg time p b ring
   unfolding sent_after
-  same_behind p b e r (NotTaken why) = refl
-  same_behind p b e r NoSpace = refl
-  same_behind p b e r NotDue = rw e
-  same_behind p b e r Taken = rw e
+  same_behind p b e r (Err why) = refl
+  same_behind p b e r (Ok NoSpace) = refl
+  same_behind p b e r (Ok NotDue) = rw e
+  same_behind p b e r (Ok Taken) = rw e
 
-  taken_joined : (p : PayloadWriter) (b : List ℕ) → check_of cfg ≡ Done → valid_of s ring ≡ true → payload_valid p (length b) ≡ true
+  taken_joined : (p : PayloadWriter) (b : List ℕ) → check_of cfg ≡ Ok tt → valid_of s ring ≡ true → payload_valid p (length b) ≡ true
       → data_written s cfg time p b ring ≡ (let t = receiver.take_answer s.receiver cfg p b in behind_take t.0.answer (with_receiver s t.0.receiver) cfg time t.0.payload t.1 ring)
   unfolding data_written
   taken_joined p b k v w =
@@ -64,7 +64,7 @@ module _ (s : DataStream) (ring : List ℕ) (cfg : StreamConfig) (time : ℕ) wh
       ap (λ (t : RequestWritten × List ℕ). after_request t.0.answer (with_receiver s t.0.receiver) cfg time t.0.payload t.1 ring) e.take_request
       ∙ same_behind t.0.payload t.1 (e.write time) t.0.receiver t.0.answer
 
-write_passed : (s : DataStream) (ring : List ℕ) (cfg : StreamConfig) (time : ℕ) (p : PayloadWriter) (b : List ℕ) → check_of cfg ≡ Done → valid_of s ring ≡ true → payload_valid p (length b) ≡ true
+write_passed : (s : DataStream) (ring : List ℕ) (cfg : StreamConfig) (time : ℕ) (p : PayloadWriter) (b : List ℕ) → check_of cfg ≡ Ok tt → valid_of s ring ≡ true → payload_valid p (length b) ≡ true
     → write_answer s cfg time p b ring ≡ data_written s cfg time p b ring
 unfolding write_answer
 write_passed s ring cfg time p b e v f = rw (e, v, f)
@@ -73,8 +73,8 @@ pub write_joined : (s : DataStream) (ring : List ℕ) → valid_of s ring ≡ tr
 unfolding write_answer receiver.take_answer
 write_joined s ring v cfg time p b = by (check_of cfg) refl (payload_valid p (length b)) refl
   where
-    by : (k : Outcome) → check_of cfg ≡ k → (w : Bool) → payload_valid p (length b) ≡ w
+    by : (k : Result ⊤ Refusal) → check_of cfg ≡ k → (w : Bool) → payload_valid p (length b) ≡ w
         → write_answer s cfg time p b ring ≡ (let t = receiver.take_answer s.receiver cfg p b in behind_take t.0.answer (with_receiver s t.0.receiver) cfg time t.0.payload t.1 ring)
-    by (Refused why) e w f = rw e
-    by Done e false f = rw (e, v, valid_receiver s ring v, f)
-    by Done e true f = write_passed s ring cfg time p b e v f ∙ taken_joined s ring cfg time p b e v f
+    by (Err why) e w f = rw e
+    by (Ok _) e false f = rw (e, v, valid_receiver s ring v, f)
+    by (Ok _) e true f = write_passed s ring cfg time p b e v f ∙ taken_joined s ring cfg time p b e v f

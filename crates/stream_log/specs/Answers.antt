@@ -1,6 +1,8 @@
 -- What the next call answers, from the past calls of both ends alone (crates receiver_log and sender_log). The stream's state is never refused: 13 is left for a
 -- payload's.
-use Rattle.std.specs.Prelude.{ℕ, ◌+◌, Bool, true, cond, not, ◌||◌, ◌&&◌, List, [], ◌∷◌, ltb, eqb, length}
+use Rattle.std.specs.Prelude.{ℕ, ◌+◌, Bool, true, cond, not, ◌||◌, ◌&&◌, List, [], ◌∷◌, ltb, eqb, length, Option, Some, None, Result, Ok, Err}
+use Rattle.window.specs.declared.window.SeqRange.{SeqRange}
+use Rattle.writing.specs.declared.writing.Written.{Written}
 use Rattle.config.specs.Entry.{entry}
 use Rattle.config.specs.Settings.{check_of}
 use Rattle.config.specs.declared.refusal.Refusal.{Refusal}
@@ -10,8 +12,6 @@ use Rattle.packet.specs.Layout.{Packet, size_of}
 use Rattle.packet.specs.Write.{limit_of, start_of, written_of, valid_of as payload_valid}
 use Rattle.packet.specs.declared.writer.PayloadWriter.{PayloadWriter}
 use Rattle.command.specs.Write.{request_packet}
-use Rattle.window.specs.declared.window.Span.{Span}
-use Rattle.window.specs.declared.window.Span.TheVariants.{Nothing as NoSpan, Of}
 use Rattle.idle.specs.Schedule.{is_due}
 use Rattle.receiver.specs.Receiver.{deadline_at}
 use Rattle.receiver_log.specs.Calls as Receiver
@@ -21,12 +21,6 @@ use Rattle.receiver_log.specs.Timing.{timer_in, due_in, enabled_in}
 use Rattle.receiver_log.specs.Answers.{answer_of as receiver_answer}
 use Rattle.receiver_log.specs.Promise.{log_of}
 use Rattle.sender.specs.Requests.{due_at}
-use Rattle.config.specs.declared.answer.Outcome.TheVariants.{Done}
-use Rattle.config.specs.declared.answer.Answered.TheVariants.{Is}
-use Rattle.config.specs.declared.answer.Deadline.{Deadline}
-use Rattle.config.specs.declared.answer.Deadline.TheVariants.{Nothing}
-use Rattle.writing.specs.declared.writing.Writing.{Writing}
-use Rattle.writing.specs.declared.writing.Writing.TheVariants.{Written, Refused}
 use Rattle.sender_log.specs.Book.{Book}
 use Rattle.sender_log.specs.Writes.{is_empty, write_in}
 use Rattle.sender_log.specs.Calls as Sender
@@ -40,23 +34,23 @@ use Rattle.stream_log.specs.Ends.{Ends, ends_after}
 
 -- the answer, the payload and its bytes
 pub record Out : Type 0 where
-  pub answer : Writing
+  pub answer : (Result Written Refusal)
   pub payload : PayloadWriter
   pub bytes : List ℕ
 
 abbrev pub refused_out : PayloadWriter → List ℕ → Refusal → Out
-refused_out p b why = record { answer = Refused why; payload = p; bytes = b }
+refused_out p b why = record { answer = Err why; payload = p; bytes = b }
 
 abbrev pub more_out : PayloadWriter → List ℕ → Out
-more_out p b = record { answer = Written record { commands = 0; more = true }; payload = p; bytes = b }
+more_out p b = record { answer = Ok record { commands = 0; more = true }; payload = p; bytes = b }
 
 -- the sender's write, behind n commands
 abbrev pub sent_out : ℕ → ℕ → Book → StreamConfig → ℕ → PayloadWriter → List ℕ → Out
 sent_out n c k cfg time p b = let w = write_in c cfg time k p b in record { answer = counted_also n w.answer; payload = w.payload; bytes = w.bytes }
 
-abbrev pub as_command : Span → List Packet
-as_command NoSpan = []
-as_command (Of range) = request_packet record { seq = range.first; count = range.count } ∷ []
+abbrev pub as_command : Option SeqRange → List Packet
+as_command None = []
+as_command (Some range) = request_packet record { seq = range.first; count = range.count } ∷ []
 
 -- a due request; dropped if requests are disabled or nothing is missing
 unfoldable pub request_wanted : ℕ → List Receiver.Entry → StreamConfig → List Packet
@@ -78,8 +72,8 @@ write_out W c t k cfg time p b =
 -- ---- questions
 
 -- the earlier of the request timer's due time and, if no command is unwritten, that of an idle command
-abbrev pub deadline_in : ℕ → List Receiver.Entry → Book → Deadline
-deadline_in W t k = earlier (deadline_at (timer_in W t)) (cond (is_empty k.unwritten) (due_at k.idle) Nothing)
+abbrev pub deadline_in : ℕ → List Receiver.Entry → Book → Result (Option ℕ) Refusal
+deadline_in W t k = earlier (deadline_at (timer_in W t)) (cond (is_empty k.unwritten) (due_at k.idle) (Ok None))
 
 -- a request is due, a command is unwritten, a request waits, or an idle command is due
 abbrev pub wants_in : ℕ → List Receiver.Entry → Book → ℕ → Bool
@@ -106,8 +100,8 @@ answer_of W c q e (write_data cfg time p b) =
     let w = write_out W c (log_of W e.received) (book_of c q e.sent) cfg time p b in
     wrote cfg time p b w.answer w.payload w.bytes
 answer_of W c q e next_deadline = deadline (deadline_in W (log_of W e.received) (book_of c q e.sent))
-answer_of W c q e (wants_write time) = wants time (Is (wants_in W (log_of W e.received) (book_of c q e.sent) time))
-answer_of W c q e reset = was_reset Done
+answer_of W c q e (wants_write time) = wants time (Ok (wants_in W (log_of W e.received) (book_of c q e.sent) time))
+answer_of W c q e reset = was_reset (Ok tt)
 
 -- the log of a list of calls, from the calls alone
 unfoldable pub said_from : ℕ → ℕ → ℕ → Ends → List Entry → List Call → List Entry

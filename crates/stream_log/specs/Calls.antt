@@ -1,5 +1,7 @@
 -- 01, "The runs of demand 3": lists of calls on a fresh stream, refused ones included, each taking what the last left.
-use Rattle.std.specs.Prelude.{ℕ, ◌<◌, List, [], ◌∷◌}
+use Rattle.std.specs.Prelude.{ℕ, ◌<◌, List, [], ◌∷◌, Bool, Option, Result, ⊤}
+use Rattle.config.specs.declared.refusal.Refusal.{Refusal}
+use Rattle.writing.specs.declared.writing.Written.{Written}
 use Rattle.config.specs.Sequence.{turn}
 use Rattle.config.specs.declared.settings.StreamConfig.{StreamConfig}
 use Rattle.packet.specs.Layout.{Words32}
@@ -7,16 +9,12 @@ use Rattle.packet.specs.declared.writer.PayloadWriter.{PayloadWriter}
 use Rattle.command.specs.declared.retransmit.RetransmitRequest.{RetransmitRequest}
 use Rattle.command.specs.declared.retransmit.RetransmitError.{RetransmitError}
 use Rattle.receiver_log.specs.Calls as Receiver
-use Rattle.writing.specs.declared.writing.Writing.{Writing}
 use Rattle.sender_log.specs.Calls.{TypedConfig}
 use Rattle.sender_log.specs.Calls as Sender
 use Rattle.stream.specs.Ends.{send_answer, request_answer, data_answer, error_answer, nak_answer, poll_answer, take_answer}
 use Rattle.stream.specs.Answers.{new_answer, reset_answer, deadline_answer, wants_answer}
 use Rattle.stream.specs.Writing.{write_answer}
 use Rattle.stream.specs.declared.stream.DataStream.{DataStream}
-use Rattle.config.specs.declared.answer.Outcome.{Outcome}
-use Rattle.config.specs.declared.answer.Answered.{Answered}
-use Rattle.config.specs.declared.answer.Deadline.{Deadline}
 
 -- a call of `DataStream`, each argument free
 pub data Call : Type 0 where
@@ -45,10 +43,10 @@ pub data Entry : Type 0 where
   by_sender : Sender.Entry → Entry
   by_receiver : Receiver.Entry → Entry
   -- of a write also the payload and the buffer after it
-  wrote : StreamConfig → ℕ → PayloadWriter → List ℕ → Writing → PayloadWriter → List ℕ → Entry
-  deadline : Deadline → Entry
-  wants : ℕ → Answered → Entry
-  was_reset : Outcome → Entry
+  wrote : StreamConfig → ℕ → PayloadWriter → List ℕ → Result Written Refusal → PayloadWriter → List ℕ → Entry
+  deadline : Result (Option ℕ) Refusal → Entry
+  wants : ℕ → Result Bool Refusal → Entry
+  was_reset : Result ⊤ Refusal → Entry
 
 -- the stream and the history's words that a call leaves, and what goes into the log
 pub record Step : Type 0 where
@@ -62,19 +60,19 @@ step_of s ring (send_ump cfg ws) =
     record { stream = h.0.stream; ring = h.1; entry = by_sender (Sender.queue_entry cfg ws h.0.answer) }
 step_of s ring (on_retransmit_request cfg r) =
     let h = request_answer s cfg ring r in
-    record { stream = h.stream; ring = ring; entry = by_sender (Sender.request_entry cfg r h.outcome) }
+    record { stream = h.stream; ring = ring; entry = by_sender (Sender.request_entry cfg r h.answer) }
 step_of s ring (on_ump_data cfg time seq ws) =
     let h = data_answer s cfg time seq in
     record { stream = h.stream; ring = ring; entry = by_receiver (Receiver.data_entry cfg time seq ws h.answer) }
 step_of s ring (on_retransmit_error err) =
     let h = error_answer s err in
-    record { stream = h.stream; ring = ring; entry = by_receiver (Receiver.error_entry err h.event) }
+    record { stream = h.stream; ring = ring; entry = by_receiver (Receiver.error_entry err h.answer) }
 step_of s ring on_retransmit_nak =
     let h = nak_answer s in
-    record { stream = h.stream; ring = ring; entry = by_receiver (Receiver.nak_entry h.event) }
+    record { stream = h.stream; ring = ring; entry = by_receiver (Receiver.nak_entry h.answer) }
 step_of s ring (poll cfg time) =
     let h = poll_answer s cfg time in
-    record { stream = h.stream; ring = ring; entry = by_receiver (Receiver.poll_entry cfg time h.event) }
+    record { stream = h.stream; ring = ring; entry = by_receiver (Receiver.poll_entry cfg time h.answer) }
 step_of s ring (write_request cfg p b) =
     let h = take_answer s cfg p b in
     record { stream = h.0.stream; ring = ring; entry = by_receiver (Receiver.take_entry cfg p b h.0.answer h.0.payload h.1) }

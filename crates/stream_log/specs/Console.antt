@@ -1,15 +1,15 @@
 -- 01, "The runs of demand 3": a stream with its payloads, as an end of the line (crate delivery). A stream's write into a payload counts as the writing of a due request
 -- into it, where one is taken, and then the sender's write.
-use Rattle.std.specs.Prelude.{ℕ, ◌≡◌, Bool, cond, false, List, [], ◌∷◌, ◌++◌, ltb, length, get_or, set}
+use Rattle.std.specs.Prelude.{ℕ, ◌≡◌, Bool, cond, false, List, [], ◌∷◌, ◌++◌, ltb, length, get_or, set, Option, Some, None, Result, Ok, Err}
+use Rattle.command.specs.declared.retransmit.RetransmitRequest.{RetransmitRequest}
+use Rattle.config.specs.declared.refusal.Refusal.{Refusal}
 use Rattle.config.specs.declared.settings.StreamConfig.{StreamConfig}
 use Rattle.packet.specs.Write.{valid_of as payload_valid}
 use Rattle.command.specs.Calls.{request, command_of, Typed as WriteTyped}
 use Rattle.command.specs.Calls as Writes
 use Rattle.receiver.specs.Answers as receiver
-use Rattle.receiver.specs.declared.receiver.Asked.{Asked}
-use Rattle.receiver.specs.declared.receiver.Asked.TheVariants.{Nothing as Unasked, Request as AskedFor}
 use Rattle.receiver.specs.declared.receiver.Request.{Request}
-use Rattle.receiver.specs.declared.receiver.Request.TheVariants.{Nothing as NotDue, Written as Taken, More as NoSpace, Refused as NotTaken}
+use Rattle.receiver.specs.declared.receiver.Request.TheVariants.{Nothing as NotDue, Written as Taken, More as NoSpace}
 use Rattle.receiver.specs.declared.receiver.RequestWritten.{RequestWritten}
 use Rattle.sender_log.specs.Calls.{TypedConfig}
 use Rattle.delivery.specs.Commands.{is_data}
@@ -88,19 +88,19 @@ of_stream c (on_stream call) = call ∷ []
 -- ---- the calls of crate delivery's console that they count as
 
 -- the request that was written
-abbrev pub put_by : ℕ → Request → Asked → List Delivery.Call
-put_by k Taken (AskedFor q) = Delivery.put_in k (request q) ∷ []
-put_by k Taken Unasked = []
-put_by k NotDue asked = []
-put_by k NoSpace asked = []
-put_by k (NotTaken why) asked = []
+abbrev pub put_by : ℕ → Result Request Refusal → Option RetransmitRequest → List Delivery.Call
+put_by k (Ok Taken) (Some q) = Delivery.put_in k (request q) ∷ []
+put_by k (Ok Taken) None = []
+put_by k (Ok NotDue) asked = []
+put_by k (Ok NoSpace) asked = []
+put_by k (Err why) asked = []
 
 -- unless the request is refused or finds no space
-abbrev pub unless_cut : Request → Delivery.Call → List Delivery.Call
-unless_cut NotDue call = call ∷ []
-unless_cut Taken call = call ∷ []
-unless_cut NoSpace call = []
-unless_cut (NotTaken why) call = []
+abbrev pub unless_cut : Result Request Refusal → Delivery.Call → List Delivery.Call
+unless_cut (Ok NotDue) call = call ∷ []
+unless_cut (Ok Taken) call = call ∷ []
+unless_cut (Ok NoSpace) call = []
+unless_cut (Err why) call = []
 
 -- taking a due request into payload k
 abbrev pub taken_into : Console → ℕ → StreamConfig → RequestWritten × List ℕ

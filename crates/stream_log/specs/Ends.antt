@@ -1,10 +1,11 @@
 -- 01, "The runs of demand 3": a stream's call counts as those calls of its ends that it makes.
-use Rattle.std.specs.Prelude.{ℕ, List, [], ◌∷◌, ◌++◌}
+use Rattle.std.specs.Prelude.{ℕ, List, [], ◌∷◌, ◌++◌, Result, Ok, Err}
+use Rattle.config.specs.declared.refusal.Refusal.{Refusal}
 use Rattle.config.specs.declared.settings.StreamConfig.{StreamConfig}
 use Rattle.packet.specs.declared.writer.PayloadWriter.{PayloadWriter}
 use Rattle.receiver.specs.Answers.{take_answer}
 use Rattle.receiver.specs.declared.receiver.Request.{Request}
-use Rattle.receiver.specs.declared.receiver.Request.TheVariants.{Nothing as NotDue, Written as Taken, More as NoSpace, Refused as NotTaken}
+use Rattle.receiver.specs.declared.receiver.Request.TheVariants.{Nothing as NotDue, Written as Taken, More as NoSpace}
 use Rattle.receiver.specs.declared.receiver.RequestWritten.{RequestWritten}
 use Rattle.receiver_log.specs.Calls as Receiver
 use Rattle.sender_log.specs.Calls as Sender
@@ -29,11 +30,11 @@ abbrev pub taken_after : ℕ → List Receiver.Call → StreamConfig → Payload
 taken_after W calls cfg p b = take_answer (Receiver.run W calls).receiver cfg p b
 
 -- a write is that, and then the sender's write into what it left, unless it was refused or found no space
-abbrev pub unless_cut : Request → Ends → Sender.Call → Ends
-unless_cut NotDue e c = sending e c
-unless_cut Taken e c = sending e c
-unless_cut NoSpace e c = e
-unless_cut (NotTaken why) e c = e
+abbrev pub unless_cut : Result Request Refusal → Ends → Sender.Call → Ends
+unless_cut (Ok NotDue) e c = sending e c
+unless_cut (Ok Taken) e c = sending e c
+unless_cut (Ok NoSpace) e c = e
+unless_cut (Err why) e c = e
 
 unfoldable pub ends_after : ℕ → Ends → Call → Ends
 ends_after W e (send_ump cfg ws) = sending e (Sender.queue_words cfg ws)

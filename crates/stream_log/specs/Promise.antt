@@ -1,6 +1,6 @@
 -- What holds of every list of calls on a fresh stream with a window of W, a history of c words and q places for requests, resets included: of each end, what its
 -- log crate proves of its own calls since the start or the last reset.
-use Rattle.std.specs.Prelude.{ℕ, ◌≡◌, true, false, ◌||◌, List, [], ◌++◌, length, replicate}
+use Rattle.std.specs.Prelude.{ℕ, ◌≡◌, true, false, ◌||◌, List, [], ◌++◌, length, replicate, Ok}
 use Rattle.config.specs.Entry.{entry}
 use Rattle.config.specs.Settings.{check_of}
 use Rattle.config.specs.declared.settings.StreamConfig.{StreamConfig}
@@ -15,7 +15,6 @@ use Rattle.receiver_log.specs.Timing.{due_in}
 use Rattle.receiver_log.specs.Promise.{log_of}
 use Rattle.receiver_log.specs.Promise as Received
 use Rattle.sender.specs.Requests.{deadline_of as sender_deadline, wants_of}
-use Rattle.writing.specs.declared.writing.Writing.TheVariants.{Written}
 use Rattle.sender_log.specs.Calls.{TypedConfig}
 use Rattle.sender_log.specs.Calls as Sender
 use Rattle.sender_log.specs.Answers.{book_of}
@@ -26,8 +25,6 @@ use Rattle.stream.specs.State.{valid_of, fresh}
 use Rattle.stream.specs.Answers.{new_answer, reset_answer, earlier, deadline_answer, wants_answer}
 use Rattle.stream.specs.Writing.{write_refused, data_written, write_answer}
 use Rattle.stream.specs.declared.stream.DataStream.{DataStream}
-use Rattle.config.specs.declared.answer.Outcome.TheVariants.{Done}
-use Rattle.config.specs.declared.answer.Answered.TheVariants.{Is}
 use Rattle.stream_log.specs.Calls.{Call, send_ump, on_retransmit_request, on_ump_data, on_retransmit_error, on_retransmit_nak, poll, write_request, write_data, next_deadline, wants_write, reset, step_of, run, Typed, AllTyped}
 use Rattle.stream_log.specs.Refusals.{number_in}
 use Rattle.stream_log.specs.Ends.{Ends, uncalled, ends_after, ends_of}
@@ -35,7 +32,7 @@ use Rattle.stream_log.specs.Answers.{request_wanted, answer_of, said_from}
 
 -- a start that isn't refused
 abbrev pub Started : StreamConfig → ℕ → ℕ → ℕ → List ℕ → Type 0
-Started cfg W c q ring₀ = (new_answer cfg W c q ring₀).0.answer ≡ Done
+Started cfg W c q ring₀ = (new_answer cfg W c q ring₀).0.answer ≡ Ok tt
 
 -- ---- the state
 
@@ -82,9 +79,9 @@ pub record StateTaken (W c q : ℕ) (s : DataStream) (ring : List ℕ) : Type 0 
       → write_answer s cfg time p b ring
       ≡ entry (check_of cfg) (payload_valid p (length b)) (write_refused s p b ring) (data_written s cfg time p b ring)
   pub next_deadline : deadline_answer s ring ≡ earlier (receiver_deadline s.receiver) (sender_deadline s.sender)
-  pub wants_write : (time : ℕ) → wants_answer s ring time ≡ Is (s.receiver.request_due || wants_of s.sender time)
+  pub wants_write : (time : ℕ) → wants_answer s ring time ≡ Ok (s.receiver.request_due || wants_of s.sender time)
   -- a reset leaves exactly a fresh stream
-  pub reset : reset_answer s ring ≡ (record { stream = fresh W c q; answer = Done }, replicate c 0)
+  pub reset : reset_answer s ring ≡ (record { stream = fresh W c q; answer = Ok tt }, replicate c 0)
 
 abbrev pub NeverInvalid : Type 0
 NeverInvalid =
@@ -111,10 +108,10 @@ next_of W c q e cfg = request_wanted W (log_of W e.received) cfg ++ next_in (boo
 -- A write answers "more" exactly when a command is left that doesn't fit; without it nothing is left.
 pub record MoreRight (W c q : ℕ) (s : DataStream) (ring : List ℕ) (e : Ends) : Type 0 where
   pub more : (cfg : StreamConfig) → TypedConfig cfg → (time : ℕ) (p : PayloadWriter) (b : List ℕ) (n : ℕ)
-      → (let w = write_answer s cfg time p b ring in w.0.answer ≡ Written record { commands = n; more = true }
+      → (let w = write_answer s cfg time p b ring in w.0.answer ≡ Ok record { commands = n; more = true }
       → NoRoom w.0.payload w.1 (next_of W c q (ends_after W e (write_data cfg time p b)) cfg))
   pub no_more : (cfg : StreamConfig) → TypedConfig cfg → (time : ℕ) (p : PayloadWriter) (b : List ℕ) (n : ℕ)
-      → (write_answer s cfg time p b ring).0.answer ≡ Written record { commands = n; more = false }
+      → (write_answer s cfg time p b ring).0.answer ≡ Ok record { commands = n; more = false }
       → (let e' = ends_after W e (write_data cfg time p b) in
       (due_in W (log_of W e'.received) ≡ false) × ((book_of c q e'.sent).waiting ≡ []) × ((book_of c q e'.sent).unwritten ≡ []))
 

@@ -12,9 +12,11 @@ pub const SIZE: usize = 65536;
 pub fn full(rt: &impl io::Input, input: &mut [u8]) -> io::Result<usize>
     ensures ok { IfOk result (λ n. IsPrefixLen n input.new) }
     ensures err { OnErr result (length input.new ≡ length input.old) }
+    ensures size { length input.new ≡ length input.old }
 {
     let mut reader = rt.reader();
     let mut done = 0;
+    // No `for`: how far a turn comes is what the reader says.
     while done < input.len() {
         let n = reader.read(&mut input[done..])?;
         if n == 0 {
@@ -23,4 +25,23 @@ pub fn full(rt: &impl io::Input, input: &mut [u8]) -> io::Result<usize>
         done += n;
     }
     Ok(done)
+}
+
+// Gives each block of the input to `step`, which answers whether another is wanted; the last one is not full. A
+// proved loop has to end, and nothing says that the input does: it counts to a number that no run reaches.
+pub fn each<F: FnMut(&[u8]) -> io::Result<bool>>(
+    rt: &impl io::Input,
+    input: &mut [u8],
+    mut step: F,
+) -> io::Result<()>
+    requires { F.IsAlwaysCallable step }
+    ensures size { length input.new ≡ length input.old }
+{
+    for _ in 0..u64::MAX {
+        let n = full(rt, input)?;
+        if !step(&input[..n])? || n < input.len() {
+            break;
+        }
+    }
+    Ok(())
 }

@@ -1,158 +1,142 @@
-// The fields of a line, read one after the other.
+// The fields of a line, read one after the other. A space stands between two fields; so two spaces have an empty
+// field between them, and a line that ends with a space has one at its end.
 //
 //   name field field
-//       |           |
-//       at          the line's end
-//
-// Each reading begins at the end of the field before, and answers where its own field ends. Where
-// there is none, or none of its kind, it answers FAILED, from which every reading fails; so a call's
-// fields are right when the last reading ends at the line's end.
-ghost use Rattle.std.specs.Prelude.{◌+◌, ◌≤◌, ◌<◌, min, max, length};
+//        |
+//        rest
+ghost use Rattle.std.specs.Prelude.{◌≡◌, ◌+◌, ◌≤◌, ◌<◌, ◌↔◌, length, IfSome, IsNone, IsTrue, None, Some};
 ghost use Rattle.text.specs.Counts.{IsPrefixLen};
+ghost use Rattle.text.specs.Lines.{left};
 
-pub const FAILED: usize = 0xFFFF_FFFF_FFFF_FFFF;
-
-// A figure, a byte or a word.
+// What is left of a line: the fields that were not read. A reading takes one, and answers None where there is none,
+// or none of its kind.
 #[derive(Clone, Copy)]
-pub struct Field {
-    pub n: u64,
-    pub next: usize,
+pub struct Fields<'a> {
+    pub rest: Option<&'a [u8]>,
 }
 
-// Words or bytes, by their number.
-#[derive(Clone, Copy)]
-pub struct Count {
-    pub n: usize,
-    pub next: usize,
-}
+impl<'a> Fields<'a> {
+    pub fn new(line: &'a [u8]) -> Self
+        ensures { result.rest ≡ Some line.entry }
+    {
+        Fields { rest: Some(line) }
+    }
 
-// Where what begins at `from` ends: at the next `mark`, or at the line's end.
-pub fn end(line: &[u8], from: usize, mark: u8) -> usize
-    ensures { (from ≤ result) × (result ≤ max from (length line.now)) }
-{
-    let mut at = from;
-    while at < line.len() {
-        if line[at] == mark {
-            return at;
+    // Every field was read.
+    pub fn is_done(&self) -> bool
+        ensures { IsTrue result ↔ IsNone self.now.rest }
+    {
+        self.rest.is_none()
+    }
+
+    // The next field as it stands.
+    #[tactic(auto, unfolding(crate::specs::Lines::left_of))]
+    pub fn text(&mut self) -> Option<&'a [u8]>
+        ensures moves { IfSome result (λ f. left self.new + 1 + length f.now ≡ left self.old) }
+        ensures none { IsNone result → IsNone self.old.rest }
+    {
+        let rest = self.rest?;
+        match rest.iter().position(|b| *b == b' ') {
+            Some(end) => {
+                self.rest = Some(&rest[end + 1..]);
+                Some(&rest[..end])
+            }
+            None => {
+                self.rest = None;
+                Some(rest)
+            }
         }
-        at += 1;
     }
-    at
+
+    // What is left, whatever it is.
+    pub fn skip(&mut self)
+        ensures { self.new.rest ≡ None }
+    {
+        self.rest = None;
+    }
+
+    // A decimal figure, at most `most`.
+    pub fn figure(&mut self, most: u64) -> Option<u64>
+        ensures { IfSome result (λ n. n ≤ most) }
+    {
+        let field = self.text()?;
+        if field.is_empty() {
+            return None;
+        }
+        number(field, 10, most)
+    }
+
+    // A field of so many hexadecimal digits, at most 8.
+    pub fn hex(&mut self, width: usize) -> Option<u64>
+        ensures below { IfSome result (λ n. n < 0x1_0000_0000) }
+        ensures moves { IfSome result (λ _. left self.new + 1 + width ≡ left self.old) }
+    {
+        let field = self.text()?;
+        if field.len() != width {
+            return None;
+        }
+        number(field, 16, 0xFFFF_FFFF)
+    }
+
+    // What is left, each field by this reading, as many as there is room for.
+    pub fn fill<T: Copy, F: FnMut(&mut Fields<'a>) -> Option<T>>(
+        &mut self,
+        into: &mut [T],
+        mut one: F,
+    ) -> Option<usize>
+        requires { F.IsAlwaysCallable one }
+        ensures { IfSome result (λ n. IsPrefixLen n into.new) }
+    {
+        let mut n = 0;
+        // A `while`: the line ends it, or the room, and each reading says how far it came.
+        while !self.is_done() {
+            *into.get_mut(n)? = one(self)?;
+            n += 1;
+        }
+        Some(n)
+    }
+
+    // The words that are left, as many as there is room for.
+    pub fn words(&mut self, into: &mut [u32]) -> Option<usize>
+        ensures { IfSome result (λ n. IsPrefixLen n into.new) }
+    {
+        self.fill(into, |f| Some(f.hex(8)? as u32))
+    }
+
+    // The bytes of the next field, which is the last, two digits for each and as many as there is room for; none
+    // where there is no field.
+    pub fn bytes(&mut self, into: &mut [u8]) -> Option<usize>
+        ensures { IfSome result (λ n. IsPrefixLen n into.new) }
+    {
+        let Some(field) = self.rest else {
+            return Some(0);
+        };
+        let n = field.len() / 2;
+        if n == 0 || field.len() % 2 != 0 || into.len() < n {
+            return None;
+        }
+        for (place, digits) in into.iter_mut().zip(field.chunks_exact(2)) {
+            *place = number(digits, 16, 0xFF)? as u8;
+        }
+        self.rest = None;
+        Some(n)
+    }
 }
 
-// A decimal figure, at most `most`.
-pub fn figure(line: &[u8], at: usize, most: u64) -> Field
-    ensures { result.n ≤ most }
+// What digits say in this radix, where it is at most `most`.
+fn number(digits: &[u8], radix: u32, most: u64) -> Option<u64>
+    requires { (2 ≤ radix) × (radix ≤ 36) }
+    ensures { IfSome result (λ n. n ≤ most) }
 {
-    let none = Field { n: 0, next: FAILED };
-    if line.len() <= at {
-        return none;
-    }
-    let next = end(line, at + 1, b' ');
-    if next == at + 1 {
-        return none;
-    }
-    digits(line, at + 1, next - (at + 1), 10, most)
-}
-
-// A field of so many hexadecimal digits, at most 8.
-pub fn hex(line: &[u8], at: usize, width: usize) -> Field
-    ensures { (result.n < 0x1_0000_0000) × (min (at + 1) 0xFFFF_FFFF_FFFF_FFFF ≤ result.next) }
-{
-    let none = Field { n: 0, next: FAILED };
-    if line.len() <= at {
-        return none;
-    }
-    if end(line, at + 1, b' ') - (at + 1) == width {
-        return digits(line, at + 1, width, 16, 0xFFFF_FFFF);
-    }
-    none
-}
-
-// The value of a digit in either case; 16 for any other byte.
-fn value(b: u8) -> u64
-    ensures { result ≤ 16 }
-{
-    match b {
-        b'0'..=b'9' => (b - b'0') as u64,
-        b'A'..=b'F' => (b - b'A' + 10) as u64,
-        b'a'..=b'f' => (b - b'a' + 10) as u64,
-        _ => 16,
-    }
-}
-
-// What so many digits say in this base that begin at `from`, where it is at most `most`.
-fn digits(line: &[u8], from: usize, width: usize, base: u64, most: u64) -> Field
-    requires { 0 < base }
-    ensures { (result.n ≤ most) × (min (from + width) 0xFFFF_FFFF_FFFF_FFFF ≤ result.next) }
-{
-    let none = Field { n: 0, next: FAILED };
-    if line.len() < width {
-        return none;
-    }
-    if line.len() - width < from {
-        return none;
-    }
+    let base = u64::from(radix);
     let mut n: u64 = 0;
-    let mut i = 0;
-    while i < width {
-        let digit = value(line[from + i]);
-        if base <= digit {
-            return none;
+    for &b in digits {
+        let digit = u64::from(char::from(b).to_digit(radix)?);
+        let longer = n.checked_mul(base)?.checked_add(digit)?;
+        if most < longer {
+            return None;
         }
-        if most < digit {
-            return none;
-        }
-        if (most - digit) / base < n {
-            return none;
-        }
-        n = n * base + digit;
-        i += 1;
+        n = longer;
     }
-    Field {
-        n,
-        next: from + width,
-    }
-}
-
-// The words that are left in the line, as many as there is room for.
-pub fn words(line: &[u8], at: usize, into: &mut [u32]) -> Count
-    ensures { IsPrefixLen result.n into.new }
-{
-    let mut n = 0;
-    let mut next = at;
-    while next < line.len() {
-        if n == into.len() {
-            return Count { n, next: FAILED };
-        }
-        let read = hex(line, next, 8);
-        into[n] = read.n as u32;
-        n += 1;
-        next = read.next;
-    }
-    Count { n, next }
-}
-
-// The bytes of a field without spaces, as many as there is room for; none where there is no field.
-pub fn bytes(line: &[u8], at: usize, into: &mut [u8]) -> Count
-    ensures { IsPrefixLen result.n into.new }
-{
-    if line.len() <= at {
-        return Count { n: 0, next: at };
-    }
-    let mut n = 0;
-    let mut next = at + 1;
-    while next < line.len() {
-        if n == into.len() {
-            return Count { n, next: FAILED };
-        }
-        let read = digits(line, next, 2, 16, 0xFF);
-        into[n] = read.n as u8;
-        n += 1;
-        next = read.next;
-    }
-    if n == 0 {
-        return Count { n, next: FAILED };
-    }
-    Count { n, next }
+    Some(n)
 }

@@ -8,8 +8,8 @@
 //   forms    reads a line by a table of calls, and prints a line of a table of answers
 //   out      adds bytes and digits to a block of output, which is written when it is full
 //
-// Nothing here knows a call or a stream. A field that is not right has no value: reading answers FAILED,
-// or the call 0. No public function asks anything of its caller.
+// Nothing here knows a call or a stream. A field that is not right has no value: reading answers None. A public
+// function asks nothing of its caller but, where it takes a function, that this one may be called.
 #![tactic(auto)]
 
 pub mod blocks;

@@ -5,168 +5,139 @@
 //
 // The buffer has two bytes more than the longest line, so that a full one is a line too long even
 // where its last byte is a carriage return.
-ghost use Rattle.std.specs.Prelude.{◌≡◌, ◌-◌, ◌≤◌, length, IfOk, OnErr};
-ghost use Rattle.text.specs.Counts.{IsPrefixLen};
+ghost use Rattle.std.specs.Prelude.{◌≡◌, ◌≤◌, length, false, IfOk, IfSome};
 
-use super::{fields, out};
+use super::out::Output;
 use std::io;
 use std::io::Read;
 
 // The most bytes of a line.
 pub const LIMIT: usize = 4096;
 
-// Where the input goes on: the bytes of the line so far, the place in the block, at a newline or at the
-// block's end.
-#[derive(Clone, Copy)]
-pub struct Part {
-    pub used: usize,
-    pub at: usize,
-}
-
-// What is left of a block, and the line that was gathered.
+// A block and a line buffer that are lent to input, and what is left of the block.
 //
 //   0          at             have      block's end
 //   | read      |  to be read  |         |
-#[derive(Clone, Copy)]
-pub struct Input {
-    pub at: usize,
-    pub have: usize,
-    // The length of the line without its end.
-    pub line: usize,
-    // More lines may follow.
-    pub more: bool,
-    // The bytes of output that wait to be written.
-    pub waits: usize,
+#[derive(Drop)]
+pub struct Lines<'a, R: io::Input> {
+    rt: &'a R,
+    block: &'a mut [u8],
+    at: usize,
+    have: usize,
+    // No block follows.
+    ended: bool,
+    line: &'a mut [u8],
+    ghost begins: { at ≤ have },
+    ghost within: { have ≤ length block.now },
 }
 
-impl Input {
+impl<'a, R: io::Input> Lines<'a, R> {
     // Nothing was read yet.
-    pub fn new() -> Input {
-        Input {
+    pub fn new(rt: &'a R, block: &'a mut [u8], line: &'a mut [u8]) -> Self
+        ensures size { (length result.block.now ≡ length block.old) × (length result.line.now ≡ length line.old) }
+        ensures start { (result.at ≡ 0) × (result.have ≡ 0) }
+        ensures open { result.ended ≡ false }
+    {
+        Lines {
+            rt,
+            block,
             at: 0,
             have: 0,
-            line: 0,
-            more: true,
-            waits: 0,
+            ended: false,
+            line,
         }
     }
-}
 
-// How many of the first `n` bytes there are.
-pub fn lent(bytes: &[u8], n: usize) -> usize
-    ensures { IsPrefixLen result bytes.now }
-{
-    if bytes.len() < n {
-        return bytes.len();
-    }
-    n
-}
-
-// Adds a byte of the line, where there is room.
-fn put(line: &mut [u8], used: usize, b: u8) -> usize {
-    if used < line.len() {
-        line[used] = b;
-        return used + 1;
-    }
-    used
-}
-
-// Gathers the input's bytes from place `from` on, up to a newline or the block's end.
-fn gather(line: &mut [u8], used: usize, input: &[u8], from: usize) -> Part {
-    let end = fields::end(input, from, b'\n');
-    let mut n = used;
-    let mut at = from;
-    while at < end {
-        n = put(line, n, input[at]);
-        at += 1;
-    }
-    Part { used: n, at }
-}
-
-// The length of a gathered line without the carriage return before its newline.
-fn bare(line: &[u8], used: usize) -> usize
-    ensures { IsPrefixLen result line.now }
-{
-    let n = lent(line, used);
-    if n == 0 {
-        return 0;
-    }
-    if line[n - 1] == b'\r' {
-        return n - 1;
-    }
-    n
-}
-
-// Reads what input there is, as much as there is room for; nothing at its end.
-fn fetch(rt: &impl io::Input, input: &mut [u8]) -> io::Result<usize>
-    ensures ok { IfOk result (λ n. IsPrefixLen n input.new) }
-    ensures err { OnErr result (length input.new ≡ length input.old) }
-{
-    let mut reader = rt.reader();
-    reader.read(input)
-}
-
-// Gathers the next line. Where the block has no newline more, the output that waits is written and the
-// next block read. A proved loop has to end, and nothing says that the input does: it counts down from
-// a number that no run uses up.
-pub fn next(
-    rt: &(impl Print + io::Input),
-    from: Input,
-    waiting: usize,
-    input: &mut [u8],
-    line: &mut [u8],
-    output: &[u8],
-) -> io::Result<Input> {
-    let mut part = Part {
-        used: 0,
-        at: from.at,
-    };
-    let mut have = from.have;
-    let mut waits = waiting;
-    let mut turns = u64::MAX;
-    while 0 < turns {
-        let block = lent(&input[..], have);
-        part = gather(line, part.used, &input[..block], part.at);
-        if part.at < block {
-            return Ok(Input {
-                at: part.at + 1,
-                have,
-                line: bare(&line[..], part.used),
-                more: true,
-                waits,
-            });
-        }
-        out::flush(rt, output, waits)?;
-        waits = 0;
-        have = fetch(rt, input)?;
-        part.at = 0;
-        turns = to_go(turns, 0 < have);
-    }
-    Ok(Input {
-        at: 0,
-        have: 0,
-        line: lent(&line[..], part.used),
-        more: false,
-        waits,
-    })
-}
-
-// The turns that are left after one; none where nothing more is to come.
-pub fn to_go(turns: u64, more: bool) -> u64
-    ensures { result ≤ turns - 1 }
-{
-    if more {
-        if 0 < turns {
-            return turns - 1;
+    // The next line without its end; the last one may have none. Where the block has no newline more, the output
+    // that waits is written and the next block read.
+    pub fn next(&mut self, out: &mut Output<'_, impl Print>) -> io::Result<Option<&[u8]>>
+        ensures line { IfOk result (λ o. IfSome o (λ s. length s.now ≤ length self.old.line.now)) }
+        ensures size { length out.new.block.now ≡ length out.old.block.now }
+        ensures waits { IfOk result (λ _. out.new.used ≤ out.old.used) }
+    {
+        match self.gathered(out)? {
+            Some(n) => Ok(Some(&self.line[..n])),
+            None => Ok(None),
         }
     }
-    0
+
+    // Answers each line but empty ones and remarks, and writes what waits at the end.
+    pub fn each<P: Print, F: FnMut(&mut Output<'_, P>, &[u8]) -> io::Result<()>>(
+        &mut self,
+        out: &mut Output<'_, P>,
+        mut answer: F,
+    ) -> io::Result<()>
+        requires { F.IsAlwaysCallable answer }
+        ensures empties { IfOk result (λ _. out.new.used ≡ 0) }
+    {
+        for _ in 0..u64::MAX {
+            let Some(line) = self.next(out)? else {
+                break;
+            };
+            if !skipped(line) {
+                answer(out, line)?;
+            }
+        }
+        out.flush()
+    }
+
+    // Gathers the next line, and answers its length. A proved loop has to end, and nothing says that the input does:
+    // it counts to a number that no run reaches.
+    fn gathered(&mut self, out: &mut Output<'_, impl Print>) -> io::Result<Option<usize>>
+        ensures line { IfOk result (λ o. IfSome o (λ n. n ≤ length self.new.line.now)) }
+        ensures room { length self.new.line.now ≡ length self.old.line.now }
+        ensures size { length out.new.block.now ≡ length out.old.block.now }
+        ensures waits { IfOk result (λ _. out.new.used ≤ out.old.used) }
+    {
+        let mut used = 0;
+        for _ in 0..u64::MAX {
+            if self.ended {
+                break;
+            }
+            let block = &self.block[self.at..self.have];
+            if let Some(n) = block.iter().position(|b| *b == b'\n') {
+                used = put(self.line, used, &block[..n]);
+                self.at += n + 1;
+                return Ok(Some(bare(&self.line[..used])));
+            }
+            used = put(self.line, used, block);
+            out.flush()?;
+            self.fetch()?;
+        }
+        Ok((0 < used).then_some(used))
+    }
+
+    // Reads what input there is, as much as there is room for.
+    fn fetch(&mut self) -> io::Result<()>
+        ensures { length self.new.line.now ≡ length self.old.line.now }
+    {
+        self.at = 0;
+        self.have = 0;
+        self.have = self.rt.reader().read(self.block)?;
+        self.ended = self.have == 0;
+        Ok(())
+    }
+}
+
+// Adds bytes to a line, as far as there is room.
+fn put(line: &mut [u8], used: usize, part: &[u8]) -> usize
+    requires { used ≤ length line.old }
+    ensures used { result ≤ length line.new }
+    ensures size { length line.new ≡ length line.old }
+{
+    let n = part.len().min(line.len() - used);
+    line[used..used + n].copy_from_slice(&part[..n]);
+    used + n
+}
+
+// The length of a line without the carriage return before its newline.
+fn bare(line: &[u8]) -> usize
+    ensures { result ≤ length line.now }
+{
+    line.strip_suffix(b"\r").unwrap_or(line).len()
 }
 
 // Empty lines and remarks are no calls.
 pub fn skipped(line: &[u8]) -> bool {
-    if line.len() == 0 {
-        return true;
-    }
-    line[0] == b'#'
+    line.is_empty() || line.starts_with(b"#")
 }

@@ -1,49 +1,139 @@
-// Output, gathered in a buffer and written when that is full.
+// Output, gathered in a block and written when that is full.
 //
-//   0            used              buffer's end
+//   0            used              block's end
 //   | text ..     |  free           |
-//
-// Each function adds what it is given at `used`, and answers the new `used`, or why output failed.
-ghost use Rattle.std.specs.Prelude.{◌≡◌, cond, ◌+◌, ◌<◌, ltb};
+ghost use Rattle.std.specs.Prelude.{◌≡◌, cond, ◌+◌, ◌*◌, ◌<◌, ◌≤◌, length, ltb, IfOk};
+ghost use Rattle.std.specs.Fmt.{decimal};
 
 use std::io;
 
-// The units of the first digit of a byte, of 32 and of 64 bits in hexadecimal.
-pub const BYTE: u64 = 0x10;
-
-pub const WORD: u64 = 0x1000_0000;
-
-pub const LONG: u64 = 0x1000_0000_0000_0000;
-
-// One byte; a full buffer is written first.
-pub fn byte(rt: &impl Print, buf: &mut [u8], used: usize, b: u8) -> io::Result<usize> {
-    if used < buf.len() {
-        buf[used] = b;
-        return Ok(used + 1);
-    }
-    rt.write_all(&buf[..])?;
-    if 0 < buf.len() {
-        buf[0] = b;
-        return Ok(1);
-    }
-    Ok(0)
+// A block that is lent to output. Each method answers why output failed, if it did.
+#[derive(Drop)]
+pub struct Output<'a, R: Print> {
+    rt: &'a R,
+    pub block: &'a mut [u8],
+    // The bytes that wait to be written.
+    pub used: usize,
+    ghost within: { used ≤ length block.now },
 }
 
-// Bytes as they stand.
-fn text(rt: &impl Print, buf: &mut [u8], used: usize, s: &[u8]) -> io::Result<usize> {
-    let mut o = used;
-    let mut i = 0;
-    while i < s.len() {
-        o = byte(rt, buf, o, s[i])?;
-        i += 1;
+impl<'a, R: Print> Output<'a, R> {
+    pub fn new(rt: &'a R, block: &'a mut [u8]) -> Self
+        ensures size { length result.block.now ≡ length block.old }
+        ensures empty { result.used ≡ 0 }
+    {
+        Output { rt, block, used: 0 }
     }
-    Ok(o)
+
+    // One byte; a full block is written first.
+    pub fn byte(&mut self, b: u8) -> io::Result<()>
+        ensures size { length self.new.block.now ≡ length self.old.block.now }
+        ensures adds { IfOk result (λ _. self.old.used < length self.old.block.now → self.new.used ≡ self.old.used + 1) }
+    {
+        if self.used == self.block.len() {
+            self.flush()?;
+        }
+        if self.used < self.block.len() {
+            self.block[self.used] = b;
+            self.used += 1;
+        }
+        Ok(())
+    }
+
+    // Bytes as they stand.
+    pub fn text(&mut self, s: &[u8]) -> io::Result<()>
+        ensures size { length self.new.block.now ≡ length self.old.block.now }
+        ensures adds { IfOk result (λ _. self.old.used + length s.now ≤ length self.old.block.now → self.new.used ≡ self.old.used + length s.now) }
+    {
+        for &b in s {
+            self.byte(b)?;
+        }
+        Ok(())
+    }
+
+    // A figure, without leading zeros.
+    pub fn decimal(&mut self, n: u64) -> io::Result<()>
+        ensures size { length self.new.block.now ≡ length self.old.block.now }
+        ensures adds { IfOk result (λ _. self.old.used + length (decimal n) ≤ length self.old.block.now → self.new.used ≡ self.old.used + length (decimal n)) }
+    {
+        let mut digits = itoa::Buffer::new();
+        self.text(digits.format(n).as_bytes())
+    }
+
+    // Bytes as digits, two for each.
+    pub fn hex(&mut self, s: &[u8]) -> io::Result<()>
+        ensures size { length self.new.block.now ≡ length self.old.block.now }
+        ensures adds { IfOk result (λ _. self.old.used + 2 * length s.now ≤ length self.old.block.now → self.new.used ≡ self.old.used + 2 * length s.now) }
+    {
+        for &b in s {
+            self.byte(digit(b / 16))?;
+            self.byte(digit(b % 16))?;
+        }
+        Ok(())
+    }
+
+    // Bytes as digits, or `-` for none.
+    pub fn bytes(&mut self, s: &[u8]) -> io::Result<()>
+        ensures size { length self.new.block.now ≡ length self.old.block.now }
+        ensures none { length s.now ≡ 0 → IfOk result (λ _. self.old.used + 1 ≤ length self.old.block.now → self.new.used ≡ self.old.used + 1) }
+        ensures adds { 0 < length s.now → IfOk result (λ _. self.old.used + 2 * length s.now ≤ length self.old.block.now → self.new.used ≡ self.old.used + 2 * length s.now) }
+    {
+        if s.is_empty() {
+            return self.byte(b'-');
+        }
+        self.hex(s)
+    }
+
+    // `n` words of the ring from place `head` on, round its end; `-` for none.
+    pub fn words(&mut self, ring: &[u32], head: usize, n: usize) -> io::Result<()>
+        ensures size { length self.new.block.now ≡ length self.old.block.now }
+        ensures none { n ≡ 0 → IfOk result (λ _. self.old.used + 1 ≤ length self.old.block.now → self.new.used ≡ self.old.used + 1) }
+        ensures adds { 0 < n → IfOk result (λ _. self.old.used + 8 * n ≤ length self.old.block.now → self.new.used ≡ self.old.used + 8 * n) }
+    {
+        if n == 0 {
+            return self.byte(b'-');
+        }
+        let mut at = head;
+        for _ in 0..n {
+            let word = ring.get(at).copied().unwrap_or(0);
+            self.hex(&word.to_be_bytes())?;
+            at = after(at, ring.len());
+        }
+        Ok(())
+    }
+
+    // Writes what waits where fewer than `n` bytes are free.
+    pub fn room(&mut self, n: usize) -> io::Result<()>
+        ensures { IfOk result (λ _. n ≤ length self.new.block.now → self.new.used + n ≤ length self.new.block.now) }
+    {
+        if self.block.len() - self.used < n {
+            self.flush()?;
+        }
+        Ok(())
+    }
+
+    // Writes what waits.
+    pub fn flush(&mut self) -> io::Result<()>
+        ensures size { length self.new.block.now ≡ length self.old.block.now }
+        ensures empties { IfOk result (λ _. self.new.used ≡ 0) }
+    {
+        self.rt.write_all(&self.block[..self.used])?;
+        self.used = 0;
+        Ok(())
+    }
 }
 
-// A figure, without leading zeros.
-pub fn decimal(rt: &impl Print, buf: &mut [u8], used: usize, n: u64) -> io::Result<usize> {
-    let mut digits = itoa::Buffer::new();
-    text(rt, buf, used, digits.format(n).as_bytes())
+impl<'a, R: Print> io::Write for Output<'a, R> {
+    fn write(&mut self, bytes: &[u8]) -> io::Result<usize> {
+        for &b in bytes {
+            self.byte(b)?;
+        }
+        Ok(bytes.len())
+    }
+
+    fn flush(&mut self) -> io::Result<()> {
+        Output::flush(self)
+    }
 }
 
 // A digit as text: 0 to 9, A to F.
@@ -57,79 +147,10 @@ fn digit(n: u8) -> u8
     b'A' - 10 + n
 }
 
-// The hexadecimal digits of a number from that of this unit on.
-pub fn hex(rt: &impl Print, buf: &mut [u8], used: usize, n: u64, first: u64) -> io::Result<usize> {
-    let mut o = used;
-    let mut unit = first;
-    while 0 < unit {
-        o = byte(rt, buf, o, digit((n / unit % 16) as u8))?;
-        unit /= 16;
-    }
-    Ok(o)
-}
-
-// Bytes as digits, or `-` for none.
-pub fn bytes(rt: &impl Print, buf: &mut [u8], used: usize, s: &[u8]) -> io::Result<usize> {
-    if s.len() == 0 {
-        return byte(rt, buf, used, b'-');
-    }
-    let mut o = used;
-    let mut i = 0;
-    while i < s.len() {
-        o = hex(rt, buf, o, wide(s[i]), BYTE)?;
-        i += 1;
-    }
-    Ok(o)
-}
-
-fn wide(b: u8) -> u64 {
-    b as u64
-}
-
 // The place after `at` in a ring of `size` places.
 pub fn after(at: usize, size: usize) -> usize {
-    if at < size {
-        if at + 1 < size {
-            return at + 1;
-        }
+    if at < size && at + 1 < size {
+        return at + 1;
     }
     0
-}
-
-fn word_at(ring: &[u32], at: usize) -> u32 {
-    if at < ring.len() {
-        return ring[at];
-    }
-    0
-}
-
-// `n` words of the ring from place `head` on, round its end; `-` for none.
-pub fn words(
-    rt: &impl Print,
-    buf: &mut [u8],
-    used: usize,
-    ring: &[u32],
-    head: usize,
-    n: usize,
-) -> io::Result<usize> {
-    if n == 0 {
-        return byte(rt, buf, used, b'-');
-    }
-    let mut o = used;
-    let mut at = head;
-    let mut k = 0;
-    while k < n {
-        o = hex(rt, buf, o, word_at(ring, at) as u64, WORD)?;
-        at = after(at, ring.len());
-        k += 1;
-    }
-    Ok(o)
-}
-
-// Writes what waits.
-pub fn flush(rt: &impl Print, buf: &[u8], used: usize) -> io::Result<()> {
-    if used <= buf.len() {
-        rt.write_all(&buf[..used])?;
-    }
-    Ok(())
 }

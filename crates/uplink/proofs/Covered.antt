@@ -1,5 +1,6 @@
 -- What the theorems are said of: 1 to 8 divisions, each turn of theirs, any A and any wants, and lists with refused calls anywhere in them.
 use mathlib.Core.Path.{◌≡◌, refl}
+use Rattle.std.proofs.Common.{Err}
 use mathlib.Core.Bool.{true, false}
 use mathlib.Core.List.{List, [], ◌∷◌}
 use Prim.Native.Nat.{ℕ, zero, suc, ◌≤◌, ◌<◌}
@@ -10,7 +11,6 @@ use Rattle.config.specs.Refusals.{number_of}
 use Rattle.config.specs.declared.refusal.Refusal.TheVariants.{DivisionsNotAllowed}
 use Rattle.uplink.specs.Grants.{next_of, allowed, step_of}
 use Rattle.uplink.specs.Promise.{Shared, StepShared, Call, none, taken_of, Once, EachFirstOnce}
-use Rattle.config.specs.declared.answer.Outcome.TheVariants.{Refused}
 use Rattle.uplink.proofs.Turns.{next_in_lem, taken_granted, taken_refused}
 
 -- ---- a step
@@ -29,7 +29,7 @@ every_step s a turn wants p q l m h = s a turn wants (every_number (length wants
 
 -- its number is 18; nothing is granted, and the turn stays
 pub every_refusal : (a turn : ℕ) (wants : List ℕ) → allowed (length wants) turn ≡ false
-    → step_of a turn wants ≡ record { grants = replicate 8 0; turn = turn; answer = Refused DivisionsNotAllowed }
+    → step_of a turn wants ≡ record { grants = replicate 8 0; turn = turn; answer = Err DivisionsNotAllowed }
 unfolding step_of
 every_refusal a turn wants e = rw e
 

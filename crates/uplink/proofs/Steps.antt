@@ -1,21 +1,19 @@
 -- A step: its ways out, and the grants in their places.
 use mathlib.Core.Path.{◌≡◌, ◌∙◌}
+use Rattle.std.proofs.Common.{Ok}
 use mathlib.Core.Bool.{true, false}
 use mathlib.Core.List.{List, ◌++◌, append_assoc}
 use Prim.Native.Nat.{ℕ, zero, suc, ◌+◌, ◌-◌, ◌≤◌, ◌<◌}
 use native.Mathlib.Omega.{arith}
-use borrow.Author.Tests.{ltb-true, lt-ltb, le-ltb, not-true, not-false}
+use borrow.Author.Tests.{ltb-true, lt-ltb, not-false}
 use lib.ListN.{length, take, drop, replicate, length-append, length-drop, length-replicate}
 use lib.Seq.{sets, sets-eq, take_all, length-sets, length-take-le, drop_at}
 use lib.Dec.{ltb}
 use Rattle.config.specs.Range.{within, outside}
-use Rattle.config.specs.declared.refusal.Refusal.TheVariants.{DivisionsNotAllowed}
 use Rattle.config.specs.inner.Ranges.{not_outside}
 use Rattle.config.specs.inner.Tests.{and_right}
 use Rattle.uplink.specs.Grants.{sum, share_of, firsts, granted, left_of, round_from, grants_of, next_of, places, allowed, step_of}
-use Rattle.config.specs.declared.answer.Outcome.TheVariants.{Done, Refused}
 use Rattle.uplink.specs.declared.grants.Served.{Served}
-use Rattle.uplink.specs.declared.grants.Step.{Step}
 use Rattle.uplink.proofs.Sums.{length_granted}
 
 -- ---- the number and the turn
@@ -30,22 +28,10 @@ number_in n e = not_outside 1 8 n e
 -- ---- the ways out
 
 module _ (a turn : ℕ) (ws : List ℕ) where
-  abbrev pub kept : Step
-  kept = record { grants = replicate 8 0; turn = turn; answer = Refused DivisionsNotAllowed }
-
-  pub refused_number : outside 1 8 (length ws) ≡ true → kept ≡ step_of a turn ws
+  pub step_granted : outside 1 8 (length ws) ≡ false → turn < length ws → (gs : List ℕ) (next : ℕ) → gs ≡ places (grants_of a turn ws) → next ≡ next_of (length ws) turn
+      → record { grants = gs; turn = next; answer = Ok tt } ≡ step_of a turn ws
   unfolding step_of allowed
-  refused_number e = rw (not-true (within 1 8 (length ws)) e)
-
-  module _ (e : outside 1 8 (length ws) ≡ false) where
-    pub refused_turn : length ws ≤ turn → kept ≡ step_of a turn ws
-    unfolding step_of allowed
-    refused_turn h = rw (not-false (within 1 8 (length ws)) e, le-ltb _ _ h)
-
-    pub step_granted : turn < length ws → (gs : List ℕ) (next : ℕ) → gs ≡ places (grants_of a turn ws) → next ≡ next_of (length ws) turn
-        → record { grants = gs; turn = next; answer = Done } ≡ step_of a turn ws
-    unfolding step_of allowed
-    step_granted h gs next f g = rw (not-false (within 1 8 (length ws)) e, lt-ltb _ _ h, f, g)
+  step_granted e h gs next f g = rw (not-false (within 1 8 (length ws)) e, lt-ltb _ _ h, f, g)
 
 -- ---- the eight places
 
@@ -75,9 +61,6 @@ module _ (a turn : ℕ) (ws : List ℕ) (h : turn < length ws) (m : length ws �
 
   onward_is : onward ≡ drop turn ws
   onward_is = take_all (length ws - turn) (drop turn ws) (omega (arith, length-drop turn ws))
-
-  pub length_onward : turn + length onward ≤ 8
-  length_onward = rw onward_is (omega (arith, length-drop turn ws))
 
   pub grants_stored : (share left : ℕ) (from round : Served) → share ≡ share_of a (length ws) → left ≡ a - sum (firsts share ws)
       → from ≡ record { grants = sets (replicate 8 0) turn (granted share left onward); left = left_of share left onward }

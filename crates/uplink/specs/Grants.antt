@@ -1,9 +1,8 @@
 -- 02, 11/14: one uplink with A words per step, and up to eight divisions behind it. Each states the words it wants.
 -- Lists of wants and of grants are in division order.
-use Rattle.std.specs.Prelude.{ℕ, ◌+◌, ◌-◌, ◌/◌, min, Bool, ◌&&◌, cond, List, [], ◌∷◌, ◌++◌, length, take, drop, replicate, ltb}
+use Rattle.std.specs.Prelude.{ℕ, ◌+◌, ◌-◌, ◌/◌, min, Bool, ◌&&◌, cond, List, [], ◌∷◌, ◌++◌, length, take, drop, replicate, ltb, Ok, Err}
 use Rattle.config.specs.Range.{within}
 use Rattle.config.specs.declared.refusal.Refusal.TheVariants.{DivisionsNotAllowed}
-use Rattle.config.specs.declared.answer.Outcome.TheVariants.{Done, Refused}
 use Rattle.uplink.specs.declared.grants.Step.{Step}
 
 unfoldable pub sum : List ℕ → ℕ
@@ -62,5 +61,5 @@ allowed n turn = within 1 8 n && ltb turn n
 unfoldable pub step_of : ℕ → ℕ → List ℕ → Step
 step_of a turn ws =
     cond (allowed (length ws) turn)
-    (record { grants = places (grants_of a turn ws); turn = next_of (length ws) turn; answer = Done })
-    (record { grants = replicate 8 0; turn = turn; answer = Refused DivisionsNotAllowed })
+    (record { grants = places (grants_of a turn ws); turn = next_of (length ws) turn; answer = Ok tt })
+    (record { grants = replicate 8 0; turn = turn; answer = Err DivisionsNotAllowed })

@@ -3,7 +3,6 @@ ghost use Rattle.std.specs.Prelude.{◌≡◌, ◌+◌, ◌-◌, ◌≤◌, ◌<
 ghost use Rattle.std.proofs.lemmas.List.Edits.{sets};
 ghost use Rattle.uplink.specs.Grants.{sum, firsts, granted, left_of, next_of, step_of};
 
-use config::answer::Outcome;
 use config::range::outside;
 use config::refusal::Refusal;
 
@@ -16,7 +15,7 @@ pub struct Step {
     pub grants: [u16; 8],
     // The turn of the next step; the same where this one was refused.
     pub turn: u16,
-    pub answer: Outcome,
+    pub answer: Result<(), Refusal>,
 }
 
 // What a row of divisions was granted, and what it left.
@@ -26,25 +25,14 @@ struct Served {
     left: u16,
 }
 
-fn smaller(a: u16, b: u16) -> u16
-    ensures { result ≡ min a b }
-{
-    if a < b {
-        return a;
-    }
-    b
-}
-
 // What the first grants leave of `words`.
 fn rest(words: u16, share: u16, wants: &[u16]) -> u16
     requires { sum (firsts share wants.now) ≤ words }
     ensures { result ≡ words - sum (firsts share wants.now) }
 {
     let mut left = words;
-    let mut i = 0;
-    while i < wants.len() {
-        left -= smaller(wants[i], share);
-        i += 1;
+    for &want in wants {
+        left -= want.min(share);
     }
     left
 }
@@ -56,47 +44,40 @@ fn serve(share: u16, words: u16, row: &[u16], at: usize, before: [u16; 8]) -> Se
 {
     let mut grants = before;
     let mut left = words;
-    let mut i = 0;
-    while i < row.len() {
-        let want = row[i];
-        let first = smaller(want, share);
-        let more = smaller(want - first, left);
+    for (i, &want) in row.iter().enumerate() {
+        let first = want.min(share);
+        let more = (want - first).min(left);
         grants[at + i] = first + more;
         left -= more;
-        i += 1;
     }
     Served { grants, left }
 }
 
 // The turn moves on by one, past the last division to 0.
+#[tactic(auto, unfolding(crate::specs::Grants::next_of))]
 fn next(turn: u16, n: usize) -> u16
     requires { turn < 0xFFFF }
     ensures { result ≡ next_of n turn }
 {
-    if ((turn + 1) as usize) < n {
-        return turn + 1;
+    if usize::from(turn) + 1 < n {
+        turn + 1
+    } else {
+        0
     }
-    0
 }
 
 // One step with `words` words to grant.
+#[tactic(auto, unfolding(crate::specs::Grants::step_of, crate::specs::Grants::allowed))]
 pub fn grant(words: u16, turn: u16, wants: &[u16]) -> Step
     ensures { result ≡ step_of words turn wants.now }
 {
     let n = wants.len();
     let first = turn as usize;
-    if outside(1, DIVISIONS, n) {
+    if outside(1, DIVISIONS, n) || n <= first {
         return Step {
             grants: [0; 8],
             turn,
-            answer: Outcome::Refused(Refusal::DivisionsNotAllowed),
-        };
-    }
-    if n <= first {
-        return Step {
-            grants: [0; 8],
-            turn,
-            answer: Outcome::Refused(Refusal::DivisionsNotAllowed),
+            answer: Err(Refusal::DivisionsNotAllowed),
         };
     }
     let share = words / (n as u16);
@@ -108,6 +89,6 @@ pub fn grant(words: u16, turn: u16, wants: &[u16]) -> Step
     Step {
         grants,
         turn: next(turn, n),
-        answer: Outcome::Done,
+        answer: Ok(()),
     }
 }

@@ -1,113 +1,52 @@
 // One line: its figures, the step, and the answer.
-ghost use Rattle.text.specs.Counts.{IsPrefixLen};
-
-use config::answer::Outcome;
 use std::io;
-use text::fields::{Count, FAILED};
-use text::{fields, forms, lines, out};
-use uplink::grants::Step;
+use text::fields::Fields;
+use text::lines;
+use text::out::Output;
+use uplink::grants::{Step, grant};
 
 // Fields are 16-bit numbers.
 const MOST: u64 = 0xFFFF;
 
-// The answers that are no grants.
-const BAD: usize = 0;
-
-const REFUSED: usize = 1;
-
-fn said(rt: &impl Print, to: &mut [u8], used: usize, form: usize, n: u8) -> io::Result<usize> {
-    forms::say(
-        rt,
-        to,
-        used,
-        b"bad|refused #|",
-        forms::Answer {
-            form,
-            a: n as u64,
-            b: 0,
-            c: 0,
-            d: 0,
-        },
-    )
-}
-
-// The wants that are left in the line, as many as there is room for.
-fn wants(line: &[u8], at: usize, into: &mut [u16]) -> Count
-    ensures { IsPrefixLen result.n into.new }
-{
-    let mut n = 0;
-    let mut next = at;
-    while next < line.len() {
-        if n == into.len() {
-            return Count { n, next: FAILED };
-        }
-        let read = fields::figure(line, next, MOST);
-        into[n] = read.n as u16;
-        n += 1;
-        next = read.next;
+// The step that a line asks for, and how many divisions it has.
+fn asked(line: &[u8]) -> Option<(Step, usize)> {
+    if lines::LIMIT < line.len() {
+        return None;
     }
-    Count { n, next }
-}
-
-fn grant_at(grants: [u16; 8], i: usize) -> u64 {
-    if i < 8 {
-        return grants[i] as u64;
-    }
-    0
+    let mut fields = Fields::new(line);
+    let words = fields.figure(MOST)? as u16;
+    let turn = fields.figure(MOST)? as u16;
+    let mut wants = [0u16; 2048];
+    let n = fields.fill(&mut wants, |f| Some(f.figure(MOST)? as u16))?;
+    Some((grant(words, turn, &wants[..n]), n))
 }
 
 // The grants of `n` divisions, and the next turn.
-fn grants(rt: &impl Print, to: &mut [u8], used: usize, step: Step, n: usize) -> io::Result<usize> {
-    let given = step.grants;
-    let mut o = used;
-    let mut i = 0;
-    while i < n {
-        o = out::decimal(rt, to, o, grant_at(given, i))?;
-        o = out::byte(rt, to, o, b' ')?;
-        i += 1;
+fn granted(out: &mut Output<'_, impl Print>, step: Step, n: usize) -> io::Result<()> {
+    for &words in step.grants.iter().take(n) {
+        out.decimal(u64::from(words))?;
+        out.byte(b' ')?;
     }
-    out::decimal(rt, to, o, step.turn as u64)
+    out.decimal(u64::from(step.turn))
 }
 
-fn step(rt: &impl Print, to: &mut [u8], used: usize, step: Step, n: usize) -> io::Result<usize> {
+// What a step answers.
+fn stepped(out: &mut Output<'_, impl Print>, step: Step, n: usize) -> io::Result<()> {
     let answer = step.answer;
     match answer {
-        Outcome::Done => grants(rt, to, used, step, n),
-        Outcome::Refused(why) => said(rt, to, used, REFUSED, why.number()),
+        Ok(()) => granted(out, step, n),
+        Err(why) => {
+            out.text(b"refused ")?;
+            out.decimal(u64::from(why.number()))
+        }
     }
 }
 
-// The figures of a line, and its answer.
-fn figures(rt: &impl Print, to: &mut [u8], used: usize, line: &[u8]) -> io::Result<usize> {
-    let mut asked = [0u16; 2048];
-    let words = fields::figure(line, 0, MOST);
-    let turn = fields::figure(line, words.next, MOST);
-    let read = wants(line, turn.next, &mut asked);
-    let n = read.n;
-    if read.next != line.len() {
-        return said(rt, to, used, BAD, 0);
+// The answer to a line.
+pub fn answer(out: &mut Output<'_, impl Print>, line: &[u8]) -> io::Result<()> {
+    match asked(line) {
+        Some((step, n)) => stepped(out, step, n)?,
+        None => out.text(b"bad")?,
     }
-    step(
-        rt,
-        to,
-        used,
-        uplink::grants::grant(words.n as u16, turn.n as u16, &asked[..n]),
-        n,
-    )
-}
-
-// The answer to a line. A space stands before it, so that each of its fields follows one.
-pub fn answer(rt: &impl Print, to: &mut [u8], used: usize, line: &[u8]) -> io::Result<usize> {
-    if line.len() == 0 {
-        return Ok(used);
-    }
-    if lines::skipped(&line[1..]) {
-        return Ok(used);
-    }
-    if lines::LIMIT < line.len() - 1 {
-        let o = said(rt, to, used, BAD, 0)?;
-        return out::byte(rt, to, o, b'\n');
-    }
-    let o = figures(rt, to, used, line)?;
-    out::byte(rt, to, o, b'\n')
+    out.byte(b'\n')
 }

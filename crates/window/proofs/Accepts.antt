@@ -1,5 +1,7 @@
 -- What `accept` leaves, position by position.
 use mathlib.Core.Path.{◌≡◌, ap, sym, ◌∙◌}
+use Rattle.std.proofs.Common.{Option, None}
+use Rattle.window.specs.declared.window.SeqRange.{SeqRange}
 use mathlib.Core.Bool.{true, false, ◌||◌, cond}
 use Prim.Native.Nat.{ℕ, ◌+◌, ◌-◌, ◌^◌, ◌≤◌}
 use native.Mathlib.Omega.{arith}
@@ -15,8 +17,6 @@ use Rattle.window.specs.declared.window.ReceiveWindow.{ReceiveWindow}
 use Rattle.window.specs.declared.window.Arrival.{Arrival}
 use Rattle.window.specs.declared.window.Class.{Class}
 use Rattle.window.specs.declared.window.Class.TheVariants.{Late}
-use Rattle.window.specs.declared.window.Span.{Span}
-use Rattle.window.specs.declared.window.Span.TheVariants.{Nothing}
 use Rattle.config.specs.inner.Ranges.{within_range}
 use Rattle.window.proofs.Positions.{unprocessed_in}
 use Rattle.window.proofs.AfterNew.{shifted, processed_new}
@@ -64,7 +64,7 @@ module _ (w : ReceiveWindow) (seq : ℕ) where
 
 -- ---- by what the code has at hand
 
-pub taken_is : (t : Arrival) {n : ReceiveWindow} {k : Class} {l : Span} → n ≡ t.window → k ≡ t.class → l ≡ t.lost
+pub taken_is : (t : Arrival) {n : ReceiveWindow} {k : Class} {l : Option SeqRange} → n ≡ t.window → k ≡ t.class → l ≡ t.lost
     → ◌≡◌ {A = Arrival} (record { window = n; class = k; lost = l }) t
 taken_is t en ek el = rw (en, ek, el)
 
@@ -76,7 +76,7 @@ module _ (w : ReceiveWindow) (seq : ℕ) {dist : ℕ} (ed : dist ≡ ahead w.hig
   accept_new_is = ap (new_of w seq) ed ∙ sym (accept_as_new w seq e)
 
 abbrev late : ReceiveWindow → Bits → Arrival
-late w s = record { window = record { size = w.size; highest = w.highest; bits = s }; class = Late; lost = Nothing }
+late w s = record { window = record { size = w.size; highest = w.highest; bits = s }; class = Late; lost = None }
 
 module _ (w : ReceiveWindow) (seq : ℕ) {b : ℕ} (eb : b ≡ ahead seq w.highest) (e : within 1 reach (ahead w.highest seq) ≡ false) where
   pub behind_duplicate : processed w b ≡ true → unchanged w ≡ accept_of w seq

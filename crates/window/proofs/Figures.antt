@@ -1,5 +1,6 @@
 -- Figures of paper 01, computed from the definitions.
 use mathlib.Core.Path.{◌≡◌, refl}
+use Rattle.std.proofs.Common.{Some}
 use mathlib.Core.Bool.{true, false}
 use Prim.Native.Nat.{ℕ}
 use lib.Count.{count_trailing_zeros}
@@ -8,7 +9,6 @@ use Rattle.window.specs.Window.{fresh, processed, is_processed, missing_of, span
 use Rattle.window.specs.Marking.{in_range, hit_at, hits_of, mark_of}
 use Rattle.window.specs.declared.window.ReceiveWindow.{ReceiveWindow}
 use Rattle.window.specs.declared.window.SeqRange.{SeqRange}
-use Rattle.window.specs.declared.window.Span.TheVariants.{Of}
 
 abbrev range : ℕ → ℕ → SeqRange
 range first count = record { first = first; count = count }
@@ -23,7 +23,7 @@ abbrev none : ReceiveWindow
 none = record { size = 4; highest = 4; bits = set_of 0 }
 
 -- "marks the missing positions of its span": of first 1 count 2, 1 and 2, which are 3 and 2 behind; 3 and 0 stay missing
-pub marked_ends : mark_of none (range 1 2) ≡ record { window = record { size = 4; highest = 4; bits = set_of 6 }; span = Of (range 1 2) }
+pub marked_ends : mark_of none (range 1 2) ≡ record { window = record { size = 4; highest = 4; bits = set_of 6 }; span = Some (range 1 2) }
 unfolding mark_of hits_of hit_at missing_of span_of top_of top_in bottom_of count_trailing_zeros val set_of
 marked_ends = refl
 

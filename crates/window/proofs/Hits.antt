@@ -1,5 +1,6 @@
 -- The positions that a range hits.
 use mathlib.Core.Path.{◌≡◌, sym, ap, ap₂, ◌∙◌}
+use Rattle.std.proofs.Common.{Option}
 use mathlib.Core.Bool.{Bool, true, false, ◌&&◌, cond}
 use Prim.Native.Nat.{ℕ, zero, suc, ◌+◌, ◌*◌, ◌^◌, ◌≤◌, ◌<◌, zero-le}
 use native.Mathlib.Nat.{le_refl, pow-suc}
@@ -13,7 +14,6 @@ use Rattle.window.specs.Marking.{in_range, hit_at, hits_of, mark_of}
 use Rattle.window.specs.declared.set.Bits.{Bits}
 use Rattle.window.specs.declared.window.Marked.{Marked}
 use Rattle.window.specs.declared.window.ReceiveWindow.{ReceiveWindow}
-use Rattle.window.specs.declared.window.Span.{Span}
 use Rattle.window.specs.declared.window.SeqRange.{SeqRange}
 use Rattle.window.proofs.Digits.{has_above}
 use Rattle.window.proofs.Words.{val_is, set_same, or_bit, lacks}
@@ -59,10 +59,10 @@ module _ (r : SeqRange) (h : ℕ) (m found : Bits) (k : ℕ) where
 
 -- ---- the window with its hits
 
-abbrev marked : ReceiveWindow → Bits → Span → Marked
+abbrev marked : ReceiveWindow → Bits → Option SeqRange → Marked
 marked w s l = record { window = record { size = w.size; highest = w.highest; bits = s }; span = l }
 
-pub mark_is : (w : ReceiveWindow) (r : SeqRange) {m found s : Bits} {l : Span} → m ≡ set_of (missing_of w) → found ≡ set_of (hits_of r w.highest (val m) w.size)
+pub mark_is : (w : ReceiveWindow) (r : SeqRange) {m found s : Bits} {l : Option SeqRange} → m ≡ set_of (missing_of w) → found ≡ set_of (hits_of r w.highest (val m) w.size)
     → s ≡ set_of (bit_or (val w.bits) (val found)) → l ≡ span_of w.highest 0 (val found) → marked w s l ≡ mark_of w r
 unfolding mark_of
 mark_is w r {m} {found} em ef es el =

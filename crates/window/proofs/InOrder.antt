@@ -1,5 +1,6 @@
 -- The next number, with nothing missing before it: it leaves a window with nothing missing.
 use mathlib.Core.Path.{◌≡◌, refl, sym, ap, ◌∙◌}
+use Rattle.std.proofs.Common.{None}
 use mathlib.Core.Bool.{true, false}
 use Prim.Native.Nat.{ℕ, ◌+◌, ◌-◌, ◌*◌, ◌%◌, ◌^◌, ◌<◌}
 use native.Mathlib.Nat.{mul-one}
@@ -15,7 +16,6 @@ use Rattle.window.specs.Arrival.{reach, moved_of, new_of, in_order, accept_of}
 use Rattle.window.specs.declared.window.ReceiveWindow.{ReceiveWindow}
 use Rattle.window.specs.declared.window.Arrival.{Arrival}
 use Rattle.window.specs.declared.window.Class.TheVariants.{New}
-use Rattle.window.specs.declared.window.Span.TheVariants.{Nothing}
 use Rattle.window.proofs.Words.{of_words, val_of}
 use Rattle.config.specs.inner.Ranges.{within_yes}
 use Rattle.window.proofs.Losses.{loss_empty}
@@ -62,7 +62,7 @@ module _ (w : ReceiveWindow) (v : Valid w) (seq : ℕ) (e : in_order w seq ≡ t
   accept_as_next : accept_of w seq ≡ new_of w seq 1
   accept_as_next = accept_as_new w seq (within_yes 1 reach (ahead w.highest seq) (omega (arith, next)) (omega (arith, next))) ∙ ap (new_of w seq) next
 
-  pub accept_in_order : w.bits.low < 2 ^ 64 → ◌≡◌ {A = Arrival} (record { window = record { size = w.size; highest = seq; bits = w.bits }; class = New 0; lost = Nothing }) (accept_of w seq)
+  pub accept_in_order : w.bits.low < 2 ^ 64 → ◌≡◌ {A = Arrival} (record { window = record { size = w.size; highest = seq; bits = w.bits }; class = New 0; lost = None }) (accept_of w seq)
   unfolding val new_of
   accept_in_order b =
       taken_is (new_of w seq 1) (new_window_is w seq 1 (of_words w.bits.high w.bits.low b _ (all ∙ sym moved))) refl

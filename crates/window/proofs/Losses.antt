@@ -1,5 +1,6 @@
 -- What leaves the window when a number d ahead arrives.
 use mathlib.Core.Path.{◌≡◌, refl, sym, ap, ap₂, ◌∙◌, subst, subst₂}
+use Rattle.std.proofs.Common.{Some, None}
 use mathlib.Core.Logic.{◌⊎◌, inl, inr}
 use Prim.Native.Nat.{ℕ, zero, suc, ◌+◌, ◌-◌, ◌*◌, ◌/◌, ◌^◌, ◌≤◌, ◌<◌}
 use native.Mathlib.Nat.{le_refl, le_trans, le_of_eq, lt_of_lt_of_le, le-add_right, le-add_left, zero-add, add_comm, add_assoc, add-mul, mul_assoc, mul_comm, mul-one, zero-mul, suc-add, mul-le-mul_right, pow-suc, lt_irrefl, zero-lt-suc, eq-or-lt_of_le, sub-le, div-one, div-eq_of_lt}
@@ -10,7 +11,6 @@ use Rattle.window.specs.Set.{top_of, bottom_of}
 use Rattle.window.specs.Window.{span_of}
 use Rattle.window.specs.Arrival.{lost_of}
 use Rattle.window.specs.declared.window.SeqRange.{SeqRange}
-use Rattle.window.specs.declared.window.Span.TheVariants.{Nothing, Of}
 use Rattle.window.proofs.Spans.{RangeTo, span_none, span_some}
 use Rattle.window.proofs.Ends.{top_is, top_unique, bottom_unique, top_shift, bottom_shift, pos_left, pos_times}
 
@@ -130,27 +130,27 @@ module _ (h size m d : ℕ) where
     rest : d - 2 - size + 2 + size ≡ d
     rest = omega arith
 
-    pub loss_skipped : {r : SeqRange} → m ≡ 0 → RangeTo h (d - 2) size r → Of r ≡ span_of h size (lost_of size m d)
+    pub loss_skipped : {r : SeqRange} → m ≡ 0 → RangeTo h (d - 2) size r → Some r ≡ span_of h size (lost_of size m d)
     loss_skipped {r} z e =
         let top = far_skipped size m d (d - 2 - size) rest z in
         let bottom = far_bottom size m d (d - 2 - size) rest in
         span_some h size (lost_of size m d) (d - 2) size r (far_pos size m d (d - 2 - size) rest) (omega arith) (omega arith) e
 
-    pub loss_both : {r : SeqRange} {t : ℕ} → 0 < m → t ≡ top_of m → RangeTo h (t + d) size r → Of r ≡ span_of h size (lost_of size m d)
+    pub loss_both : {r : SeqRange} {t : ℕ} → 0 < m → t ≡ top_of m → RangeTo h (t + d) size r → Some r ≡ span_of h size (lost_of size m d)
     loss_both {r} {t} q et e =
         let top = far_top size m d (d - 2 - size) rest q in
         let bottom = far_bottom size m d (d - 2 - size) rest in
         span_some h size (lost_of size m d) (t + d) size r (far_pos size m d (d - 2 - size) rest) (omega arith) (omega arith) e
 
   -- nothing was missing at size - d or above
-  loss_stays : 1 ≤ d → d ≤ size + 1 → m < 2 ^ (size - d) → Nothing ≡ span_of h size (lost_of size m d)
+  loss_stays : 1 ≤ d → d ≤ size + 1 → m < 2 ^ (size - d) → None ≡ span_of h size (lost_of size m d)
   loss_stays p q b =
       span_none h size (lost_of size m d) ((near size m d (size - d) p q refl).none (ap (λ (z : ℕ). z * 2 ^ (size - d)) (div-eq_of_lt b) ∙ zero-mul (2 ^ (size - d))))
 
-  pub loss_empty : 1 ≤ d → d ≤ size + 1 → m ≡ 0 → Nothing ≡ span_of h size (lost_of size m d)
+  pub loss_empty : 1 ≤ d → d ≤ size + 1 → m ≡ 0 → None ≡ span_of h size (lost_of size m d)
   loss_empty p q z = loss_stays p q (subst (λ (y : ℕ). y < 2 ^ (size - d)) (sym z) (pow_pos (size - d)))
 
-  pub loss_young : {t : ℕ} → 1 ≤ d → 0 < m → t ≡ top_of m → t + d < size → Nothing ≡ span_of h size (lost_of size m d)
+  pub loss_young : {t : ℕ} → 1 ≤ d → 0 < m → t ≡ top_of m → t + d < size → None ≡ span_of h size (lost_of size m d)
   loss_young {t} p q et b =
       let up : suc (top_of m) ≤ size - d = omega arith in
       loss_stays p (omega arith) (lt_of_lt_of_le (top_is m q).1 (pow_mono up))
@@ -160,7 +160,7 @@ module _ (h size m d : ℕ) where
     leaves : Near size d old (lost_of size m d)
     leaves = subst (λ (x : ℕ). Near size d x (lost_of size m d)) (sym is) (near size m d k p q ek)
 
-    pub loss_old : {r : SeqRange} {t b : ℕ} → 0 < old → t ≡ top_of old → b ≡ bottom_of old → RangeTo h (t + d) (b + d) r → Of r ≡ span_of h size (lost_of size m d)
+    pub loss_old : {r : SeqRange} {t b : ℕ} → 0 < old → t ≡ top_of old → b ≡ bottom_of old → RangeTo h (t + d) (b + d) r → Some r ≡ span_of h size (lost_of size m d)
     loss_old {r} {t} {b} o et eb e =
         let top = leaves.oldest o in
         let bottom = leaves.newest o in

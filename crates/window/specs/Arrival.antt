@@ -1,5 +1,5 @@
 -- 01, "Position, window, loss": a number arrives.
-use Rattle.std.specs.Prelude.{Bool, not, ◌&&◌, cond, ℕ, ◌+◌, ◌-◌, ◌*◌, ◌/◌, ◌%◌, ◌^◌, eqb}
+use Rattle.std.specs.Prelude.{Bool, not, ◌&&◌, cond, ℕ, ◌+◌, ◌-◌, ◌*◌, ◌/◌, ◌%◌, ◌^◌, eqb, None}
 use Rattle.std.specs.Int.Bits.{bit_or}
 use Rattle.config.specs.Range.{within}
 use Rattle.config.specs.Sequence.{ahead}
@@ -9,7 +9,6 @@ use Rattle.window.specs.declared.window.ReceiveWindow.{ReceiveWindow}
 use Rattle.window.specs.declared.window.Arrival.{Arrival}
 use Rattle.window.specs.declared.window.Class.{Class}
 use Rattle.window.specs.declared.window.Class.TheVariants.{New, Late, Duplicate}
-use Rattle.window.specs.declared.window.Span.TheVariants.{Nothing}
 
 -- the farthest ahead of the highest that a number is read as New: 0x7FFF
 abbrev pub reach : ℕ
@@ -49,12 +48,12 @@ abbrev pub late_at : ReceiveWindow → ℕ → Arrival
 late_at w k = record {
   window = record { size = w.size; highest = w.highest; bits = set_of (bit_or (val w.bits) (2 ^ k)) };
   class = Late;
-  lost = Nothing;
+  lost = None;
 }
 
 -- a Duplicate changes nothing
 abbrev pub unchanged : ReceiveWindow → Arrival
-unchanged w = record { window = w; class = Duplicate; lost = Nothing }
+unchanged w = record { window = w; class = Duplicate; lost = None }
 
 abbrev pub taken_of : ReceiveWindow → ℕ → Class → Arrival
 taken_of w seq (New gap) = new_of w seq (gap + 1)

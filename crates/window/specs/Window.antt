@@ -1,11 +1,10 @@
 -- 01, "Position, window, loss": the window, its positions and what is missing. Position k of its set is k + 1 behind the highest.
-use Rattle.std.specs.Prelude.{Bool, true, ◌&&◌, cond, ℕ, ◌+◌, ◌-◌, ◌^◌, ◌≤◌, ◌<◌, eqb, leb, ltb}
+use Rattle.std.specs.Prelude.{Bool, true, ◌&&◌, cond, ℕ, ◌+◌, ◌-◌, ◌^◌, ◌≤◌, ◌<◌, eqb, leb, ltb, Option, Some, None}
+use Rattle.window.specs.declared.window.SeqRange.{SeqRange}
 use Rattle.config.specs.Range.{within}
 use Rattle.config.specs.Sequence.{turn, ahead}
 use Rattle.window.specs.Set.{max_window, val, set_of, has, top_of, bottom_of}
 use Rattle.window.specs.declared.window.ReceiveWindow.{ReceiveWindow}
-use Rattle.window.specs.declared.window.Span.{Span}
-use Rattle.window.specs.declared.window.Span.TheVariants.{Nothing, Of}
 
 -- a size that starting takes, and no position at the size or above
 pub record Valid (w : ReceiveWindow) : Type 0 where
@@ -41,17 +40,17 @@ unfoldable pub missing_of : ReceiveWindow → ℕ
 missing_of w = (2 ^ w.size - 1) - val w.bits
 
 -- from the oldest to the newest position of m, each `base` further behind h
-unfoldable pub span_of : ℕ → ℕ → ℕ → Span
+unfoldable pub span_of : ℕ → ℕ → ℕ → Option SeqRange
 span_of h base m =
-    cond (eqb m 0) Nothing
-    (Of record { first = behind h (base + top_of m + 1); count = top_of m - bottom_of m + 1 })
+    cond (eqb m 0) None
+    (Some record { first = behind h (base + top_of m + 1); count = top_of m - bottom_of m + 1 })
 
 -- the missing span
-abbrev pub missing_span : ReceiveWindow → Span
+abbrev pub missing_span : ReceiveWindow → Option SeqRange
 missing_span w = span_of w.highest 0 (missing_of w)
 
 -- the request: from the oldest missing position to just before the highest
-unfoldable pub request_of : ReceiveWindow → Span
+unfoldable pub request_of : ReceiveWindow → Option SeqRange
 request_of w =
-    cond (eqb (missing_of w) 0) Nothing
-    (Of record { first = behind w.highest (top_of (missing_of w) + 1); count = top_of (missing_of w) + 1 })
+    cond (eqb (missing_of w) 0) None
+    (Some record { first = behind w.highest (top_of (missing_of w) + 1); count = top_of (missing_of w) + 1 })

@@ -10,7 +10,7 @@ ghost use Rattle.window.specs.Arrival.{reach, lost_of, class_of, in_order, accep
 
 use super::set::Bits;
 use super::span::range_to;
-use super::window::{Arrival, Class, ReceiveWindow, Span};
+use super::window::{Arrival, Class, ReceiveWindow, SeqRange};
 use super::{set, tested};
 use config::sequence;
 use config::sequence::SeqNum;
@@ -22,18 +22,14 @@ const REACH: u16 = 0x7FFF;
 fn is_new(d: u16) -> bool
     ensures { result ≡ within 1 reach d }
 {
-    if d == 0 {
-        return false;
-    }
-    d <= REACH
+    d != 0 && d <= REACH
 }
 
 // Whether the number is ahead of the highest. The others are read as behind it.
 pub fn is_ahead(w: ReceiveWindow, seq: SeqNum) -> bool
     ensures { result ≡ within 1 reach (ahead w.highest seq) }
 {
-    let h = w.highest;
-    is_new(sequence::distance(h, seq))
+    is_new(sequence::distance(w.highest, seq))
 }
 
 // What a number is to the window, which stays as it is.
@@ -57,11 +53,7 @@ pub fn in_order(w: ReceiveWindow, seq: SeqNum) -> bool
     requires { Valid w }
     ensures { result ≡ in_order w seq }
 {
-    let h = w.highest;
-    if sequence::distance(h, seq) == 1 {
-        return tested::complete(w);
-    }
-    false
+    sequence::distance(w.highest, seq) == 1 && tested::complete(w)
 }
 
 // A number in order arrives: the highest alone changes.
@@ -69,16 +61,10 @@ pub fn accept_next(w: ReceiveWindow, seq: SeqNum) -> Arrival
     requires { Valid w × (in_order w seq ≡ true) }
     ensures { result ≡ accept_of w seq }
 {
-    let size = w.size;
-    let bits = w.bits;
     Arrival {
-        window: ReceiveWindow {
-            size,
-            highest: seq,
-            bits,
-        },
+        window: ReceiveWindow { highest: seq, ..w },
         class: Class::New(0),
-        lost: Span::Nothing,
+        lost: None,
     }
 }
 
@@ -87,39 +73,38 @@ pub fn class_ahead(w: ReceiveWindow, seq: SeqNum) -> Class
     requires { within 1 reach (ahead w.highest seq) ≡ true }
     ensures { result ≡ (accept_of w seq).class }
 {
-    let h = w.highest;
-    let d = sequence::distance(h, seq);
+    let d = sequence::distance(w.highest, seq);
     let gap = d - 1;
     Class::New(gap)
 }
 
 // What leaves a window with the missing positions m when the number h, d ahead, arrives: skipped numbers leave
 // from distance size + 2 on.
-fn lost(h: SeqNum, size: u32, m: Bits, d: u32) -> Span
+fn lost(h: SeqNum, size: u32, m: Bits, d: u32) -> Option<SeqRange>
     requires { (1 ≤ size) × (size ≤ max_window) × (1 ≤ d) × (d ≤ reach) × (val m < 2 ^ size) }
     ensures { result ≡ span_of h size (lost_of size (val m) d) }
 {
     if set::empty(m) {
         if size + 2 <= d {
-            return Span::Of(range_to(h, d - 2, size));
+            return Some(range_to(h, d - 2, size));
         }
-        return Span::Nothing;
+        return None;
     }
     let oldest = set::top(m) + d;
     if oldest < size {
-        return Span::Nothing;
+        return None;
     }
     if d < size + 2 {
         let stay = if d < size { size - d } else { 0 };
         let old = set::from(m, stay);
-        return Span::Of(range_to(h, oldest, set::bottom(old) + d));
+        return Some(range_to(h, oldest, set::bottom(old) + d));
     }
-    Span::Of(range_to(h, oldest, size))
+    Some(range_to(h, oldest, size))
 }
 
 // What leaves the window unprocessed when a number ahead arrives. This is the one large step of an
 // arrival: it stays a call, and the steps beside it are small enough to be inlined at each caller.
-pub fn lost_to(w: ReceiveWindow, seq: SeqNum) -> Span
+pub fn lost_to(w: ReceiveWindow, seq: SeqNum) -> Option<SeqRange>
     requires { Valid w × (within 1 reach (ahead w.highest seq) ≡ true) }
     ensures { result ≡ (accept_of w seq).lost }
 {
@@ -146,15 +131,11 @@ pub fn moved_to(w: ReceiveWindow, seq: SeqNum) -> ReceiveWindow
     requires { Valid w × (within 1 reach (ahead w.highest seq) ≡ true) }
     ensures { result ≡ (accept_of w seq).window }
 {
-    let size = w.size;
-    let h = w.highest;
-    let bits = w.bits;
-    let up = moved(bits, sequence::distance(h, seq) as u32);
-    let next = set::both(up, set::lowest(size));
+    let up = moved(w.bits, sequence::distance(w.highest, seq) as u32);
     ReceiveWindow {
-        size,
         highest: seq,
-        bits: next,
+        bits: set::both(up, set::lowest(w.size)),
+        ..w
     }
 }
 
@@ -163,25 +144,20 @@ pub fn accept_behind(w: ReceiveWindow, seq: SeqNum) -> Arrival
     requires { Valid w × (within 1 reach (ahead w.highest seq) ≡ false) }
     ensures { result ≡ accept_of w seq }
 {
-    let size = w.size;
-    let highest = w.highest;
-    let bits = w.bits;
-    let back = sequence::distance(seq, highest) as u32;
+    let back = sequence::distance(seq, w.highest) as u32;
     if tested::processed_at(w, back) {
         return Arrival {
             window: w,
             class: Class::Duplicate,
-            lost: Span::Nothing,
+            lost: None,
         };
     }
-    let late = set::with(bits, back - 1);
     Arrival {
         window: ReceiveWindow {
-            size,
-            highest,
-            bits: late,
+            bits: set::with(w.bits, back - 1),
+            ..w
         },
         class: Class::Late,
-        lost: Span::Nothing,
+        lost: None,
     }
 }

@@ -60,10 +60,7 @@ pub fn flipped(a: Bits) -> Bits
 pub fn empty(s: Bits) -> bool
     ensures { result ≡ eqb (val s) 0 }
 {
-    if s.low != 0 {
-        return false;
-    }
-    s.high == 0
+    s.low == 0 && s.high == 0
 }
 
 // Each position up by a word and n more; those above the last leave.
@@ -94,9 +91,9 @@ pub fn top(s: Bits) -> u32
     ensures { (result ≡ top_of (val s)) × (result < max_window) }
 {
     if s.high != 0 {
-        return 2 * WORD - 1 - u64::leading_zeros(s.high);
+        return 2 * WORD - 1 - s.high.leading_zeros();
     }
-    WORD - 1 - u64::leading_zeros(s.low)
+    WORD - 1 - s.low.leading_zeros()
 }
 
 // The lowest position of a set that has one.
@@ -105,9 +102,9 @@ pub fn bottom(s: Bits) -> u32
     ensures { result ≡ bottom_of (val s) }
 {
     if s.low != 0 {
-        return u64::trailing_zeros(s.low);
+        return s.low.trailing_zeros();
     }
-    WORD + u64::trailing_zeros(s.high)
+    WORD + s.high.trailing_zeros()
 }
 
 // The n lowest positions, one at least.
@@ -132,10 +129,7 @@ pub fn below(s: Bits, n: u32) -> bool
 {
     let last = u64::MAX >> ((2 * WORD - n) % WORD);
     if n <= WORD {
-        if s.high != 0 {
-            return false;
-        }
-        return s.low <= last;
+        return s.high == 0 && s.low <= last;
     }
     s.high <= last
 }
@@ -149,10 +143,7 @@ pub fn is_lowest(s: Bits, n: u32) -> bool
     if n <= WORD {
         return s.low == last;
     }
-    if s.low != u64::MAX {
-        return false;
-    }
-    s.high == last
+    s.low == u64::MAX && s.high == last
 }
 
 pub fn holds(s: Bits, k: u32) -> bool

@@ -6,7 +6,7 @@ ghost use Rattle.window.specs.Window.{behind, span_of};
 
 use super::set;
 use super::set::Bits;
-use super::window::{SeqRange, Span};
+use super::window::SeqRange;
 use config::sequence;
 use config::sequence::SeqNum;
 
@@ -30,11 +30,11 @@ pub fn range_to(h: SeqNum, oldest: u32, newest: u32) -> SeqRange
 }
 
 // From the oldest to the newest position of m, behind h.
-pub fn span_of(h: SeqNum, m: Bits) -> Span
+pub fn span_of(h: SeqNum, m: Bits) -> Option<SeqRange>
     ensures { result ≡ span_of h 0 (val m) }
 {
     if set::empty(m) {
-        return Span::Nothing;
+        return None;
     }
-    Span::Of(range_to(h, set::top(m), set::bottom(m)))
+    Some(range_to(h, set::top(m), set::bottom(m)))
 }

@@ -8,7 +8,7 @@ ghost use Rattle.window.specs.Marking.{hit_at, hits_of, mark_of};
 use super::set;
 use super::set::Bits;
 use super::span::{number_at, range_to, span_of};
-use super::window::{Marked, ReceiveWindow, SeqRange, Span};
+use super::window::{Marked, ReceiveWindow, SeqRange};
 use config::sequence::SeqNum;
 use config::{range, sequence};
 
@@ -16,12 +16,7 @@ use config::{range, sequence};
 pub fn is_valid(w: ReceiveWindow) -> bool
     ensures { result ≡ valid_of w }
 {
-    let size = w.size;
-    let bits = w.bits;
-    if range::outside(1, set::MAX_WINDOW as usize, size as usize) {
-        return false;
-    }
-    set::below(bits, size)
+    !range::outside(1, set::MAX_WINDOW as usize, w.size as usize) && set::below(w.bits, w.size)
 }
 
 // All before the highest processed.
@@ -42,9 +37,7 @@ pub fn missing_set(w: ReceiveWindow) -> Bits
     requires { Valid w }
     ensures { result ≡ set_of (missing_of w) }
 {
-    let bits = w.bits;
-    let size = w.size;
-    set::both(set::flipped(bits), set::lowest(size))
+    set::both(set::flipped(w.bits), set::lowest(w.size))
 }
 
 // Whether nothing is missing.
@@ -52,31 +45,27 @@ pub fn complete(w: ReceiveWindow) -> bool
     requires { Valid w }
     ensures { result ≡ eqb (missing_of w) 0 }
 {
-    let bits = w.bits;
-    let size = w.size;
-    set::is_lowest(bits, size)
+    set::is_lowest(w.bits, w.size)
 }
 
 // From the oldest to the newest missing number.
-pub fn missing(w: ReceiveWindow) -> Span
+pub fn missing(w: ReceiveWindow) -> Option<SeqRange>
     requires { Valid w }
     ensures { result ≡ missing_span w }
 {
-    let h = w.highest;
-    span_of(h, missing_set(w))
+    span_of(w.highest, missing_set(w))
 }
 
 // From the oldest missing number to just before the highest.
-pub fn request(w: ReceiveWindow) -> Span
+pub fn request(w: ReceiveWindow) -> Option<SeqRange>
     requires { Valid w }
     ensures { result ≡ request_of w }
 {
-    let h = w.highest;
     let m = missing_set(w);
     if set::empty(m) {
-        return Span::Nothing;
+        return None;
     }
-    Span::Of(range_to(h, set::top(m), 0))
+    Some(range_to(w.highest, set::top(m), 0))
 }
 
 // Whether the position `back` behind the highest is processed: the highest is, and so is all beyond the window.
@@ -84,16 +73,10 @@ pub fn processed_at(w: ReceiveWindow, back: u32) -> bool
     requires { Valid w }
     ensures { result ≡ processed w back }
 {
-    let size = w.size;
-    let bits = w.bits;
-    if back == 0 {
+    if back == 0 || w.size < back {
         return true;
     }
-    let k = back - 1;
-    if size <= k {
-        return true;
-    }
-    set::holds(bits, k)
+    set::holds(w.bits, back - 1)
 }
 
 // Whether the number is the highest, or one of the window's numbers that was processed.
@@ -101,13 +84,8 @@ pub fn is_processed(w: ReceiveWindow, seq: SeqNum) -> bool
     requires { Valid w }
     ensures { result ≡ is_processed w seq }
 {
-    let h = w.highest;
-    let size = w.size;
-    let back = sequence::distance(seq, h) as u32;
-    if size < back {
-        return false;
-    }
-    processed_at(w, back)
+    let back = sequence::distance(seq, w.highest) as u32;
+    back <= w.size && processed_at(w, back)
 }
 
 // All numbers of the window are processed now.
@@ -115,9 +93,7 @@ pub fn mark_all(w: ReceiveWindow) -> ReceiveWindow
     requires { Valid w }
     ensures { result ≡ fresh_of w.size w.highest }
 {
-    let h = w.highest;
-    let size = w.size;
-    starting_at(size, h)
+    starting_at(w.size, w.highest)
 }
 
 // `found`, all below k, with position k where m has it and its number is in the range.
@@ -125,10 +101,8 @@ fn hit(found: Bits, m: Bits, h: SeqNum, range: SeqRange, k: u32) -> Bits
     requires { (k < max_window) × (val found < 2 ^ k) }
     ensures { result ≡ set_of (val found + hit_at range h (val m) k) }
 {
-    if set::holds(m, k) {
-        if range.contains(number_at(h, k)) {
-            return set::with(found, k);
-        }
+    if set::holds(m, k) && range.contains(number_at(h, k)) {
+        return set::with(found, k);
     }
     found
 }
@@ -139,10 +113,8 @@ fn hits(m: Bits, size: u32, h: SeqNum, range: SeqRange) -> Bits
     ensures { result ≡ set_of (hits_of range h (val m) size) }
 {
     let mut found = set::none();
-    let mut k = 0;
-    while k < size {
+    for k in 0..size {
         found = hit(found, m, h, range, k);
-        k += 1;
     }
     found
 }
@@ -152,18 +124,11 @@ pub fn mark_range(w: ReceiveWindow, range: SeqRange) -> Marked
     requires { Valid w }
     ensures { result ≡ mark_of w range }
 {
-    let h = w.highest;
-    let size = w.size;
-    let bits = w.bits;
     let m = missing_set(w);
-    let found = hits(m, size, h, range);
-    let marked = set::either(bits, found);
+    let found = hits(m, w.size, w.highest, range);
+    let marked = set::either(w.bits, found);
     Marked {
-        window: ReceiveWindow {
-            size,
-            highest: h,
-            bits: marked,
-        },
-        span: span_of(h, found),
+        window: ReceiveWindow { bits: marked, ..w },
+        span: span_of(w.highest, found),
     }
 }

@@ -5,7 +5,6 @@ ghost use Rattle.window.specs.Answers.{start_answer, new_answer, reset_answer, c
 
 use super::set::Bits;
 use super::{arrival, set, tested};
-use config::answer::{Answered, Outcome};
 use config::refusal::Refusal;
 use config::sequence::SeqNum;
 use config::{range, sequence};
@@ -36,13 +35,6 @@ pub struct SeqRange {
     pub count: u16,
 }
 
-// From the oldest to the newest of some numbers, if there is one.
-#[derive(Clone, Copy)]
-pub enum Span {
-    Nothing,
-    Of(SeqRange),
-}
-
 #[derive(Clone, Copy)]
 pub enum Class {
     // Ahead of the highest, with this many numbers skipped in between.
@@ -59,7 +51,7 @@ pub struct Arrival {
     pub window: ReceiveWindow,
     pub class: Class,
     // From the oldest to the newest number that left the window unprocessed.
-    pub lost: Span,
+    pub lost: Option<SeqRange>,
 }
 
 // What `tested::mark_range` leaves and answers.
@@ -67,76 +59,34 @@ pub struct Arrival {
 pub struct Marked {
     pub window: ReceiveWindow,
     // From the oldest to the newest number that it marked.
-    pub span: Span,
+    pub span: Option<SeqRange>,
 }
 
+// What a number was that was taken.
 #[derive(Clone, Copy)]
-pub enum Started {
-    Window(ReceiveWindow),
-    Refused(Refusal),
+pub struct Taken {
+    pub class: Class,
+    // From the oldest to the newest number that left the window unprocessed.
+    pub lost: Option<SeqRange>,
 }
 
+// The window after a call, as it was where the call was refused, and what the call answers.
 #[derive(Clone, Copy)]
-pub struct Changed {
+pub struct WindowAnswer<T> {
     pub window: ReceiveWindow,
-    pub answer: Outcome,
-}
-
-// The answer of `classify`.
-#[derive(Clone, Copy)]
-pub enum Classification {
-    Found(Class),
-    Refused(Refusal),
-}
-
-#[derive(Clone, Copy)]
-pub struct Classified {
-    pub window: ReceiveWindow,
-    pub answer: Classification,
-}
-
-// The answer of `accept`.
-#[derive(Clone, Copy)]
-pub enum Acceptance {
-    Heard { class: Class, lost: Span },
-    Refused(Refusal),
-}
-
-#[derive(Clone, Copy)]
-pub struct Accepted {
-    pub window: ReceiveWindow,
-    pub answer: Acceptance,
-}
-
-#[derive(Clone, Copy)]
-pub struct Known {
-    pub window: ReceiveWindow,
-    pub answer: Answered,
-}
-
-// The answer of `missing`, `request` and `mark_range`.
-#[derive(Clone, Copy)]
-pub enum Extent {
-    Numbers(Span),
-    Refused(Refusal),
-}
-
-#[derive(Clone, Copy)]
-pub struct Extended {
-    pub window: ReceiveWindow,
-    pub answer: Extent,
+    pub answer: Result<T, Refusal>,
 }
 
 // The answer to a number that was taken.
-fn heard(taken: Arrival) -> Accepted
+fn heard(taken: Arrival) -> WindowAnswer<Taken>
     ensures { result ≡ heard_of taken }
 {
     let window = taken.window;
     let class = taken.class;
     let lost = taken.lost;
-    Accepted {
+    WindowAnswer {
         window,
-        answer: Acceptance::Heard { class, lost },
+        answer: Ok(Taken { class, lost }),
     }
 }
 
@@ -153,58 +103,58 @@ impl SeqRange {
 
 impl ReceiveWindow {
     // The highest position is -1, and all before it are processed.
-    pub fn new(size: u32) -> Started
+    pub fn new(size: u32) -> Result<ReceiveWindow, Refusal>
         ensures { result ≡ new_answer size }
     {
         ReceiveWindow::starting_at(size, FRESH)
     }
 
     // The highest and all before it processed.
-    pub fn starting_at(size: u32, highest: SeqNum) -> Started
+    pub fn starting_at(size: u32, highest: SeqNum) -> Result<ReceiveWindow, Refusal>
         ensures { result ≡ start_answer size highest }
     {
         if range::outside(1, set::MAX_WINDOW as usize, size as usize) {
-            return Started::Refused(Refusal::SizeNotAllowed);
+            return Err(Refusal::SizeNotAllowed);
         }
-        Started::Window(tested::starting_at(size, highest))
+        Ok(tested::starting_at(size, highest))
     }
 
     // Back to the fresh window of the same size.
-    pub fn reset(self) -> Changed
+    pub fn reset(self) -> WindowAnswer<()>
         ensures { result ≡ reset_answer self }
     {
         if tested::is_valid(self) {
             let size = self.size;
             let fresh = tested::starting_at(size, FRESH);
-            return Changed {
+            return WindowAnswer {
                 window: fresh,
-                answer: Outcome::Done,
+                answer: Ok(()),
             };
         }
-        Changed {
+        WindowAnswer {
             window: self,
-            answer: Outcome::Refused(Refusal::InvalidState),
+            answer: Err(Refusal::InvalidState),
         }
     }
 
     // What a number is to the window, which stays as it is.
-    pub fn classify(self, seq: SeqNum) -> Classified
+    pub fn classify(self, seq: SeqNum) -> WindowAnswer<Class>
         ensures { result ≡ class_answer self seq }
     {
         if tested::is_valid(self) {
-            return Classified {
+            return WindowAnswer {
                 window: self,
-                answer: Classification::Found(arrival::classify(self, seq)),
+                answer: Ok(arrival::classify(self, seq)),
             };
         }
-        Classified {
+        WindowAnswer {
             window: self,
-            answer: Classification::Refused(Refusal::InvalidState),
+            answer: Err(Refusal::InvalidState),
         }
     }
 
     // A number arrives: it is processed now, unless it is a Duplicate.
-    pub fn accept(self, seq: SeqNum) -> Accepted
+    pub fn accept(self, seq: SeqNum) -> WindowAnswer<Taken>
         ensures { result ≡ accept_answer self seq }
     {
         if tested::is_valid(self) {
@@ -213,102 +163,102 @@ impl ReceiveWindow {
             }
             if arrival::is_ahead(self, seq) {
                 let lost = arrival::lost_to(self, seq);
-                return Accepted {
+                return WindowAnswer {
                     window: arrival::moved_to(self, seq),
-                    answer: Acceptance::Heard {
+                    answer: Ok(Taken {
                         class: arrival::class_ahead(self, seq),
                         lost,
-                    },
+                    }),
                 };
             }
             return heard(arrival::accept_behind(self, seq));
         }
-        Accepted {
+        WindowAnswer {
             window: self,
-            answer: Acceptance::Refused(Refusal::InvalidState),
+            answer: Err(Refusal::InvalidState),
         }
     }
 
     // Whether the number is the highest, or one of the window's numbers that was processed.
-    pub fn is_processed(self, seq: SeqNum) -> Known
+    pub fn is_processed(self, seq: SeqNum) -> WindowAnswer<bool>
         ensures { result ≡ processed_answer self seq }
     {
         if tested::is_valid(self) {
-            return Known {
+            return WindowAnswer {
                 window: self,
-                answer: Answered::Is(tested::is_processed(self, seq)),
+                answer: Ok(tested::is_processed(self, seq)),
             };
         }
-        Known {
+        WindowAnswer {
             window: self,
-            answer: Answered::Refused(Refusal::InvalidState),
+            answer: Err(Refusal::InvalidState),
         }
     }
 
     // From the oldest to the newest missing number.
-    pub fn missing(self) -> Extended
+    pub fn missing(self) -> WindowAnswer<Option<SeqRange>>
         ensures { result ≡ missing_answer self }
     {
         if tested::is_valid(self) {
-            return Extended {
+            return WindowAnswer {
                 window: self,
-                answer: Extent::Numbers(tested::missing(self)),
+                answer: Ok(tested::missing(self)),
             };
         }
-        Extended {
+        WindowAnswer {
             window: self,
-            answer: Extent::Refused(Refusal::InvalidState),
+            answer: Err(Refusal::InvalidState),
         }
     }
 
     // What a Retransmit Request asks for: from the oldest missing number to just before the highest.
-    pub fn request(self) -> Extended
+    pub fn request(self) -> WindowAnswer<Option<SeqRange>>
         ensures { result ≡ request_answer self }
     {
         if tested::is_valid(self) {
-            return Extended {
+            return WindowAnswer {
                 window: self,
-                answer: Extent::Numbers(tested::request(self)),
+                answer: Ok(tested::request(self)),
             };
         }
-        Extended {
+        WindowAnswer {
             window: self,
-            answer: Extent::Refused(Refusal::InvalidState),
+            answer: Err(Refusal::InvalidState),
         }
     }
 
     // All numbers of the window are processed now.
-    pub fn mark_all(self) -> Changed
+    pub fn mark_all(self) -> WindowAnswer<()>
         ensures { result ≡ mark_all_answer self }
     {
         if tested::is_valid(self) {
-            return Changed {
+            return WindowAnswer {
                 window: tested::mark_all(self),
-                answer: Outcome::Done,
+                answer: Ok(()),
             };
         }
-        Changed {
+        WindowAnswer {
             window: self,
-            answer: Outcome::Refused(Refusal::InvalidState),
+            answer: Err(Refusal::InvalidState),
         }
     }
 
     // The missing numbers that are in the range are processed now; the answer spans them.
-    pub fn mark_range(self, range: SeqRange) -> Extended
+    pub fn mark_range(self, range: SeqRange) -> WindowAnswer<Option<SeqRange>>
         ensures { result ≡ mark_answer self range }
     {
         if tested::is_valid(self) {
             let marked = tested::mark_range(self, range);
             let window = marked.window;
             let span = marked.span;
-            return Extended {
+            return WindowAnswer {
                 window,
-                answer: Extent::Numbers(span),
+                answer: Ok(span),
             };
         }
-        Extended {
+        WindowAnswer {
             window: self,
-            answer: Extent::Refused(Refusal::InvalidState),
+            answer: Err(Refusal::InvalidState),
         }
     }
 }

@@ -1,5 +1,6 @@
 -- The idle command: when one is queued, and the state that this leaves.
 use mathlib.Core.Path.{◌≡◌, refl, sym, ap, subst, ◌∙◌}
+use Rattle.std.proofs.Common.{Option, Some, None}
 use mathlib.Core.Bool.{true, ◌||◌}
 use mathlib.Core.Logic.{inl, inr}
 use mathlib.Core.List.{List, []}
@@ -23,8 +24,6 @@ use Rattle.history.proofs.Reached.{pushed_state}
 use Rattle.history.proofs.States.{state_unwritten}
 use Rattle.idle.specs.Schedule.{idle_next}
 use Rattle.idle.specs.declared.idle.Idle.{Idle}
-use Rattle.idle.specs.declared.idle.IdleTimer.{IdleTimer}
-use Rattle.idle.specs.declared.idle.IdleTimer.TheVariants.{Off, Waiting}
 use Rattle.idle.proofs.Steps.{next_ok}
 use Rattle.sender.specs.State.{valid_of}
 use Rattle.sender.specs.Queueing.{holding}
@@ -34,7 +33,7 @@ use Rattle.sender.proofs.Validity.{passes, valid_history, valid_queue, valid_goo
 
 -- ---- the command that is queued
 module _ (s : Sender) (cfg : StreamConfig) (time : ℕ) (ring : List ℕ) where
-  pub idled_off : s.idle ≡ Off → (s, ring) ≡ idled_of s cfg time ring
+  pub idled_off : s.idle ≡ None → (s, ring) ≡ idled_of s cfg time ring
   unfolding idled_of
   idled_off e = sym (ap (idled_by s cfg time ring) e)
 
@@ -42,17 +41,17 @@ module _ (s : Sender) (cfg : StreamConfig) (time : ℕ) (ring : List ℕ) where
   unfolding idled_of
   idled_unsent h = by s.idle
     where
-      by : (t : IdleTimer) → (s, ring) ≡ idled_by s cfg time ring t
-      by Off = refl
-      by (Waiting i) = rw (lt-ltb 0 s.unsent h)
+      by : (t : Option Idle) → (s, ring) ≡ idled_by s cfg time ring t
+      by None = refl
+      by (Some i) = rw (lt-ltb 0 s.unsent h)
 
-  module _ (i : Idle) (e : s.idle ≡ Waiting i) where
+  module _ (i : Idle) (e : s.idle ≡ Some i) where
     module _ (none : s.unsent ≤ 0) where
       pub idled_early : time < i.due → (s, ring) ≡ idled_of s cfg time ring
       unfolding idled_of
       idled_early h = sym (ap (idled_by s cfg time ring) e ∙ rw (le-ltb _ _ none, lt-ltb _ _ h))
 
-      pub idled_queued : (h : SendHistory) (next : List ℕ) (t : IdleTimer) → i.due ≤ time → (h, next) ≡ pushed s.history ring [] → t ≡ idle_next cfg time i
+      pub idled_queued : (h : SendHistory) (next : List ℕ) (t : Option Idle) → i.due ≤ time → (h, next) ≡ pushed s.history ring [] → t ≡ idle_next cfg time i
           → (with_idle (holding s h 1 1) t, next) ≡ idled_of s cfg time ring
       unfolding idled_of
       idled_queued h next t l p f = sym (ap (idled_by s cfg time ring) e ∙ rw (le-ltb _ _ none, le-ltb _ _ l, ← p, f))
@@ -78,9 +77,9 @@ module _ (s : Sender) (cfg : StreamConfig) (time : ℕ) (ring : List ℕ) (v : v
   unfolding idled_of
   idled_kept = by s.idle
     where
-      by : (t : IdleTimer) → valid_of (idled_by s cfg time ring t).0 (idled_by s cfg time ring t).1 ≡ true
-      by Off = v
-      by (Waiting i) = elim (split (ltb 0 s.unsent || ltb time i.due)) [
+      by : (t : Option Idle) → valid_of (idled_by s cfg time ring t).0 (idled_by s cfg time ring t).1 ≡ true
+      by None = v
+      by (Some i) = elim (split (ltb 0 s.unsent || ltb time i.due)) [
         | inl a ↦ rw a v
         | inr a ↦ rw a (queued_kept i (omega (arith, ltb-false 0 s.unsent (or_left _ _ a))))
       ]

@@ -1,5 +1,8 @@
 -- Where a write walks from: where it begins, and after words were queued, where the commands that stay keep their places.
 use mathlib.Core.Path.{◌≡◌, refl, sym, ap, ◌∙◌}
+use Rattle.std.proofs.Common.{Result, Ok, Err}
+use Rattle.config.specs.declared.refusal.Refusal.{Refusal}
+use Rattle.std.specs.Bool.{⊤}
 use mathlib.Core.Bool.{Bool, true, false, cond}
 use mathlib.Core.List.{List, [], ◌∷◌, ◌++◌, append-nil}
 use Prim.Native.Nat.{ℕ, zero, suc, ◌+◌, ◌-◌, ◌≤◌, ◌<◌, max}
@@ -11,8 +14,6 @@ use borrow.Author.Tests.{lt-ltb, le-ltb, ltb-false, eq-eqb, ne_eqb}
 use Rattle.config.specs.Settings.{tested}
 use Rattle.config.specs.Sequence.{turn}
 use Rattle.config.specs.declared.refusal.Refusal.TheVariants.{Full}
-use Rattle.config.specs.declared.answer.Outcome.{Outcome}
-use Rattle.config.specs.declared.answer.Outcome.TheVariants.{Done, Refused}
 use Rattle.history.specs.Ring.{slot_of}
 use Rattle.history.specs.Headers.{length_at, next_at, header_at}
 use Rattle.history.specs.State.{Good, Marks, oldest_mark}
@@ -266,9 +267,9 @@ module _ (s : Sender) (ring : List ℕ) (max : ℕ) (ws : List ℕ) (v : valid_o
   unfolding sent_of
   sent_follows = by (eqb (length ws) 0) (words_check max ws) refl (sent_kept s ring max ws v few o)
     where
-      by : (t : Bool) (k : Outcome) → words_check max ws ≡ k
-          → let e = cond t (sent s Done, ring) (tested k (unsent s ring) (placed_of s ring max ws)) in
+      by : (t : Bool) (k : Result ⊤ Refusal) → words_check max ws ≡ k
+          → let e = cond t (sent s (Ok tt), ring) (tested k (unsent s ring) (placed_of s ring max ws)) in
           valid_of e.0.sender e.1 ≡ true → Follows s m e.0.sender e.1
       by true k e w = as_before
-      by false (Refused why) e w = as_before
-      by false Done e w = placed_follows (check_divides max ws e) w
+      by false (Err why) e w = as_before
+      by false (Ok _) e w = placed_follows (check_divides max ws e) w

@@ -1,5 +1,7 @@
 -- Repeats and new commands: the row of both, and the sender after it.
 use mathlib.Core.Path.{◌≡◌, sym, ap, ◌∙◌}
+use Rattle.std.proofs.Common.{Option}
+use Rattle.idle.specs.declared.idle.Idle.{Idle}
 use mathlib.Core.Bool.{Bool, true, false, cond, not}
 use mathlib.Core.List.{List, ◌∷◌, ◌++◌}
 use Prim.Native.Nat.{ℕ, ◌+◌, ◌-◌, ◌≤◌, ◌<◌, min}
@@ -17,7 +19,6 @@ use Rattle.history.proofs.Entries.{length_entries, drop_entries, size_entries}
 use Rattle.history.proofs.States.{state_unwritten}
 use Rattle.history.proofs.Walk.{words_add, words_prefix, header_add}
 use Rattle.idle.specs.Schedule.{idle_start}
-use Rattle.idle.specs.declared.idle.IdleTimer.{IdleTimer}
 use Rattle.rows.specs.Rows.{row_of, packets_from, Standing}
 use Rattle.rows.specs.Choice.{repeats_of}
 use Rattle.rows.proofs.Filling.{row_with}
@@ -31,11 +32,11 @@ use Rattle.writing.specs.declared.writing.Wrote.{Wrote}
 use Rattle.sender.proofs.Validity.{valid_history, valid_good, valid_unsent}
 
 -- ---- what a row takes off the unwritten commands
-abbrev pub starts_idle : Sender → StreamConfig → ℕ → ℕ → ℕ → IdleTimer
+abbrev pub starts_idle : Sender → StreamConfig → ℕ → ℕ → ℕ → Option Idle
 starts_idle s cfg time n words = cond (ltb n words) (idle_start cfg time) s.idle
 
 module _ (s : Sender) (cfg : StreamConfig) (time n words : ℕ) where
-  pub off_starts : (t : IdleTimer) → n < words → t ≡ idle_start cfg time → taken_off s n words t ≡ taken_off s n words (starts_idle s cfg time n words)
+  pub off_starts : (t : Option Idle) → n < words → t ≡ idle_start cfg time → taken_off s n words t ≡ taken_off s n words (starts_idle s cfg time n words)
   off_starts t h e = rw (lt-ltb _ _ h, e)
 
   pub off_stays : words ≤ n → taken_off s n words s.idle ≡ taken_off s n words (starts_idle s cfg time n words)

@@ -1,6 +1,7 @@
 -- 01, "History, repeats, idle" and "Write the stream": a write, over settings, a state and a payload that were tested.
 -- Waiting retransmits come first, then a due idle command is queued, then up to R of the last written commands, then new ones.
-use Rattle.std.specs.Prelude.{ℕ, zero, suc, ◌+◌, ◌-◌, ◌≤◌, ◌<◌, min, ◌≡◌, Bool, true, false, cond, not, ◌||◌, List, [], ◌∷◌, ◌++◌, length, ltb, eqb}
+use Rattle.std.specs.Prelude.{ℕ, zero, suc, ◌+◌, ◌-◌, ◌≤◌, ◌<◌, min, ◌≡◌, Bool, true, false, cond, not, ◌||◌, List, [], ◌∷◌, ◌++◌, length, ltb, eqb, Option, Some, None, Ok, Err}
+use Rattle.idle.specs.declared.idle.Idle.{Idle}
 use Rattle.config.specs.Sequence.{after}
 use Rattle.config.specs.declared.refusal.Refusal.TheVariants.{TooLarge}
 use Rattle.config.specs.declared.settings.StreamConfig.{StreamConfig}
@@ -16,15 +17,12 @@ use Rattle.history.specs.Queue.{request, popped, in_front}
 use Rattle.history.specs.declared.history.Mark.{Mark}
 use Rattle.history.specs.declared.history.SendHistory.{SendHistory}
 use Rattle.idle.specs.Schedule.{idle_start, idle_next}
-use Rattle.idle.specs.declared.idle.IdleTimer.{IdleTimer}
-use Rattle.idle.specs.declared.idle.IdleTimer.TheVariants.{Off, Waiting}
 use Rattle.rows.specs.Rows.{Row, row_of, fit_all, any_words, packets_from}
 use Rattle.rows.specs.Choice.{reached, repeats_of}
 use Rattle.rows.specs.declared.rows.Repeated.{Repeated}
 use Rattle.sender.specs.Queueing.{holding}
 use Rattle.sender.specs.Requests.{written_count, index_of, not_written, not_in_buffer, with_queue}
 use Rattle.sender.specs.declared.sender.Sender.{Sender}
-use Rattle.writing.specs.declared.writing.Writing.TheVariants.{Written, Refused}
 use Rattle.writing.specs.declared.writing.Wrote.{Wrote}
 use Rattle.writing.specs.declared.tested.Served.{Served as Handed}
 
@@ -78,13 +76,13 @@ unfoldable pub served_of : Sender → List ℕ → PayloadWriter → List ℕ �
 served_of s ring p b = served_in s.queue.len s ring p b
 
 -- ---- idle commands
-abbrev pub with_idle : Sender → IdleTimer → Sender
+abbrev pub with_idle : Sender → Option Idle → Sender
 with_idle s i = record { history = s.history; queue = s.queue; unsent = s.unsent; unsent_words = s.unsent_words; idle = i }
 
 -- none is queued while a command is unwritten
-abbrev pub idled_by : Sender → StreamConfig → ℕ → List ℕ → IdleTimer → Sender × List ℕ
-idled_by s cfg time ring Off = (s, ring)
-idled_by s cfg time ring (Waiting i) =
+abbrev pub idled_by : Sender → StreamConfig → ℕ → List ℕ → Option Idle → Sender × List ℕ
+idled_by s cfg time ring None = (s, ring)
+idled_by s cfg time ring (Some i) =
     let p = pushed s.history ring [] in
     cond (ltb 0 s.unsent || ltb time i.due) (s, ring)
     (with_idle (holding s p.0 1 1) (idle_next cfg time i), p.1)
@@ -105,12 +103,12 @@ pub record Again (s : Sender) (ring : List ℕ) (p : PayloadWriter) (b : List �
   pub room : r.words < free_of p (length b)
 
 -- writing a new command with words starts the idle schedule
-abbrev pub idle_after : StreamConfig → ℕ → List Packet → IdleTimer → IdleTimer
+abbrev pub idle_after : StreamConfig → ℕ → List Packet → Option Idle → Option Idle
 idle_after cfg time cs old =
     cond (any_words cs) (idle_start cfg time) old
 
 -- n commands and their words are off the unwritten ones
-abbrev pub taken_off : Sender → ℕ → ℕ → IdleTimer → Sender
+abbrev pub taken_off : Sender → ℕ → ℕ → Option Idle → Sender
 taken_off s n words idle = record { history = s.history; queue = s.queue; unsent = s.unsent - n; unsent_words = s.unsent_words - words; idle = idle }
 
 -- the sender after n of its unwritten commands were written
@@ -120,10 +118,10 @@ written_off s cfg time ring n =
     taken_off s n (words_from n ring i) (idle_after cfg time (packets_from n ring i) s.idle)
 
 abbrev pub wrote : Sender → PayloadWriter → ℕ → Bool → Wrote
-wrote s p n more = record { sender = s; payload = p; answer = Written record { commands = n; more = more } }
+wrote s p n more = record { sender = s; payload = p; answer = Ok record { commands = n; more = more } }
 
 abbrev pub refused : Sender → PayloadWriter → Wrote
-refused s p = record { sender = s; payload = p; answer = Refused TooLarge }
+refused s p = record { sender = s; payload = p; answer = Err TooLarge }
 
 -- what a row leaves of which the first commands repeat `again` written ones
 abbrev pub new_row : Sender → StreamConfig → ℕ → ℕ → List ℕ → ℕ → Row → Wrote × List ℕ

@@ -9,7 +9,7 @@ ghost use Rattle.writing.specs.Placing.{begins_of, mark_queued};
 
 use config::sequence;
 use config::sequence::SeqNum;
-use history::history::{Mark, Tested};
+use history::history::Mark;
 use history::queue::RetransmitQueue;
 use sender::sender::Sender;
 
@@ -57,26 +57,19 @@ fn begins(s: Sender, back: usize) -> usize
 
 // The state test, and from its walk the header where a write begins that repeats the last `back` written
 // commands, or the oldest where fewer are written.
-pub fn test(s: Sender, ring: &[u32], back: usize) -> Tested
+pub fn test(s: Sender, ring: &[u32], back: usize) -> Option<Mark>
     ensures { Answers (valid_of s ring.now) s.history ring.now s.unsent (begins_of s back) result }
 {
-    let history = s.history;
-    let queue = s.queue;
-    if queue.state_ok() {
-        let tested = history.state_walk(ring, s.unsent, s.unsent_words, begins(s, back));
-        if tested.ok {
-            let idle = s.idle;
-            let mark = tested.mark;
-            return Tested {
-                ok: idle.state_ok(),
-                mark,
-            };
-        }
-        return tested;
+    if !s.queue.state_ok() {
+        return None;
     }
-    Tested {
-        ok: false,
-        mark: Mark { entry: 0, at: 0 },
+    let mark = s
+        .history
+        .state_walk(ring, s.unsent, s.unsent_words, begins(s, back))?;
+    if idle::idle::state_ok(s.idle) {
+        Some(mark)
+    } else {
+        None
     }
 }
 

@@ -6,7 +6,6 @@
 // command is queued, and up to R of the last written commands are repeated before the new ones.
 ghost use Rattle.std.specs.Prelude.{◌≡◌, true, false, cond, ◌||◌, ◌+◌, ◌≤◌, ◌<◌, length, eqb, ltb};
 ghost use Rattle.config.specs.Settings.{check_of};
-ghost use Rattle.config.specs.declared.answer.Outcome.TheVariants.{Done};
 ghost use Rattle.packet.specs.Write.{valid_of as payload_valid};
 ghost use Rattle.history.specs.Headers.{header_at};
 ghost use Rattle.history.specs.State.{Good, Marks};
@@ -17,7 +16,7 @@ ghost use Rattle.sender.specs.State.{valid_of};
 ghost use Rattle.sender.specs.Requests.{not_written, with_queue};
 ghost use Rattle.writing.specs.Writing.{reach_of, answer_to, rest_of, served_by, served_of, idled_of, mark_after, Again, taken_off, new_row, new_of, written_by};
 
-use super::writing::{Writing, Written, Wrote};
+use super::writing::{Written, Wrote};
 use command::retransmit::{NOT_IN_BUFFER, RetransmitError, RetransmitRequest};
 use config::range::least;
 use config::refusal::Refusal;
@@ -25,7 +24,6 @@ use config::sequence;
 use config::settings::StreamConfig;
 use history::history::{Mark, SendHistory};
 use history::queue::RetransmitQueue;
-use idle::idle::IdleTimer;
 use packet::writer::PayloadWriter;
 use rows::rows::{Repeated, Row, reach};
 use sender::sender::Sender;
@@ -85,11 +83,7 @@ fn rest(s: Sender, queue: RetransmitQueue, req: RetransmitRequest, n: usize) -> 
 fn leaves(out: Row) -> bool
     ensures { result ≡ (out.whole || eqb out.payload.len 0) }
 {
-    if out.whole {
-        return true;
-    }
-    let payload = out.payload;
-    payload.len == 0
+    out.whole || out.payload.len == 0
 }
 
 // What serving the waiting requests has come to.
@@ -109,10 +103,10 @@ fn serve(s: Sender, p: PayloadWriter, buf: &mut [u8], ring: &[u32], from: Mark) 
     ensures { served_of s ring.now p buf.old ≡ served_by s result buf.new }
 {
     let mut queue = s.queue;
-    let mut left = queue.len;
     let mut q = p;
     let mut n = 0;
-    while 0 < left {
+    // A `while`: a request leaves only where all of it is written.
+    while 0 < queue.len {
         let head = queue.head;
         let req = queue.items[head];
         let out = answer(s, req, q, buf, ring, from);
@@ -121,7 +115,6 @@ fn serve(s: Sender, p: PayloadWriter, buf: &mut [u8], ring: &[u32], from: Mark) 
         if leaves(out) {
             let popped = history::tested::pop(queue);
             queue = popped.queue;
-            left -= 1;
         } else {
             return Served {
                 queue: rest(s, queue, req, out.written),
@@ -141,27 +134,21 @@ fn serve(s: Sender, p: PayloadWriter, buf: &mut [u8], ring: &[u32], from: Mark) 
 
 // Queues an idle command if one is due and no command is unwritten.
 fn queue_idle(s: Sender, cfg: StreamConfig, time: u64, ring: &mut [u32]) -> Sender
-    requires { (check_of cfg ≡ Done) × (valid_of s ring.old ≡ true) }
+    requires { (check_of cfg ≡ Ok tt) × (valid_of s ring.old ≡ true) }
     ensures { (result, ring.new) ≡ idled_of s cfg time ring.old }
 {
-    let history = s.history;
-    let queue = s.queue;
-    let idle = s.idle;
-    match idle {
-        IdleTimer::Off => s,
-        IdleTimer::Waiting(i) => {
-            if 0 < s.unsent {
-                return s;
-            }
-            if time < i.due {
+    match s.idle {
+        None => s,
+        Some(i) => {
+            if 0 < s.unsent || time < i.due {
                 return s;
             }
             Sender {
-                history: history::tested::push(history, ring, &[0u32; 0]),
-                queue,
+                history: history::tested::push(s.history, ring, &[0u32; 0]),
                 unsent: s.unsent + 1,
                 unsent_words: s.unsent_words + 1,
                 idle: idle::tested::next(cfg, time, i),
+                ..s
             }
         }
     }
@@ -173,27 +160,18 @@ fn written_off(s: Sender, cfg: StreamConfig, time: u64, n: usize, words: usize) 
     requires { (n ≤ s.unsent) × (words ≤ s.unsent_words) }
     ensures { result ≡ taken_off s n words (cond (ltb n words) (idle_start cfg time) s.idle) }
 {
-    let history = s.history;
-    let queue = s.queue;
-    let idle = s.idle;
-    let unsent = s.unsent - n;
-    let unsent_words = s.unsent_words - words;
+    let left = Sender {
+        unsent: s.unsent - n,
+        unsent_words: s.unsent_words - words,
+        ..s
+    };
     if n < words {
         return Sender {
-            history,
-            queue,
-            unsent,
-            unsent_words,
-            idle: IdleTimer::start(cfg, time),
+            idle: idle::idle::start(cfg, time),
+            ..left
         };
     }
-    Sender {
-        history,
-        queue,
-        unsent,
-        unsent_words,
-        idle,
-    }
+    left
 }
 
 // Writes the repeats and the unwritten commands, as far as they fit. What the payload has less of free
@@ -219,7 +197,7 @@ fn write_row(
     Wrote {
         sender: written_off(s, cfg, time, n, took - again.words),
         payload,
-        answer: Writing::Written(Written {
+        answer: Ok(Written {
             commands: before + out.written,
             more: !out.whole,
         }),
@@ -267,7 +245,7 @@ fn write_new(
         return Wrote {
             sender: s,
             payload: p,
-            answer: Writing::Written(Written {
+            answer: Ok(Written {
                 commands: before,
                 more: false,
             }),
@@ -284,13 +262,13 @@ fn write_new(
             return Wrote {
                 sender: s,
                 payload: p,
-                answer: Writing::Refused(Refusal::TooLarge),
+                answer: Err(Refusal::TooLarge),
             };
         }
         return Wrote {
             sender: s,
             payload: p,
-            answer: Writing::Written(Written {
+            answer: Ok(Written {
                 commands: before,
                 more: true,
             }),
@@ -311,26 +289,20 @@ pub fn write(
     ring: &mut [u32],
     from: Mark,
 ) -> Wrote
-    requires { (check_of cfg ≡ Done) × (valid_of s ring.old ≡ true) × (payload_valid p (length buf.old) ≡ true) × Marks s.history ring.old from }
+    requires { (check_of cfg ≡ Ok tt) × (valid_of s ring.old ≡ true) × (payload_valid p (length buf.old) ≡ true) × Marks s.history ring.old from }
     ensures { (result, buf.new, ring.new) ≡ written_by s cfg time p buf.old ring.old }
 {
-    let history = s.history;
-    let idle = s.idle;
     let served = serve(s, p, buf, &ring[..], from);
-    let queue = served.queue;
     let payload = served.payload;
     let next = Sender {
-        history,
-        queue,
-        unsent: s.unsent,
-        unsent_words: s.unsent_words,
-        idle,
+        queue: served.queue,
+        ..s
     };
     if served.more {
         return Wrote {
             sender: next,
             payload,
-            answer: Writing::Written(Written {
+            answer: Ok(Written {
                 commands: served.written,
                 more: true,
             }),

@@ -4,7 +4,6 @@ ghost use Rattle.std.specs.Prelude.{◌≡◌};
 ghost use Rattle.writing.specs.Answers.{write_answer};
 
 use super::{placing, tested};
-use config::answer::Outcome;
 use config::refusal::Refusal;
 use config::settings::StreamConfig;
 use packet::writer::PayloadWriter;
@@ -19,16 +18,10 @@ pub struct Written {
 }
 
 #[derive(Clone, Copy)]
-pub enum Writing {
-    Written(Written),
-    Refused(Refusal),
-}
-
-#[derive(Clone, Copy)]
 pub struct Wrote {
     pub sender: Sender,
     pub payload: PayloadWriter,
-    pub answer: Writing,
+    pub answer: Result<Written, Refusal>,
 }
 
 // Writes into the payload: waiting retransmits, up to R repeats, and new commands, after a due idle
@@ -44,28 +37,26 @@ pub fn write(
     ensures { (result, buf.new, ring.new) ≡ write_answer s cfg time p buf.old ring.old }
 {
     match cfg.check() {
-        Outcome::Refused(why) => Wrote {
+        Err(why) => Wrote {
             sender: s,
             payload: p,
-            answer: Writing::Refused(why),
+            answer: Err(why),
         },
-        Outcome::Done => {
-            let found = placing::test(s, &ring[..], cfg.fec_repeats as usize);
-            if found.ok {
+        Ok(()) => {
+            if let Some(mark) = placing::test(s, &ring[..], cfg.fec_repeats as usize) {
                 if packet::tested::is_valid(p, buf.len()) {
-                    let mark = found.mark;
                     return tested::write(s, cfg, time, p, buf, ring, mark);
                 }
                 return Wrote {
                     sender: s,
                     payload: p,
-                    answer: Writing::Refused(Refusal::InvalidState),
+                    answer: Err(Refusal::InvalidState),
                 };
             }
             Wrote {
                 sender: s,
                 payload: p,
-                answer: Writing::Refused(Refusal::InvalidState),
+                answer: Err(Refusal::InvalidState),
             }
         }
     }

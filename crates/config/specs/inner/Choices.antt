@@ -1,9 +1,7 @@
 -- Tests that hold and that don't, and choices.
-use Rattle.std.specs.Prelude.{◌≡◌, ℕ, Bool, true, false, cond, not, ◌&&◌, ◌||◌, ◌≢◌, refl}
+use Rattle.std.specs.Prelude.{◌≡◌, ℕ, Bool, true, false, cond, not, ◌&&◌, ◌||◌, ◌≢◌, refl, Result, Ok, Err, ⊤}
 use Rattle.std.proofs.Common.{sym, arith}
 use Rattle.config.specs.Settings.{tested}
-use Rattle.config.specs.declared.answer.Outcome.{Outcome}
-use Rattle.config.specs.declared.answer.Outcome.TheVariants.{Done, Refused}
 use Rattle.config.specs.declared.refusal.Refusal.{Refusal}
 
 pub never : {y : Bool} → y ≡ true → y ≢ false
@@ -46,6 +44,6 @@ by_cond P true x y f g = f refl
 by_cond P false x y f g = g refl
 
 -- a property of what a test leads to
-pub by_check : {A : Type 0} (P : A → Type 0) (k : Outcome) (refused : Refusal → A) (go : A) → ((why : Refusal) → P (refused why)) → (k ≡ Done → P go) → P (tested k refused go)
-by_check P (Refused why) refused go f g = f why
-by_check P Done refused go f g = g refl
+pub by_check : {A : Type 0} (P : A → Type 0) (k : Result ⊤ Refusal) (refused : Refusal → A) (go : A) → ((why : Refusal) → P (refused why)) → (k ≡ Ok tt → P go) → P (tested k refused go)
+by_check P (Err why) refused go f g = f why
+by_check P (Ok _) refused go f g = g refl

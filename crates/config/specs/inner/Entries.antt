@@ -1,8 +1,6 @@
 -- A call by the tests that lead to it: made, or refused by one of them.
-use Rattle.std.specs.Prelude.{◌≡◌, Bool, true, false, refl}
+use Rattle.std.specs.Prelude.{◌≡◌, Bool, true, false, refl, Result, Ok, Err, ⊤}
 use Rattle.config.specs.Entry.{on_state, entry}
-use Rattle.config.specs.declared.answer.Outcome.{Outcome}
-use Rattle.config.specs.declared.answer.Outcome.TheVariants.{Done, Refused}
 use Rattle.config.specs.declared.refusal.Refusal.{Refusal}
 use Rattle.config.specs.declared.refusal.Refusal.TheVariants.{InvalidState}
 
@@ -13,13 +11,13 @@ module _ {A : Type 0} (refused : Refusal → A) (call : A) where
   pub state_refused : {valid : Bool} → valid ≡ false → refused InvalidState ≡ on_state valid refused call
   state_refused v = rw v
 
-  pub entry_made : {checked : Outcome} {valid : Bool} → checked ≡ Done → valid ≡ true → call ≡ entry checked valid refused call
+  pub entry_made : {checked : Result ⊤ Refusal} {valid : Bool} → checked ≡ Ok tt → valid ≡ true → call ≡ entry checked valid refused call
   entry_made c v = rw (c, v)
 
-  pub entry_refused : {checked : Outcome} {valid : Bool} → checked ≡ Done → valid ≡ false → refused InvalidState ≡ entry checked valid refused call
+  pub entry_refused : {checked : Result ⊤ Refusal} {valid : Bool} → checked ≡ Ok tt → valid ≡ false → refused InvalidState ≡ entry checked valid refused call
   entry_refused c v = rw (c, v)
 
-  pub settings_refused : {checked : Outcome} (valid : Bool) (why : Refusal) → checked ≡ Refused why → refused why ≡ entry checked valid refused call
+  pub settings_refused : {checked : Result ⊤ Refusal} (valid : Bool) (why : Refusal) → checked ≡ Err why → refused why ≡ entry checked valid refused call
   settings_refused valid why c = rw c
 
 -- what holds of every refusal, and of a call that is made, holds of each call
@@ -28,6 +26,6 @@ module _ {A : Type 0} (P : A → Type 0) (refused : Refusal → A) (call : A) (d
   state_any true made = made refl
   state_any false made = denied InvalidState
 
-  pub entry_any : (checked : Outcome) (valid : Bool) → (checked ≡ Done → valid ≡ true → P call) → P (entry checked valid refused call)
-  entry_any Done valid made = state_any valid (made refl)
-  entry_any (Refused why) valid made = denied why
+  pub entry_any : (checked : Result ⊤ Refusal) (valid : Bool) → (checked ≡ Ok tt → valid ≡ true → P call) → P (entry checked valid refused call)
+  entry_any (Ok _) valid made = state_any valid (made refl)
+  entry_any (Err why) valid made = denied why

@@ -1,5 +1,5 @@
 -- The walk over the headers: what it has passed, and what its parts hand on.
-use Rattle.std.specs.Prelude.{◌≡◌, ℕ, zero, suc, ◌+◌, ◌-◌, ◌<◌, ◌≤◌, Bool, true, false, ◌&&◌, List, length, nat_le}
+use Rattle.std.specs.Prelude.{◌≡◌, ℕ, zero, suc, ◌+◌, ◌-◌, ◌<◌, ◌≤◌, Bool, false, ◌&&◌, List, length, nat_le, Option, None, Some}
 use Rattle.history.specs.Ring.{slot_of}
 use Rattle.history.specs.Headers.{next_at, header_at, words_from, numbered}
 use Rattle.history.specs.declared.headers.Stop.{Stop}
@@ -22,13 +22,11 @@ pub record Past (b : List ℕ) (i n p d at seq prev words : ℕ) : Type 0 where
   pub newest : (j : ℕ) → newest_from (d + j) b i p ≡ newest_from j b at prev
 
 -- a leg of at most k entries: one of their headers is wrong, or some are passed
-pub record Ran (b : List ℕ) (i n p k : ℕ) (r : Leg) : Type 0 where
-  pub stops : r.lost ≡ true → (j : ℕ) → numbered (k + j) b i n ≡ false
-  pub goes : r.lost ≡ false → (0 < r.passed) × (r.passed ≤ k) × Past b i n p r.passed (slot_of (length b) i r.words) r.seq r.prev r.words
+abbrev pub Ran : List ℕ → ℕ → ℕ → ℕ → ℕ → Option Leg → Type 0
+Ran b i n p k None = (j : ℕ) → numbered (k + j) b i n ≡ false
+Ran b i n p k (Some r) = (0 < r.passed) × (r.passed ≤ k) × Past b i n p r.passed (slot_of (length b) i r.words) r.seq r.prev r.words
 
 -- a walk of k entries: one of their headers is wrong or they take too many words, or all are passed
-pub record Walked (b : List ℕ) (w : Stop) (k : ℕ) (r : Stop) : Type 0 where
-  pub stops : r.lost ≡ true → (j : ℕ) → passes (k + j) b w.at w.seq w.words ≡ false
-  pub goes :
-      r.lost ≡ false
-      → (r.at < length b) × (r.words ≤ w.words) × Past b w.at w.seq w.prev k r.at r.seq r.prev (w.words - r.words)
+abbrev pub Walked : List ℕ → Stop → ℕ → Option Stop → Type 0
+Walked b w k None = (j : ℕ) → passes (k + j) b w.at w.seq w.words ≡ false
+Walked b w k (Some r) = (r.at < length b) × (r.words ≤ w.words) × Past b w.at w.seq w.prev k r.at r.seq r.prev (w.words - r.words)

@@ -8,16 +8,16 @@ use Rattle.c_codec.proofs.exports.sirmjold_payload_new.Goals as goal
 pub open-requires : goal.open-requires
 open-requires c = c.if-p-eq2.true
 
-pub returns-in-Payload : goal.returns-in-Payload
+pub returns-in-Ok : goal.returns-in-Ok
 unfolding open_export
-returns-in-Payload c =
-    let o = sym c.new.ensures ∙ c.in-Payload.is in
+returns-in-Ok c =
+    let o = sym c.new.ensures ∙ c.in-Ok.is in
     made _ _ refl (eq-eqb _ 2 c.if-p-eq2.true) (rw (c.open.ensures, o))
 
-pub returns-in-Refused : goal.returns-in-Refused
+pub returns-in-Err : goal.returns-in-Err
 unfolding open_export
-returns-in-Refused c =
-    let o = sym c.new.ensures ∙ c.in-Refused.is in
+returns-in-Err c =
+    let o = sym c.new.ensures ∙ c.in-Err.is in
     made _ _ refl (eq-eqb _ 2 c.if-p-eq2.true) (rw (c.number.ensures, o))
 
 pub returns : goal.returns

@@ -3,8 +3,8 @@ use mathlib.Core.Path.{sym, ap}
 use Rattle.c_state.specs.Receiver.{asked_words}
 use Rattle.c_state.proofs.receiver_part.asked_words.Goals as goal
 
-pub returns-in-Nothing : goal.returns-in-Nothing
-returns-in-Nothing c = sym (ap asked_words c.in-Nothing.is)
+pub returns-in-None : goal.returns-in-None
+returns-in-None c = sym (ap asked_words c.in-None.is)
 
-pub returns-in-Request : goal.returns-in-Request
-returns-in-Request c = sym (ap asked_words c.in-Request.is)
+pub returns-in-Some : goal.returns-in-Some
+returns-in-Some c = sym (ap asked_words c.in-Some.is)

@@ -3,8 +3,8 @@ use mathlib.Core.Path.{sym, ap}
 use Rattle.c_state.specs.Receiver.{timer_words}
 use Rattle.c_state.proofs.receiver_part.timer_words.Goals as goal
 
-pub returns-in-Stopped : goal.returns-in-Stopped
-returns-in-Stopped c = sym (ap timer_words c.in-Stopped.is)
+pub returns-in-None : goal.returns-in-None
+returns-in-None c = sym (ap timer_words c.in-None.is)
 
-pub returns-in-Running : goal.returns-in-Running
-returns-in-Running c = sym (ap timer_words c.in-Running.is)
+pub returns-in-Some : goal.returns-in-Some
+returns-in-Some c = sym (ap timer_words c.in-Some.is)

@@ -2,5 +2,5 @@
 use Rattle.c_state.proofs.Hearings.{polled_stopped}
 use Rattle.c_state.proofs.receiving.poll_valid.Goals as goal
 
-pub returns-in-Stopped : goal.returns-in-Stopped
-returns-in-Stopped c = polled_stopped _ _ c.requires.0 c.requires.1 _ _ c.in-Stopped.is
+pub returns-in-None : goal.returns-in-None
+returns-in-None c = polled_stopped _ _ c.requires.0 c.requires.1 _ _ c.in-None.is

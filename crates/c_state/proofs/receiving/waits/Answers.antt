@@ -16,5 +16,5 @@ rests-requires c = (part_lengths c.args.words.now c.if-words-ne-WORDS.false).0
 pub returns-then-is_valid : goal.returns-then-is_valid
 returns-then-is_valid c = waits_made _ _ _ c.window_in.ensures c.if-words-ne-WORDS.false (sym c.is_valid.ensures ∙ c.if-is_valid.true) _ c.rests.ensures
 
-pub returns : goal.returns
-returns c = waits_invalid _ _ _ c.window_in.ensures (sym c.is_valid.ensures ∙ c.if-is_valid.false)
+pub returns-else-is_valid : goal.returns-else-is_valid
+returns-else-is_valid c = c.if-is_valid.false ∙ waits_invalid _ _ _ c.window_in.ensures (sym c.is_valid.ensures ∙ c.if-is_valid.false)

@@ -14,13 +14,13 @@ load-requires c = figures_small _ (passed _ c.number-number.ensures c.if-number-
 pub store-requires : goal.store-requires
 store-requires c = (c.if-s-eq-WORDS.true, new_narrow _ _ _ _ _ _ _ c.new-started.ensures)
 
-pub returns-in-Done : goal.returns-in-Done
+pub returns-in-Ok : goal.returns-in-Ok
 unfolding new_export
-returns-in-Done c = let q = rw c.load.ensures at c.new-started.ensures in made _ _ (passed _ c.number-number.ensures c.if-number-eq0.true) (eq-eqb _ _ c.if-s-eq-WORDS.true) (new_started c.args.s.now c.args.ring.now _ _ _ q c.in-Done.is _ c.store.ensures)
+returns-in-Ok c = let q = rw c.load.ensures at c.new-started.ensures in made _ _ (passed _ c.number-number.ensures c.if-number-eq0.true) (eq-eqb _ _ c.if-s-eq-WORDS.true) (new_started c.args.s.now c.args.ring.now _ _ _ q c.in-Ok.is _ c.store.ensures)
 
-pub returns-in-Refused : goal.returns-in-Refused
+pub returns-in-Err : goal.returns-in-Err
 unfolding new_export
-returns-in-Refused c = let q = rw c.load.ensures at c.new-started.ensures in made _ _ (passed _ c.number-number.ensures c.if-number-eq0.true) (eq-eqb _ _ c.if-s-eq-WORDS.true) (new_refused c.args.s.now c.args.ring.now _ _ _ q _ c.in-Refused.is (new_kept c.args.ring.now _ _ _ _ _ _ q c.in-Refused.is) _ c.number.ensures)
+returns-in-Err c = let q = rw c.load.ensures at c.new-started.ensures in made _ _ (passed _ c.number-number.ensures c.if-number-eq0.true) (eq-eqb _ _ c.if-s-eq-WORDS.true) (new_refused c.args.s.now c.args.ring.now _ _ _ q _ c.in-Err.is (new_kept c.args.ring.now _ _ _ _ _ _ q c.in-Err.is) _ c.number.ensures)
 
 pub returns-then-number-eq0 : goal.returns-then-number-eq0
 unfolding new_export

@@ -5,8 +5,8 @@ use Rattle.c_window.proofs.exports.start.Goals as goal
 pub store-requires : goal.store-requires
 store-requires c = c.requires
 
-pub returns-in-Window : goal.returns-in-Window
-returns-in-Window c = started_window c.args.started _ _ c.in-Window.is _ c.store.ensures
+pub returns-in-Ok : goal.returns-in-Ok
+returns-in-Ok c = started_window c.args.started _ _ c.in-Ok.is _ c.store.ensures
 
-pub returns-in-Refused : goal.returns-in-Refused
-returns-in-Refused c = started_refused c.args.started _ _ c.in-Refused.is _ c.number.ensures
+pub returns-in-Err : goal.returns-in-Err
+returns-in-Err c = started_refused c.args.started _ _ c.in-Err.is _ c.number.ensures

@@ -1,17 +1,17 @@
--- The tests of the code choose as the definition does.
-use mathlib.Core.Path.{◌∙◌}
+-- The arms of the code are those of the definition.
+use Rattle.std.proofs.Common.{◌∙◌, arith}
 use Rattle.command.proofs.Parsing.{parsed_data, parsed_request, parsed_error, parsed_raw}
 use Rattle.command.proofs.parse.parse.Goals as goal
 
-pub returns-then-code : goal.returns-then-code
-returns-then-code c = parsed_data _ _ _ c.csd.ensures c.if-code.true
+pub returns-in-255 : goal.returns-in-255
+returns-in-255 c = parsed_data _ _ _ c.csd.ensures c.in-255.is
 
-pub returns-then-code-2 : goal.returns-then-code-2
-returns-then-code-2 c = c.request.ensures ∙ parsed_request _ _ c.if-code.false c.if-code-2.true
+pub returns-in-128 : goal.returns-in-128
+returns-in-128 c = c.request.ensures ∙ parsed_request _ _ (λ e. omega (arith, c.in-128.is)) c.in-128.is
 
-pub returns-then-code-3 : goal.returns-then-code-3
-returns-then-code-3 c =
-    c.error.ensures ∙ parsed_error _ _ c.if-code.false c.if-code-2.false c.if-code-3.true
+pub returns-in-129 : goal.returns-in-129
+returns-in-129 c =
+    c.error.ensures ∙ parsed_error _ _ (λ e. omega (arith, c.in-129.is)) (λ e. omega (arith, c.in-129.is)) c.in-129.is
 
-pub returns : goal.returns
-returns c = parsed_raw _ _ c.if-code.false c.if-code-2.false c.if-code-3.false
+pub returns-in_default : goal.returns-in_default
+returns-in_default c = parsed_raw _ _ (λ e. omega arith) (λ e. omega arith) (λ e. omega arith)

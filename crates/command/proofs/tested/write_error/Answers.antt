@@ -5,8 +5,8 @@ use Rattle.command.proofs.tested.write_error.Goals as goal
 
 pub returns-then-is_defined : goal.returns-then-is_defined
 returns-then-is_defined c =
-    c.command.ensures ∙ error_defined _ _ _ c.requires (sym c.is_defined.ensures ∙ c.if-is_defined.true)
+    c.command.ensures ∙ rw c.from.ensures (error_defined _ _ _ c.requires (sym c.is_defined.ensures ∙ c.if-is_defined.true))
 
 pub returns : goal.returns
 returns c =
-    error_undefined _ _ _ c.requires (sym c.is_defined.ensures ∙ c.if-is_defined.false)
+    rw c.refused.ensures (error_undefined _ _ _ c.requires (sym c.is_defined.ensures ∙ c.if-is_defined.false))

@@ -2,8 +2,8 @@
 use Rattle.command_packets.proofs.Parts.{unread_at_lem, unread_refused}
 use Rattle.command_packets.proofs.unread.opened.Goals as goal
 
-pub returns-in-At : goal.returns-in-At
-returns-in-At c = unread_at_lem _ _ _ _ c.in-At.is c.from.ensures
+pub returns-in-Ok : goal.returns-in-Ok
+returns-in-Ok c = unread_at_lem _ _ _ _ c.in-Ok.is c.from.ensures
 
-pub returns-in-Refused : goal.returns-in-Refused
-returns-in-Refused c = unread_refused _ _ _ _ c.in-Refused.is c.from-in-Refused.ensures
+pub returns-in-Err : goal.returns-in-Err
+returns-in-Err c = unread_refused _ _ _ _ c.in-Err.is c.from-in-Err.ensures

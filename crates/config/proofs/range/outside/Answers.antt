@@ -1,4 +1,4 @@
-use Rattle.std.proofs.Common.{◌∙◌, le-leb}
+use Rattle.std.proofs.Common.{le-leb}
 use borrow.Author.Tests.{lt-leb}
 use Rattle.config.specs.inner.Tests.{ltb_not_leb}
 use Rattle.config.proofs.range.outside.Goals as goal

@@ -7,8 +7,8 @@ use Rattle.held_notes.proofs.held.delivered.Goals as goal
 pub returns-then-state-gt15 : goal.returns-then-state-gt15
 returns-then-state-gt15 c = refuses _ _ _ (omega arith) c.refused.ensures
 
-pub returns-in-Delivery : goal.returns-in-Delivery
-returns-in-Delivery c = by_hearing _ c.heard.result (search rules) _ c.in-Delivery.is (omega arith) c.heard.ensures
+pub returns-in-Ok : goal.returns-in-Ok
+returns-in-Ok c = by_hearing _ c.heard.result (search rules) _ c.in-Ok.is (omega arith) c.heard.ensures
 
-pub returns-in-Refused : goal.returns-in-Refused
-returns-in-Refused c = by_hearing _ c.unchanged.result (search rules) _ c.in-Refused.is (omega arith) c.unchanged.ensures
+pub returns-in-Err : goal.returns-in-Err
+returns-in-Err c = by_hearing _ c.unchanged.result (search rules) _ c.in-Err.is (omega arith) c.unchanged.ensures

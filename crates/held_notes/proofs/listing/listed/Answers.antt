@@ -9,12 +9,6 @@ pub loop-note-init : goal.loop-note-init
 unfolding notes_below
 loop-note-init c = (omega arith, refl, refl)
 
-pub holds-requires : goal.holds-requires
-holds-requires c = omega arith
-
-pub overflow_cast-items : goal.overflow_cast-items
-overflow_cast-items c = omega arith
-
 pub offset_bounds-items-count : goal.offset_bounds-items-count
 offset_bounds-items-count c = omega (arith, few c.args.held c.loop-note.note c.loop-note.items c.loop-note.count c.loop-note.invariant (omega arith))
 
@@ -23,12 +17,6 @@ bounds-items-count c = omega (arith, few c.args.held c.loop-note.note c.loop-not
 
 pub overflow_add-count : goal.overflow_add-count
 overflow_add-count c = omega (arith, few c.args.held c.loop-note.note c.loop-note.items c.loop-note.count c.loop-note.invariant (omega arith))
-
-pub overflow_add-note : goal.overflow_add-note
-overflow_add-note c = omega arith
-
-pub loop-note-smaller : goal.loop-note-smaller
-loop-note-smaller c = omega arith
 
 pub loop-note-preserved : goal.loop-note-preserved
 loop-note-preserved c =

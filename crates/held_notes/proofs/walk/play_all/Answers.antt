@@ -1,4 +1,3 @@
-use mathlib.Core.Path.{refl}
 use Prim.Native.Nat.{◌+◌, ◌≤◌}
 use native.Mathlib.Omega.{arith}
 use lib.ListN.{length}
@@ -11,9 +10,6 @@ use Rattle.held_notes.proofs.walk.play_all.Goals.{After-play-next}
 -- the message lies in the words
 fits : (c : After-play-next) → c.loop-after.at + c.message_in-n.result ≤ length (words_of c.args.body.now)
 fits c = step_fits _ _ _ c.message_in-n.ensures c.loop-after.invariant.0
-
-pub loop-after-init : goal.loop-after-init
-loop-after-init c = (omega arith, λ k. refl)
 
 pub returns-then-n-eq0 : goal.returns-then-n-eq0
 returns-then-n-eq0 c =

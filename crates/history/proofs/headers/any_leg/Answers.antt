@@ -1,8 +1,8 @@
-use Rattle.std.proofs.Common.{◌≡◌, ◌+◌, ◌-◌, ◌*◌, ◌/◌, ◌%◌, length, get_or, refl, ◌∙◌, arith}
+use Rattle.std.proofs.Common.{◌≡◌, ℕ, ◌+◌, ◌-◌, ◌*◌, ◌/◌, ◌%◌, length, get_or, refl, ◌∙◌, arith}
 use Rattle.config.specs.Sequence.{turn}
 use Rattle.history.specs.Ring.{slot_of}
 use Rattle.history.specs.inner.Walk.{Past}
-use Rattle.history.proofs.Past.{past_start, past_to, one_more, further, fewer_left, less_number, place_after, number_next, header_right, past_wrong, past_turn, ran_lost, ran_on}
+use Rattle.history.proofs.Past.{past_to, one_more, further, less_number, place_after, number_next, header_right, past_wrong, past_turn, ran_on}
 use Rattle.history.proofs.headers.any_leg.Goals as goal
 use Rattle.history.proofs.headers.any_leg.Goals.{After-wrapping_add_u32-want, After-wrapping_sub_usize, Else-wrapping_sub_usize-gt-MAX_PL}
 
@@ -35,18 +35,9 @@ over c lessened place =
     refl
     c.loop-at.invariant.1
 
-pub loop-at-init : goal.loop-at-init
-loop-at-init c = (omega arith, omega arith, omega arith, omega arith, omega arith, past_start _ _ _ _ _ (omega arith))
-
-pub overflow_cast-ring : goal.overflow_cast-ring
-overflow_cast-ring c = omega (arith, c.type_inv.ring c.loop-at.i)
-
 pub returns-then-wrapping_sub_usize-gt-MAX_PL : goal.returns-then-wrapping_sub_usize-gt-MAX_PL
 returns-then-wrapping_sub_usize-gt-MAX_PL c =
-    ran_lost _ _ _ _ _ c.wrong.ensures (past_wrong _ _ _ _ _ _ _ _ c.loop-at.invariant.5 _ _ c.loop-at.invariant.0 (omega arith) (less (goal.at.returns-then-wrapping_sub_usize-gt-MAX_PL c).After-wrapping_sub_usize) c.if-wrapping_sub_usize-gt-MAX_PL.true (omega arith))
-
-pub loop-at-smaller : goal.loop-at-smaller
-loop-at-smaller c = fewer_left _ _ c.loop-at.invariant.0
+    λ (p : ℕ). (past_wrong _ _ _ _ _ _ _ _ c.loop-at.invariant.5 _ _ c.loop-at.invariant.0 (omega arith) (less (goal.at.returns-then-wrapping_sub_usize-gt-MAX_PL c).After-wrapping_sub_usize) c.if-wrapping_sub_usize-gt-MAX_PL.true (omega arith))
 
 pub loop-at-preserved : goal.loop-at-preserved
 loop-at-preserved c =

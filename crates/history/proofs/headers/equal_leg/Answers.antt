@@ -3,7 +3,7 @@ use Rattle.config.specs.Sequence.{turn}
 use Rattle.history.specs.Ring.{slot_of}
 use Rattle.history.specs.inner.Walk.{Past}
 use Rattle.history.proofs.Slots.{slot_to}
-use Rattle.history.proofs.Past.{past_start, past_to, one_more, further, fewer_left, header_parts, gone_by_lem, number_next, header_right, past_wrong, past_turn, ran_lost, ran_on}
+use Rattle.history.proofs.Past.{past_start, past_to, one_more, further, header_parts, gone_by_lem, number_next, header_right, past_wrong, past_turn, ran_on}
 use Rattle.history.proofs.headers.equal_leg.Goals as goal
 use Rattle.history.proofs.headers.equal_leg.Goals.{Joined-ring-i, then-ring-i, else-ring-i+then-passed-k, else-ring-i+else-passed-k+then-ring-i-2}
 
@@ -54,12 +54,9 @@ ended c =
           rw (w.i-is, w.passed-is, w.header-is) (goes _ _ _ _ _ _ _ _ h _ c.if-pl-gt-MAX_PL.false w.if-ring-i.false w.wrapping_add_u32-header.ensures.value)
     ]
 
-pub overflow_cast-ring : goal.overflow_cast-ring
-overflow_cast-ring c = omega (arith, c.type_inv.ring c.args.at)
-
 pub returns-then-pl-gt-MAX_PL : goal.returns-then-pl-gt-MAX_PL
 returns-then-pl-gt-MAX_PL c =
-    ran_lost _ _ _ _ _ c.wrong.ensures (past_wrong _ _ _ _ _ _ _ _ (past_start _ _ _ 0 _ refl) _ _ c.requires.2 (omega arith) c.wrapping_sub_usize-pl.ensures.value c.if-pl-gt-MAX_PL.true (omega arith))
+    λ (p : ℕ). (past_wrong _ _ _ _ _ _ _ _ (past_start _ _ _ 0 _ refl) _ _ c.requires.2 (omega arith) c.wrapping_sub_usize-pl.ensures.value c.if-pl-gt-MAX_PL.true (omega arith))
 
 pub loop-i-init : goal.loop-i-init
 loop-i-init c =
@@ -73,9 +70,6 @@ loop-i-init c =
       past_start _ _ _ _ _ p.1,
       λ f. absurd (f refl),
     )
-
-pub loop-i-smaller : goal.loop-i-smaller
-loop-i-smaller c = fewer_left _ _ c.loop-i.invariant.0
 
 pub loop-i-preserved : goal.loop-i-preserved
 loop-i-preserved c =

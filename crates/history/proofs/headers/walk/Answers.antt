@@ -1,31 +1,28 @@
-use Rattle.std.proofs.Common.{refl, arith}
-use Rattle.history.proofs.Past.{past_here, walk_stops, walk_short, past_walk, walked_lost, walked_all}
+use Rattle.std.proofs.Common.{arith}
+use Rattle.history.proofs.Past.{walk_stops, walk_short, past_walk, walked_all}
 use Rattle.history.proofs.headers.walk.Goals as goal
 
-pub loop-left-init : goal.loop-left-init
-loop-left-init c = (omega arith, omega arith, omega arith, omega arith, past_here _ _ _ _ _ _)
-
-pub returns-then-out : goal.returns-then-out
-returns-then-out c =
-    walked_lost _ _ _ _ c.lost.ensures (walk_stops _ _ _ _ _ _ _ _ _ _ _ c.loop-left.invariant.4 c.loop-left.invariant.0 ((c.next_leg-out.ensures c.loop-left.prev).stops c.if-out.true))
+pub returns-in_err-out : goal.returns-in_err-out
+returns-in_err-out c =
+    rw c.from_residual.ensures (walk_stops _ _ _ _ _ _ _ _ _ _ _ c.loop-left.invariant.4 c.loop-left.invariant.0 (rw c.in_err-out.was at (c.next_leg.ensures c.loop-left.prev)))
 
 pub returns-then-words-out : goal.returns-then-words-out
 returns-then-words-out c =
-    let r = (c.next_leg-out.ensures c.loop-left.prev).goes c.if-out.false in
-    walked_lost _ _ _ _ c.lost-then-words-out.ensures (walk_short _ _ _ _ _ _ _ _ _ _ _ c.loop-left.invariant.4 c.loop-left.invariant.0 c.loop-left.invariant.3 _ _ _ _ _ r c.if-words-out.true)
+    let r = rw c.in_ok-out.was at (c.next_leg.ensures c.loop-left.prev) in
+    walk_short _ _ _ _ _ _ _ _ _ _ _ c.loop-left.invariant.4 c.loop-left.invariant.0 c.loop-left.invariant.3 _ _ _ _ _ r c.if-words-out.true
 
 pub overflow_sub-left : goal.overflow_sub-left
 overflow_sub-left c =
-    ((c.next_leg-out.ensures 0).goes c.if-out.false).1
+    (rw c.in_ok-out.was at (c.next_leg.ensures 0)).1
 
 pub loop-left-smaller : goal.loop-left-smaller
 loop-left-smaller c =
-    let r = (c.next_leg-out.ensures 0).goes c.if-out.false in
+    let r = rw c.in_ok-out.was at (c.next_leg.ensures 0) in
     omega (arith, r.0, r.1)
 
 pub loop-left-preserved : goal.loop-left-preserved
 loop-left-preserved c =
-    let r = (c.next_leg-out.ensures c.loop-left.prev).goes c.if-out.false in (
+    let r = rw c.in_ok-out.was at (c.next_leg.ensures c.loop-left.prev) in (
       omega (arith, r.1),
       c.slot-at.ensures.1,
       omega arith,
@@ -35,4 +32,4 @@ loop-left-preserved c =
 
 pub returns : goal.returns
 returns c =
-    walked_all _ _ _ _ _ _ _ _ _ c.loop-left-test.false c.loop-left.invariant.1 c.loop-left.invariant.3 c.loop-left.invariant.4 refl
+    walked_all _ _ _ _ _ _ _ _ c.loop-left-test.false c.loop-left.invariant.1 c.loop-left.invariant.3 c.loop-left.invariant.4

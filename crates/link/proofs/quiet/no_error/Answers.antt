@@ -1,9 +1,6 @@
--- By cases.
-use Rattle.link.proofs.Resting.{error_none, error_some}
+-- None is there exactly where no error waits.
+use Rattle.link.proofs.Resting.{none_is}
 use Rattle.link.proofs.quiet.no_error.Goals as goal
 
-pub returns-in-Nothing : goal.returns-in-Nothing
-returns-in-Nothing c = error_none _ c.in-Nothing.is
-
-pub returns-in-Error : goal.returns-in-Error
-returns-in-Error c = error_some _ _ c.in-Error.is
+pub returns : goal.returns
+returns c = none_is _ _ c.is_none.ensures

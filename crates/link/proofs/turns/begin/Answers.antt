@@ -2,8 +2,8 @@
 use Rattle.link.proofs.Turning as turning
 use Rattle.link.proofs.turns.begin.Goals as goal
 
-pub returns-in-Nothing : goal.returns-in-Nothing
-returns-in-Nothing c = turning.begin_none _ _ c.requires c.in-Nothing.is
+pub returns-in-None : goal.returns-in-None
+returns-in-None c = turning.begin_none _ _ c.requires c.in-None.is
 
-pub returns-in-Error : goal.returns-in-Error
-returns-in-Error c = turning.begin_error _ _ _ _ _ c.requires c.in-Error.is c.write-wrote.ensures
+pub returns-in-Some : goal.returns-in-Some
+returns-in-Some c = turning.begin_error _ _ _ _ _ c.requires c.in-Some.is c.write-wrote.ensures

@@ -7,11 +7,11 @@ use Rattle.link_tally.proofs.arriving.hear.Goals as goal
 pub overflow_add-result : goal.overflow_add-result
 overflow_add-result c = omega (arith, c.hands_on.ensures.1, c.requires.handed)
 
-pub overflow_add-result-in-Delivery : goal.overflow_add-result-in-Delivery
-overflow_add-result-in-Delivery c = omega (arith, c.span_loss.ensures.1, c.requires.losses)
+pub overflow_add-result-in-Ok : goal.overflow_add-result-in-Ok
+overflow_add-result-in-Ok c = omega (arith, c.span_loss.ensures.1, c.requires.losses)
 
-pub returns-in-Refused : goal.returns-in-Refused
-returns-in-Refused c = tallies.hear_refused _ _ _ [] _ _ c.on_ump_data-heard.ensures _ c.in-Refused.is
+pub returns-in-Err : goal.returns-in-Err
+returns-in-Err c = tallies.hear_refused _ _ _ [] _ _ c.on_ump_data-heard.ensures _ c.in-Err.is
 
-pub returns-in-Delivery : goal.returns-in-Delivery
-returns-in-Delivery c = tallies.hear_delivered _ _ _ [] _ _ c.on_ump_data-heard.ensures _ c.in-Delivery.is _ _ c.hands_on.ensures.0 c.span_loss.ensures.0
+pub returns-in-Ok : goal.returns-in-Ok
+returns-in-Ok c = tallies.hear_delivered _ _ _ [] _ _ c.on_ump_data-heard.ensures _ c.in-Ok.is _ _ c.hands_on.ensures.0 c.span_loss.ensures.0

@@ -1,17 +1,19 @@
-use mathlib.Core.Path.{◌∙◌}
-use lib.ListN.{length-drop}
-use Rattle.loss_sheet.proofs.Counts.{few_of, figures_none, figures_all, figures_turn}
-use native.Mathlib.Omega.{arith}
+use Rattle.std.proofs.Common.{ℕ, ◌∙◌, ap, sym, refl, take, get_or, add-one, length-take, arith}
+use Rattle.std.proofs.Math.Seq.{take-suc}
+use Rattle.loss_sheet.specs.Figures.{figures, classes, losses, plus}
+use Rattle.loss_sheet.specs.declared.figures.Figures.{Figures}
+use Rattle.loss_sheet.proofs.Counts.{few_of, figures_behind}
 use Rattle.loss_sheet.proofs.figures.of.Goals as goal
 
-pub loop-i-init : goal.loop-i-init
-loop-i-init c = (omega arith, figures_none c.args.words.now)
+pub loop-w-init : goal.loop-w-init
+unfolding figures classes losses
+loop-w-init c = refl
 
 pub add-f-requires : goal.add-f-requires
-add-f-requires c = few_of _ _ c.loop-i.invariant.1 (simp length-drop (omega arith))
+add-f-requires c = few_of _ _ c.loop-w.invariant (simp length-take (omega arith))
 
-pub loop-i-preserved : goal.loop-i-preserved
-loop-i-preserved c = (omega arith, c.add-f.ensures ∙ figures_turn _ _ c.loop-i.i (omega arith) (omega arith) c.loop-i.invariant.1)
-
-pub returns : goal.returns
-returns c = figures_all _ _ c.loop-i.i (omega arith) c.loop-i.invariant.1
+pub loop-w-preserved : goal.loop-w-preserved
+loop-w-preserved c =
+    let i : ℕ = c.loop-w.w-index in
+    let w : ℕ = get_or c.args.words.now i 0 in
+    c.add-f.ensures ∙ ap (λ (f : Figures). plus f w) c.loop-w.invariant ∙ sym (figures_behind (take i c.args.words.now) w) ∙ ap figures (rw add-one (sym (take-suc c.args.words.now i 0 (omega arith))))

@@ -8,8 +8,8 @@ use Rattle.loss_sheet.proofs.sheet.push.Goals as goal
 pub add-requires : goal.add-requires
 add-requires c = few_of _ _ c.requires.1 (simp length-take (omega (arith, c.requires.0.most, c.requires.0.room)))
 
-pub returns-then-len-n : goal.returns-then-len-n
-returns-then-len-n c =
+pub returns-then-sheet : goal.returns-then-sheet
+returns-then-sheet c =
     (push_grow c.args.g.sheet _ _ (omega arith), grow_figures c.args.ring.now c.args.g.sheet.len c.args.w _ _ (omega (arith, c.requires.0.ring)) c.requires.1 c.add.ensures)
 
 pub sub-less-requires : goal.sub-less-requires

@@ -1,18 +1,12 @@
--- Four stores are one run of four bytes.
-use native.Mathlib.Omega.{arith}
-use lib.ListN.{length-set}
-use Rattle.packet.proofs.Splice.{spliced_four}
-use borrow.Author.Rules.{rules}
+-- The part of four bytes is the word's.
+use Rattle.std.proofs.Common.{◌∙◌, ap, arith, ◌≡◌, ◌/◌, ◌%◌, ◌∷◌, [], ℕ}
+use Rattle.packet.proofs.Splice.{part_spliced}
 use Rattle.packet.proofs.bytes.put_word.Goals as goal
 
-pub bounds-buf-at-2 : goal.bounds-buf-at-2
-bounds-buf-at-2 c = simp length-set (omega arith)
-
-pub bounds-buf-at-3 : goal.bounds-buf-at-3
-bounds-buf-at-3 c = simp length-set (omega arith)
-
-pub bounds-buf-at-4 : goal.bounds-buf-at-4
-bounds-buf-at-4 c = simp length-set (omega arith)
-
 pub returns : goal.returns
-returns c = spliced_four _ _ _ _ _ _ (search rules)
+returns c =
+    let high : c.args.w / 16777216 % 256 ≡ c.args.w / 16777216 = omega arith in
+    part_spliced _ _ _ _ _
+    (c.copy_from_slice.ensures.after ∙ c.to_be_bytes.ensures
+    ∙ ap (λ (x : ℕ). x ∷ c.args.w / 65536 % 256 ∷ c.args.w / 256 % 256 ∷ c.args.w % 256 ∷ []) high)
+    (omega arith)

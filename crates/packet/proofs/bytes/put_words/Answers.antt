@@ -1,25 +1,10 @@
-use mathlib.Core.Path.{◌≡◌, refl}
-use Prim.Native.Nat.{◌+◌, ◌*◌, ◌-◌, ◌≤◌}
-use native.Mathlib.Omega.{arith}
-use borrow.Author.Rules.{rules}
-use lib.ListN.{length, drop, length-drop}
-use Rattle.packet.specs.Bytes.{bytes_of, spliced}
-use Rattle.packet.proofs.Words.{words_turn, words_done}
+use Rattle.std.proofs.Common.{arith, refl}
+use Rattle.packet.proofs.Words.{words_none, words_more}
 use Rattle.packet.proofs.bytes.put_words.Goals as goal
 
 pub loop-j-init : goal.loop-j-init
-loop-j-init c = (omega arith, search rules, refl, refl)
-
-pub put_word-requires : goal.put_word-requires
-put_word-requires c = omega arith
+loop-j-init c = words_none _ _ (omega arith)
 
 pub loop-j-preserved : goal.loop-j-preserved
-loop-j-preserved c = (
-  omega arith,
-  omega arith,
-  omega arith,
-  words_turn _ _ _ _ _ _ c.loop-j-test.true (simp length-drop (omega arith)) c.put_word.ensures c.loop-j.invariant.3,
-)
-
-pub returns : goal.returns
-returns c = words_done _ _ _ _ _ (omega arith) c.loop-j-test.false c.loop-j.invariant.3
+loop-j-preserved c =
+    words_more c.args.buf.now c.loop-j.buf _ c.args.words.now c.args.at c.loop-j.j _ refl c.loop-j-test.true c.requires c.loop-j.invariant c.put_word.ensures

@@ -1,7 +1,6 @@
 -- The signature test chooses as the definition does.
 use mathlib.Core.Path.{sym, ◌∙◌}
 use Rattle.packet.proofs.Reading.{open_signed, open_unsigned}
-use borrow.Author.Rules.{rules}
 use Rattle.packet.proofs.cursor.command_packets.Goals as goal
 
 pub returns-then-is_signed : goal.returns-then-is_signed

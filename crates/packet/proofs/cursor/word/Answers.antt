@@ -1,5 +1,4 @@
 -- A word is there exactly when its four bytes are.
-use native.Mathlib.Omega.{arith}
 use Rattle.packet.proofs.Reading.{word_here, word_absent}
 use borrow.Author.Rules.{rules}
 use Rattle.packet.proofs.cursor.word.Goals as goal

@@ -1,17 +1,11 @@
 -- What fits is known in words, so each test chooses as the definition does.
-use native.Mathlib.Omega.{arith}
-use lib.ListN.{length-append}
+use Rattle.std.proofs.Common.{arith, length-append}
 use Rattle.packet.proofs.Written.{written_no_fit, written_long, written_done}
-use borrow.Author.Rules.{rules}
 use Rattle.packet.proofs.tested.command_runs.Goals as goal
 
-pub returns-then-free-first : goal.returns-then-free-first
-returns-then-free-first c =
+pub returns-then-free_words-n : goal.returns-then-free_words-n
+returns-then-free_words-n c =
     written_no_fit c.args.p _ _ c.requires _ c.refuse_fit.ensures (simp length-append (omega arith))
-
-pub returns-then-free-first-2 : goal.returns-then-free-first-2
-returns-then-free-first-2 c =
-    written_no_fit c.args.p _ _ c.requires _ c.refuse_fit-then-free-first-2.ensures (simp length-append (omega arith))
 
 pub returns-then-n-gt255 : goal.returns-then-n-gt255
 returns-then-n-gt255 c =

@@ -1,9 +1,7 @@
 -- Header and both runs of words, stored after what the payload begins with, are the command's bytes.
-use mathlib.Core.Path.{◌∙◌}
 use native.Mathlib.Omega.{arith}
 use lib.ListN.{length-append}
 use Rattle.packet.proofs.Written.{placed_runs}
-use borrow.Author.Rules.{rules}
 use Rattle.packet.proofs.tested.put_runs.Goals as goal
 
 pub returns : goal.returns

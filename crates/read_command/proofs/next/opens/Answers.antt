@@ -4,14 +4,14 @@ use borrow.Author.Tests.{eq-eqb, ne_eqb}
 use Rattle.read_command.proofs.Found.{opened_signed, refused_unsigned}
 use Rattle.read_command.proofs.next.opens.Goals as goal
 
-pub returns-in-At : goal.returns-in-At
-returns-in-At c =
-    let e = opened_signed _ _ (sym c.command_packets.ensures ∙ c.in-At.is) in
+pub returns-in-Ok : goal.returns-in-Ok
+returns-in-Ok c =
+    let e = opened_signed _ _ (sym c.command_packets.ensures ∙ c.in-Ok.is) in
     rw (eq-eqb _ 0 c.if-at-eq0.true, e)
 
-pub returns-in-Refused : goal.returns-in-Refused
-returns-in-Refused c =
-    let e = refused_unsigned _ _ (sym c.command_packets.ensures ∙ c.in-Refused.is) in
+pub returns-in-Err : goal.returns-in-Err
+returns-in-Err c =
+    let e = refused_unsigned _ _ (sym c.command_packets.ensures ∙ c.in-Err.is) in
     rw (eq-eqb _ 0 c.if-at-eq0.true, e)
 
 pub returns : goal.returns

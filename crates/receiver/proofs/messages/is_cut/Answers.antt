@@ -7,5 +7,5 @@ pub returns-then-delivers : goal.returns-then-delivers
 returns-then-delivers c =
     cut_part _ _ (sym c.delivers.ensures ∙ c.if-delivers.true) _ c.whole_words_in.ensures
 
-pub returns : goal.returns
-returns c = cut_none _ _ (sym c.delivers.ensures ∙ c.if-delivers.false)
+pub returns-else-delivers : goal.returns-else-delivers
+returns-else-delivers c = c.if-delivers.false ∙ cut_none _ _ (sym c.delivers.ensures ∙ c.if-delivers.false)

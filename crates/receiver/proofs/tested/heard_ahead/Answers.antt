@@ -4,7 +4,6 @@ use Rattle.window.specs.Arrival.{accept_of}
 use Rattle.window.specs.declared.window.Arrival.{Arrival}
 use Rattle.window.proofs.Accepts.{taken_is}
 use Rattle.receiver.proofs.Validity.{valid_window, valid_taken}
-use Rattle.receiver.proofs.Settled.{heard_of_lem}
 use Rattle.receiver.proofs.tested.heard_ahead.Goals as goal
 use Rattle.receiver.proofs.tested.heard_ahead.Goals.{After-class_ahead-class}
 
@@ -20,6 +19,3 @@ moved_to-window-requires c = (valid_window _ c.requires.0, c.requires.1)
 
 pub settled-requires : goal.settled-requires
 settled-requires c = valid_taken _ (valid_window _ c.requires.0) _ _ (taken (goal.at.settled-requires c).After-class_ahead-class)
-
-pub returns : goal.returns
-returns c = heard_of_lem _ _ _ _ _ _ _ (taken (goal.at.returns c).After-class_ahead-class) c.settled.ensures c.gap.ensures

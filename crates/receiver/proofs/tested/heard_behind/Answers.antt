@@ -1,6 +1,5 @@
--- The window takes the number and stays valid; the rest follows from its class.
+-- The window takes the number and stays valid.
 use Rattle.receiver.proofs.Validity.{valid_window, valid_taken}
-use Rattle.receiver.proofs.Settled.{heard_of_lem}
 use Rattle.receiver.proofs.tested.heard_behind.Goals as goal
 
 pub accept_behind-taken-requires : goal.accept_behind-taken-requires
@@ -8,7 +7,3 @@ accept_behind-taken-requires c = (valid_window _ c.requires.0, c.requires.1)
 
 pub settled-requires : goal.settled-requires
 settled-requires c = valid_taken _ (valid_window _ c.requires.0) _ _ c.accept_behind-taken.ensures
-
-pub returns : goal.returns
-returns c =
-    heard_of_lem _ _ _ _ _ _ _ c.accept_behind-taken.ensures c.settled.ensures c.gap.ensures

@@ -1,7 +1,7 @@
 -- What is left of the row from here, after the commands that were written, is the whole row.
 use mathlib.Core.Path.{◌≡◌}
 use mathlib.Core.Bool.{true}
-use Prim.Native.Nat.{◌-◌, ◌≤◌, ◌<◌}
+use Prim.Native.Nat.{◌-◌, ◌<◌}
 use lib.ListN.{length}
 use Rattle.packet.specs.Write.{valid_of as payload_valid}
 use Rattle.history.specs.Headers.{entries_from}
@@ -12,12 +12,8 @@ use Rattle.rows.proofs.tested.write_entries.Given as goal
 
 abbrev pub invariant-loop-n : goal.invariant-loop-n
 invariant-loop-n l =
-    (l.n ≤ l.k)
-    × (l.i < length l.ring)
+    (l.i < length l.ring)
     × Short (entries_from (l.k - l.n) l.ring l.i)
     × (payload_valid l.q (length l.buf) ≡ true)
     × (length l.buf ≡ length l.initial.buf)
     × (also l.n (row_of l.q l.buf (packets_from (l.k - l.n) l.ring l.i)) ≡ row_of l.initial.q l.initial.buf (packets_from l.k l.ring l.at))
-
-abbrev pub decreases-loop-n : goal.decreases-loop-n
-decreases-loop-n l = l.k - l.n

@@ -1,7 +1,5 @@
--- From every command on, pushing those that are left gives what pushing all gives.
-use mathlib.Core.Path.{◌≡◌}
-use Prim.Native.Nat.{◌-◌, ◌≤◌, ◌<◌}
-use lib.ListN.{length, drop}
+-- Pushing those that are left gives what pushing all gives.
+use Rattle.std.proofs.Common.{◌≡◌, ◌<◌, length}
 use Rattle.config.specs.Sequence.{turn}
 use Rattle.history.specs.State.{Good}
 use Rattle.fronts.specs.Commands.{commands_of}
@@ -9,14 +7,14 @@ use Rattle.sender.specs.Queueing.{pushed_all}
 use Rattle.fronts.proofs.Fronts.{Divides}
 use Rattle.sender.proofs.tested.push_all.Given as goal
 
-abbrev pub invariant-loop-at : goal.invariant-loop-at
-invariant-loop-at l =
-    (l.at ≤ length l.words)
-    × Good l.g l.ring
-    × (l.g.oldest < turn)
-    × Divides l.max (drop l.at l.words)
-    × (pushed_all l.g l.ring (commands_of l.max (drop l.at l.words)) ≡ pushed_all l.initial.g l.initial.ring (commands_of l.max l.words))
-    × (length l.ring ≡ length l.initial.ring)
+abbrev pub invariant-loop-rest : goal.invariant-loop-rest
+invariant-loop-rest l = record {
+  good : Good l.g l.ring;
+  oldest : l.g.oldest < turn;
+  divides : Divides l.max l.rest;
+  pushed : pushed_all l.g l.ring (commands_of l.max l.rest) ≡ pushed_all l.initial.g l.initial.ring (commands_of l.max l.words);
+  ring : length l.ring ≡ length l.initial.ring;
+}
 
-abbrev pub decreases-loop-at : goal.decreases-loop-at
-decreases-loop-at l = length l.words - l.at
+abbrev pub decreases-loop-rest : goal.decreases-loop-rest
+decreases-loop-rest l = length l.rest

@@ -14,13 +14,13 @@ commands-commands-requires c =
     let d = divides_at _ c.args.words.now _ (split_divides _ _ _ _ (check_divides _ _ c.requires.2) c.front_words-split.ensures.0) in
     (d.whole, d.small)
 
-pub overflow_sub-history : goal.overflow_sub-history
-overflow_sub-history c =
+pub overflow_sub-s : goal.overflow_sub-s
+overflow_sub-s c =
     valid_words _ _ c.requires.0
 
-pub returns-then-history-s : goal.returns-then-history-s
-returns-then-history-s c =
-    placed_full _ _ _ _ _ _ _ c.room.ensures c.front_words-split.ensures.0 c.commands-commands.ensures.0 c.if-history-s.true
+pub returns-then-s-need : goal.returns-then-s-need
+returns-then-s-need c =
+    placed_full _ _ _ _ _ _ _ c.room.ensures c.front_words-split.ensures.0 c.commands-commands.ensures.0 c.if-s-need.true
 
 pub slice_bounds-join-end : goal.slice_bounds-join-end
 slice_bounds-join-end c =
@@ -32,7 +32,7 @@ join-joined-requires c =
 
 pub offset_bounds-words-split-2 : goal.offset_bounds-words-split-2
 offset_bounds-words-split-2 c =
-    omega (arith, c.front_words-split.ensures, valid_small _ _ c.requires.0, c.if-history-s.false)
+    omega (arith, c.front_words-split.ensures, valid_small _ _ c.requires.0, c.if-s-need.false)
 
 pub slice_bounds-push_all-count : goal.slice_bounds-push_all-count
 slice_bounds-push_all-count c = c.front_words-split.ensures.1
@@ -44,17 +44,17 @@ slice_bounds-push_all-count c = c.front_words-split.ensures.1
 pub push_all-all-requires : goal.push_all-all-requires
 push_all-all-requires c =
     let d = divides_at _ c.args.words.now _ (split_divides _ _ _ _ (check_divides _ _ c.requires.2) c.front_words-split.ensures.0) in
-    let g = join_good _ _ _ c.requires.0 c.requires.1 _ _ c.room.ensures c.front_words-split.ensures.2 (omega arith) _ _ _ (omega (arith, valid_words _ _ c.requires.0, c.front_words-split.ensures, c.if-history-s.false)) c.join-joined.ensures in
+    let g = join_good _ _ _ c.requires.0 c.requires.1 _ _ c.room.ensures c.front_words-split.ensures.2 (omega arith) _ _ _ (omega (arith, valid_words _ _ c.requires.0, c.front_words-split.ensures, c.if-s-need.false)) c.join-joined.ensures in
     (g.0, g.1, c.requires.1, d.whole, d.small)
 
 pub overflow_add-result : goal.overflow_add-result
 overflow_add-result c =
-    omega (arith, valid_small _ _ c.requires.0, c.if-history-s.false)
+    omega (arith, valid_small _ _ c.requires.0, c.if-s-need.false)
 
 pub overflow_add-result-2 : goal.overflow_add-result-2
 overflow_add-result-2 c =
-    omega (arith, valid_words _ _ c.requires.0, valid_small _ _ c.requires.0, c.if-history-s.false)
+    omega (arith, valid_words _ _ c.requires.0, valid_small _ _ c.requires.0, c.if-s-need.false)
 
 pub returns : goal.returns
 returns c =
-    placed_queued c.args.s c.args.ring.now c.args.max c.args.words.now _ _ _ c.room.ensures c.front_words-split.ensures.0 c.commands-commands.ensures.0 c.join-joined.result c.push_all-all.result _ _ (check_divides _ _ c.requires.2).whole c.if-history-s.false c.join-joined.ensures c.push_all-all.ensures
+    placed_queued c.args.s c.args.ring.now c.args.max c.args.words.now _ _ _ c.room.ensures c.front_words-split.ensures.0 c.commands-commands.ensures.0 c.join-joined.result c.push_all-all.result _ _ (check_divides _ _ c.requires.2).whole c.if-s-need.false c.join-joined.ensures c.push_all-all.ensures

@@ -8,12 +8,12 @@ returns-then-words-eq0 c = sent_none _ _ _ _ c.if-words-eq0.true
 
 pub queue_words-requires : goal.queue_words-requires
 queue_words-requires c =
-    (c.requires.0, settings_few _ c.requires.1, sym c.check.ensures ∙ c.in-Done.is)
+    (c.requires.0, settings_few _ c.requires.1, sym c.check.ensures ∙ c.in-Ok.is)
 
-pub returns-in-Refused : goal.returns-in-Refused
-returns-in-Refused c =
-    sent_refused _ _ _ _ c.if-words-eq0.false _ (sym c.check.ensures ∙ c.in-Refused.is)
+pub returns-in-Err : goal.returns-in-Err
+returns-in-Err c =
+    sent_refused _ _ _ _ c.if-words-eq0.false _ (sym c.check.ensures ∙ c.in-Err.is)
 
-pub returns-in-Done : goal.returns-in-Done
-returns-in-Done c =
-    c.queue_words.ensures ∙ sent_placed _ _ _ _ c.if-words-eq0.false (sym c.check.ensures ∙ c.in-Done.is)
+pub returns-in-Ok : goal.returns-in-Ok
+returns-in-Ok c =
+    c.queue_words.ensures ∙ sent_placed _ _ _ _ c.if-words-eq0.false (sym c.check.ensures ∙ c.in-Ok.is)

@@ -1,18 +1,11 @@
--- Four stores are one run of four bytes.
-use native.Mathlib.Omega.{arith}
-use lib.ListN.{length-set}
-use Rattle.sheet_blocks.proofs.Splice.{spliced_four}
-use borrow.Author.Rules.{rules}
+-- The word's four bytes, the highest first, in the place of four.
+use Rattle.std.proofs.Common.{◌≡◌, ℕ, ◌/◌, ◌%◌, refl, ap, ◌∙◌, ◌∷◌, [], arith}
+use Rattle.std.proofs.lemmas.Slice.{put_mid-paste}
+use Rattle.sheet_blocks.specs.Bytes.{word_bytes, spliced}
 use Rattle.sheet_blocks.proofs.bytes.put_word.Goals as goal
 
-pub bounds-buf-at-2 : goal.bounds-buf-at-2
-bounds-buf-at-2 c = simp length-set (omega arith)
-
-pub bounds-buf-at-3 : goal.bounds-buf-at-3
-bounds-buf-at-3 c = simp length-set (omega arith)
-
-pub bounds-buf-at-4 : goal.bounds-buf-at-4
-bounds-buf-at-4 c = simp length-set (omega arith)
-
 pub returns : goal.returns
-returns c = spliced_four _ _ _ _ _ _ (search rules)
+unfolding spliced
+returns c =
+    let e : c.args.w / 16777216 % 256 ≡ c.args.w / 16777216 = omega arith in
+    put_mid-paste c.args.at _ c.args.buf.now _ (word_bytes c.args.w []) 4 (c.copy_from_slice.ensures.after ∙ c.to_be_bytes.ensures ∙ ap (λ (x : ℕ). x ∷ c.args.w / 65536 % 256 ∷ c.args.w / 256 % 256 ∷ c.args.w % 256 ∷ []) e) (omega arith) refl

@@ -1,7 +1,6 @@
 -- One test, then the columns.
 use Rattle.sheet_blocks.proofs.Blocks.{stored_fit}
 use Rattle.sheet_blocks.proofs.Stored.{stored_not, stored_done}
-use borrow.Author.Rules.{rules}
 use Rattle.sheet_blocks.proofs.columns.columns.Goals as goal
 
 pub put_columns-requires : goal.put_columns-requires

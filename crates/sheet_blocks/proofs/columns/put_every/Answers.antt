@@ -1,30 +1,13 @@
-use mathlib.Core.Path.{◌≡◌, refl}
-use Prim.Native.Nat.{◌+◌, ◌*◌, ◌-◌, ◌≤◌}
-use lib.ListN.{length, length-set}
-use Rattle.sheet_blocks.specs.Bytes.{spliced}
-use Rattle.sheet_blocks.specs.Columns.{every_of}
-use Rattle.sheet_blocks.proofs.Stored.{pred_mul, every_turn, every_done}
-use borrow.Author.Rules.{rules}
-use native.Mathlib.Omega.{arith}
+use Rattle.std.proofs.Common.{◌≡◌, ◌+◌, ◌*◌, ◌-◌, arith}
+use Rattle.sheet_blocks.proofs.Stored.{every_turn, every_done}
 use Rattle.sheet_blocks.proofs.columns.put_every.Goals as goal
 
-pub loop-left-init : goal.loop-left-init
-loop-left-init c = (refl, omega arith, refl, refl, refl)
-
-pub bounds-from-i : goal.bounds-from-i
-bounds-from-i c = omega (arith, pred_mul c.loop-left.left c.args.step (omega arith))
-
-pub overflow_add-i : goal.overflow_add-i
-overflow_add-i c = omega (arith, pred_mul c.loop-left.left c.args.step (omega arith))
-
-pub loop-left-preserved : goal.loop-left-preserved
-loop-left-preserved c = (
-  omega arith,
-  omega arith,
-  simp length-set (omega arith),
-  omega (arith, pred_mul c.loop-left.left c.args.step (omega arith)),
-  every_turn c.loop-left.out c.args.from.now _ c.loop-left.o c.loop-left.i c.args.step c.loop-left.left (omega arith) (omega arith) c.loop-left.invariant.4,
-)
+pub loop-j-preserved : goal.loop-j-preserved
+loop-j-preserved c =
+    let n : c.args.at + (c.loop-j.j + 1) ≡ c.args.at + c.loop-j.j + 1 = omega arith in
+    let k : c.args.k - (c.loop-j.j + 1) ≡ c.args.k - c.loop-j.j - 1 = omega arith in
+    let i : c.args.first + (c.loop-j.j + 1) * c.args.step ≡ c.args.first + c.loop-j.j * c.args.step + c.args.step = grind arith in
+    rw (n, k, i) (every_turn c.loop-j.out c.args.from.now _ (c.args.at + c.loop-j.j) (c.args.first + c.loop-j.j * c.args.step) c.args.step (c.args.k - c.loop-j.j) (omega arith) (omega arith) c.loop-j.invariant)
 
 pub returns : goal.returns
-returns c = every_done c.loop-left.out _ _ c.loop-left.o c.loop-left.i _ c.loop-left.left (omega arith) (omega arith) c.loop-left.invariant.4
+returns c = every_done c.loop-j.out _ _ (c.args.at + c.loop-j.j) (c.args.first + c.loop-j.j * c.args.step) _ (c.args.k - c.loop-j.j) (omega arith) (omega arith) c.loop-j.invariant

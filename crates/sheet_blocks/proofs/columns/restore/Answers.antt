@@ -1,7 +1,6 @@
 -- A block is stored by column with rows and columns exchanged.
 use Rattle.sheet_blocks.proofs.Blocks.{restored_fit}
 use Rattle.sheet_blocks.proofs.Stored.{restored_not, restored_done}
-use borrow.Author.Rules.{rules}
 use Rattle.sheet_blocks.proofs.columns.restore.Goals as goal
 
 pub put_columns-requires : goal.put_columns-requires

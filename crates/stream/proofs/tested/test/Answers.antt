@@ -1,5 +1,5 @@
 -- The receiver's test, then the sender's, which hands on the place.
-use mathlib.Core.Path.{refl, sym, ◌∙◌}
+use Rattle.std.proofs.Common.{sym, ◌∙◌}
 use Rattle.history.proofs.StateTest.{answers_no}
 use Rattle.stream.proofs.Validity.{test_receiver, test_sender}
 use Rattle.stream.proofs.tested.test.Goals as goal
@@ -13,4 +13,4 @@ returns-then-is_valid c =
     }
 
 pub returns : goal.returns
-returns c = answers_no _ _ _ _ _ _ refl (test_receiver _ _ (sym c.is_valid.ensures ∙ c.if-is_valid.false))
+returns c = answers_no _ _ _ _ _ (test_receiver _ _ (sym c.is_valid.ensures ∙ c.if-is_valid.false))

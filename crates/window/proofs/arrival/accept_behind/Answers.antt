@@ -18,9 +18,9 @@ returns-then-processed_at c =
 pub overflow_sub-back : goal.overflow_sub-back
 overflow_sub-back c = let i = unprocessed_in _ _ (late (goal.at.overflow_sub-back c).Else-processed_at) in omega arith
 
-pub with-late-requires : goal.with-late-requires
-with-late-requires c = let i = unprocessed_in _ _ (late (goal.at.with-late-requires c).Else-processed_at) in omega arith
+pub with-requires : goal.with-requires
+with-requires c = let i = unprocessed_in _ _ (late (goal.at.with-requires c).Else-processed_at) in omega arith
 
 pub returns : goal.returns
 returns c =
-    behind_late _ _ c.distance-back.ensures c.requires.1 (late (goal.at.returns c).Else-processed_at) c.with-late.ensures
+    behind_late _ _ c.distance-back.ensures c.requires.1 (late (goal.at.returns c).Else-processed_at) c.with.ensures

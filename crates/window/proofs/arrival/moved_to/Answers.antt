@@ -12,5 +12,5 @@ moved-up-requires c =
 
 pub returns : goal.returns
 returns c =
-    new_window_is _ _ _ (moved_set_is c.args.w c.lowest.ensures c.requires.0.most c.distance.result c.moved-up.ensures c.both-next.ensures)
+    new_window_is _ _ _ (moved_set_is c.args.w c.lowest.ensures c.requires.0.most c.distance.result c.moved-up.ensures c.both.ensures)
     ∙ ap (λ (t : Arrival). t.window) (accept_new_is _ _ c.distance.ensures c.requires.1)

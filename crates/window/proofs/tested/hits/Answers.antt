@@ -1,4 +1,4 @@
-use mathlib.Core.Path.{◌≡◌, sym, ap, ◌∙◌, subst}
+use mathlib.Core.Path.{sym, ap, ◌∙◌, subst}
 use Prim.Native.Nat.{ℕ, ◌+◌, ◌^◌, ◌<◌}
 use native.Mathlib.Omega.{arith}
 use Rattle.window.specs.Set.{val, set_of}
@@ -9,23 +9,12 @@ use Rattle.window.proofs.tested.hits.Goals as goal
 
 pub loop-k-init : goal.loop-k-init
 unfolding hits_of
-loop-k-init c = (omega arith, c.none-found.ensures)
+loop-k-init c = c.none-found.ensures
 
 pub hit-found-requires : goal.hit-found-requires
 hit-found-requires c =
-    (omega arith, subst (λ (x : ℕ). x < 2 ^ c.loop-k.k) (sym (val_is _ _ c.loop-k.invariant.1)) (hits_lt c.args.range c.args.h (val c.args.m) c.loop-k.k))
-
-pub overflow_add-k : goal.overflow_add-k
-overflow_add-k c = omega arith
-
-pub loop-k-smaller : goal.loop-k-smaller
-loop-k-smaller c = omega arith
+    (omega arith, subst (λ (x : ℕ). x < 2 ^ c.loop-k.k) (sym (val_is _ _ c.loop-k.invariant)) (hits_lt c.args.range c.args.h (val c.args.m) c.loop-k.k))
 
 pub loop-k-preserved : goal.loop-k-preserved
 loop-k-preserved c =
-    (omega arith, c.hit-found.ensures ∙ ap set_of (ap (λ (x : ℕ). x + hit_at c.args.range c.args.h (val c.args.m) c.loop-k.k) (val_is _ _ c.loop-k.invariant.1) ∙ hits_more c.args.range c.args.h (val c.args.m) c.loop-k.k))
-
-pub returns : goal.returns
-returns c =
-    let e : c.loop-k.k ≡ c.args.size = omega arith in
-    c.loop-k.invariant.1 ∙ ap (λ (x : ℕ). set_of (hits_of c.args.range c.args.h (val c.args.m) x)) e
+    c.hit-found.ensures ∙ ap set_of (ap (λ (x : ℕ). x + hit_at c.args.range c.args.h (val c.args.m) c.loop-k.k) (val_is _ _ c.loop-k.invariant) ∙ hits_more c.args.range c.args.h (val c.args.m) c.loop-k.k)

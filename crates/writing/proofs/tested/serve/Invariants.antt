@@ -9,14 +9,14 @@ use Rattle.sender.specs.Requests.{with_queue}
 use Rattle.writing.specs.Writing.{served_also, served_in, served_of}
 use Rattle.writing.proofs.tested.serve.Given as goal
 
-abbrev pub invariant-loop-left : goal.invariant-loop-left
-invariant-loop-left l =
-    (l.left ≡ l.queue.len)
-    × Fit l.queue
-    × (payload_valid l.q (length l.buf) ≡ true)
-    × (length l.buf ≡ length l.initial.buf)
-    × (start_of l.initial.q + 4 * l.n ≤ start_of l.q)
-    × (served_also l.n (served_in l.left (with_queue l.s l.queue) l.ring l.q l.buf) ≡ served_of l.s l.ring l.initial.q l.initial.buf)
+abbrev pub invariant-loop-queue : goal.invariant-loop-queue
+invariant-loop-queue l = record {
+  fit : Fit l.queue;
+  payload : payload_valid l.q (length l.buf) ≡ true;
+  buf : length l.buf ≡ length l.initial.buf;
+  few : start_of l.initial.q + 4 * l.n ≤ start_of l.q;
+  served : served_also l.n (served_in l.queue.len (with_queue l.s l.queue) l.ring l.q l.buf) ≡ served_of l.s l.ring l.initial.q l.initial.buf;
+}
 
-abbrev pub decreases-loop-left : goal.decreases-loop-left
-decreases-loop-left l = l.left
+abbrev pub decreases-loop-queue : goal.decreases-loop-queue
+decreases-loop-queue l = l.queue.len

@@ -7,4 +7,4 @@ pub write_error-requires : goal.write_error-requires
 write_error-requires c = sym c.is_valid.ensures ∙ c.if-is_valid.true
 
 pub returns : goal.returns
-returns c = error_invalid _ _ _ (sym c.is_valid.ensures ∙ c.if-is_valid.false)
+returns c = rw c.refused.ensures (error_invalid _ _ _ (sym c.is_valid.ensures ∙ c.if-is_valid.false))

@@ -7,4 +7,4 @@ pub write_request-requires : goal.write_request-requires
 write_request-requires c = sym c.is_valid.ensures ∙ c.if-is_valid.true
 
 pub returns : goal.returns
-returns c = written_invalid _ _ _ (sym c.is_valid.ensures ∙ c.if-is_valid.false)
+returns c = rw c.refused.ensures (written_invalid _ _ _ (sym c.is_valid.ensures ∙ c.if-is_valid.false))

@@ -1,6 +1,6 @@
 -- Each answer of `check_of` is reached by the tests that the code has passed.
 use Rattle.config.proofs.Checks.{refused_words, refused_interval, refused_growth, passed}
-use Rattle.std.proofs.Common.{sym, ◌∙◌, rules}
+use Rattle.std.proofs.Common.{sym, ◌∙◌}
 use Rattle.config.proofs.settings.StreamConfig.check.Goals as goal
 
 pub returns-then-outside : goal.returns-then-outside

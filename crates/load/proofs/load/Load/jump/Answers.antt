@@ -8,17 +8,11 @@ pub loop-left-init : goal.loop-left-init
 unfolding mapped next
 loop-left-init c = (refl, omega arith, few _ (omega arith))
 
-pub overflow_add-rounds : goal.overflow_add-rounds
-overflow_add-rounds c = omega (arith, c.loop-left.invariant.1, c.loop-left.invariant.2)
-
-pub loop-left-smaller : goal.loop-left-smaller
-loop-left-smaller c = omega arith
-
 pub loop-left-preserved : goal.loop-left-preserved
 unfolding mapped
 loop-left-preserved c =
     let h = digits_half c.loop-left.left c.loop-left-test.true in
-    (rw (c.times-square.ensures, c.mapped-b.ensures, c.if_odd-x.ensures) (round c.loop-left.a c.loop-left.b c.loop-left.x c.loop-left.left ∙ c.loop-left.invariant.0), omega (arith, h, c.loop-left.invariant.1), c.loop-left.invariant.2)
+    (rw (c.mapped-b.ensures, c.if_odd-x.ensures) (round c.loop-left.a c.loop-left.b c.loop-left.x c.loop-left.left ∙ c.loop-left.invariant.0), omega (arith, h, c.loop-left.invariant.1), c.loop-left.invariant.2)
 
 pub returns : goal.returns
 returns c =

@@ -1,7 +1,6 @@
 -- The state test, and then the write over a tested state.
 use mathlib.Core.Path.{sym, ◌∙◌}
 use Rattle.packet.proofs.Written.{written_invalid}
-use borrow.Author.Rules.{rules}
 use Rattle.packet.proofs.writer.PayloadWriter.command.Goals as goal
 
 pub command-requires : goal.command-requires

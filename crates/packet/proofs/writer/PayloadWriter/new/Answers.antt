@@ -1,7 +1,6 @@
 -- The test of the limit chooses as the definition does.
 use mathlib.Core.Path.{sym, ◌∙◌}
 use Rattle.packet.specs.Write.{opened_of}
-use borrow.Author.Rules.{rules}
 use Rattle.packet.proofs.writer.PayloadWriter.new.Goals as goal
 
 pub returns-then-outside : goal.returns-then-outside

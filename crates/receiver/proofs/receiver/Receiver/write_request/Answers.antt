@@ -1,25 +1,10 @@
--- Settings, receiver and payload are tested, and the rest is `tested::write_request`.
+-- What a test refuses changes nothing.
 use mathlib.Core.Path.{sym, ◌∙◌}
-use Rattle.receiver.proofs.Answers.{take_settings, take_state, take_payload, take_made}
+use Rattle.receiver.specs.Receiver.{taken_of}
+use Rattle.receiver.specs.Answers.{request_refused, take_answer}
+use Rattle.receiver.proofs.Answers.{denied}
 use Rattle.receiver.proofs.receiver.Receiver.write_request.Goals as goal
 
-pub write_request-requires : goal.write_request-requires
-write_request-requires c =
-    (sym c.is_valid.ensures ∙ c.if-is_valid.true, sym c.is_valid-then-is_valid.ensures ∙ c.if-is_valid-2.true)
-
-pub returns-then-is_valid-2 : goal.returns-then-is_valid-2
-returns-then-is_valid-2 c =
-    c.write_request.ensures
-    ∙ take_made c.args.self c.args.cfg c.args.p _ (sym c.check.ensures ∙ c.in-Done.is) (sym c.is_valid.ensures ∙ c.if-is_valid.true) (sym c.is_valid-then-is_valid.ensures ∙ c.if-is_valid-2.true)
-
-pub returns-in-Refused : goal.returns-in-Refused
-returns-in-Refused c =
-    take_settings c.args.self c.args.cfg c.args.p _ _ (sym c.check.ensures ∙ c.in-Refused.is)
-
-pub returns-else-is_valid-2 : goal.returns-else-is_valid-2
-returns-else-is_valid-2 c =
-    take_payload c.args.self c.args.cfg c.args.p _ (sym c.check.ensures ∙ c.in-Done.is) (sym c.is_valid.ensures ∙ c.if-is_valid.true) (sym c.is_valid-then-is_valid.ensures ∙ c.if-is_valid-2.false)
-
-pub returns-else-is_valid : goal.returns-else-is_valid
-returns-else-is_valid c =
-    take_state c.args.self c.args.cfg c.args.p _ (sym c.check.ensures ∙ c.in-Done.is) (sym c.is_valid.ensures ∙ c.if-is_valid.false)
+pub returns-in-Err : goal.returns-in-Err
+unfolding take_answer
+returns-in-Err c = denied (request_refused _ _ _) (taken_of _ _ _ _) _ _ _ (sym c.ready_to_write.ensures ∙ c.in-Err.is)

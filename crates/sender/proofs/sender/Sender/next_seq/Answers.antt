@@ -1,8 +1,8 @@
 -- The state is tested, and the rest is `tested::next_seq`.
 use mathlib.Core.Path.{sym, ap, ◌∙◌}
+use Rattle.std.proofs.Common.{Ok, Err}
 use Rattle.config.specs.inner.Entries.{state_refused, state_made}
 use Rattle.sender.specs.Answers.{next_answer}
-use Rattle.sender.specs.declared.sender.Next.TheVariants.{Number, Refused}
 use Rattle.sender.proofs.Validity.{valid_unsent}
 use Rattle.sender.proofs.sender.Sender.next_seq.Goals as goal
 
@@ -12,8 +12,8 @@ next_seq-requires c = valid_unsent _ _ (sym c.is_valid.ensures ∙ c.if-is_valid
 pub returns-then-is_valid : goal.returns-then-is_valid
 unfolding next_answer
 returns-then-is_valid c =
-    ap Number c.next_seq.ensures ∙ state_made Refused _ (sym c.is_valid.ensures ∙ c.if-is_valid.true)
+    ap Ok c.next_seq.ensures ∙ state_made Err _ (sym c.is_valid.ensures ∙ c.if-is_valid.true)
 
 pub returns : goal.returns
 unfolding next_answer
-returns c = state_refused Refused _ (sym c.is_valid.ensures ∙ c.if-is_valid.false)
+returns c = state_refused Err _ (sym c.is_valid.ensures ∙ c.if-is_valid.false)

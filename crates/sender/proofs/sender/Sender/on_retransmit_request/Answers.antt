@@ -13,14 +13,14 @@ on_retransmit_request-requires c = let v = sym c.is_valid.ensures ∙ c.if-is_va
 pub returns-then-is_valid : goal.returns-then-is_valid
 unfolding request_answer
 returns-then-is_valid c =
-    c.on_retransmit_request.ensures ∙ entry_made (request_refused _) _ (sym c.check.ensures ∙ c.in-Done.is) (sym c.is_valid.ensures ∙ c.if-is_valid.true)
+    c.on_retransmit_request.ensures ∙ entry_made (request_refused _) _ (sym c.check.ensures ∙ c.in-Ok.is) (sym c.is_valid.ensures ∙ c.if-is_valid.true)
 
-pub returns-in-Refused : goal.returns-in-Refused
+pub returns-in-Err : goal.returns-in-Err
 unfolding request_answer
-returns-in-Refused c =
-    settings_refused (request_refused _) (requested_of _ _ _) (valid_of _ _) _ (sym c.check.ensures ∙ c.in-Refused.is)
+returns-in-Err c =
+    settings_refused (request_refused _) (requested_of _ _ _) (valid_of _ _) _ (sym c.check.ensures ∙ c.in-Err.is)
 
 pub returns-else-is_valid : goal.returns-else-is_valid
 unfolding request_answer
 returns-else-is_valid c =
-    entry_refused (request_refused _) _ (sym c.check.ensures ∙ c.in-Done.is) (sym c.is_valid.ensures ∙ c.if-is_valid.false)
+    entry_refused (request_refused _) _ (sym c.check.ensures ∙ c.in-Ok.is) (sym c.is_valid.ensures ∙ c.if-is_valid.false)

@@ -8,18 +8,18 @@ use Rattle.sender.proofs.sender.Sender.send_ump.Goals as goal
 
 pub send_ump-requires : goal.send_ump-requires
 send_ump-requires c =
-    (sym c.is_valid.ensures ∙ c.if-is_valid.true, sym c.check.ensures ∙ c.in-Done.is)
+    (sym c.is_valid.ensures ∙ c.if-is_valid.true, sym c.check.ensures ∙ c.in-Ok.is)
 
 pub returns-then-is_valid : goal.returns-then-is_valid
 unfolding send_answer
 returns-then-is_valid c =
-    c.send_ump.ensures ∙ entry_made (unsent _ _) _ (sym c.check.ensures ∙ c.in-Done.is) (sym c.is_valid.ensures ∙ c.if-is_valid.true)
+    c.send_ump.ensures ∙ entry_made (unsent _ _) _ (sym c.check.ensures ∙ c.in-Ok.is) (sym c.is_valid.ensures ∙ c.if-is_valid.true)
 
-pub returns-in-Refused : goal.returns-in-Refused
+pub returns-in-Err : goal.returns-in-Err
 unfolding send_answer
-returns-in-Refused c = settings_refused (unsent _ _) (sent_of _ _ _ _) (valid_of _ _) _ (sym c.check.ensures ∙ c.in-Refused.is)
+returns-in-Err c = settings_refused (unsent _ _) (sent_of _ _ _ _) (valid_of _ _) _ (sym c.check.ensures ∙ c.in-Err.is)
 
 pub returns-else-is_valid : goal.returns-else-is_valid
 unfolding send_answer
 returns-else-is_valid c =
-    entry_refused (unsent _ _) _ (sym c.check.ensures ∙ c.in-Done.is) (sym c.is_valid.ensures ∙ c.if-is_valid.false)
+    entry_refused (unsent _ _) _ (sym c.check.ensures ∙ c.in-Ok.is) (sym c.is_valid.ensures ∙ c.if-is_valid.false)

@@ -1,2 +1,0 @@
--- Why a message is what it is said to be.
-mod Notes

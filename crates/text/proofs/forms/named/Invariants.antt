@@ -1,9 +1,0 @@
--- The name lies inside of the table and of the line.
-use Prim.Native.Nat.{◌-◌, ◌≤◌}
-use Rattle.text.proofs.forms.named.Given as goal
-
-abbrev pub invariant-loop-i : goal.invariant-loop-i
-invariant-loop-i l = l.i ≤ l.end
-
-abbrev pub decreases-loop-i : goal.decreases-loop-i
-decreases-loop-i l = l.end - l.i
