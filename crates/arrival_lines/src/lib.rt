@@ -5,7 +5,7 @@
 // It streams: two buffers, whatever the length of the input.
 #![tactic(auto)]
 
-ghost use Rattle.std.specs.Prelude.{◌≡◌, ◌+◌, ◌*◌};
+ghost use Rattle.std.specs.Prelude.{◌≡◌, ◌+◌, ◌*◌, ◌<◌, ◌≤◌, length};
 
 use std::io;
 use text::blocks;
@@ -35,26 +35,79 @@ fn range(lost: Option<SeqRange>) -> SeqRange {
     }
 }
 
-// A figure, and the blank after it.
-fn figure(out: &mut Output<'_, impl Print>, n: u16) -> io::Result<()> {
-    out.decimal(u64::from(n))?;
-    out.byte(b' ')
+fn digit(n: u16) -> u8 {
+    b'0' + (n % 10) as u8
 }
 
-// The line of a number. It has at most 26 bytes, and what waits is written where fewer than 64 are free.
+// Adds a byte, where there is room, and gives the place behind it.
+fn byte(to: &mut [u8], at: usize, b: u8) -> usize
+    requires { at ≤ length to.old }
+    ensures { (result ≤ length to.new) × (length to.new ≡ length to.old) }
+{
+    if at < to.len() {
+        to[at] = b;
+        return at + 1;
+    }
+    at
+}
+
+// Adds the digit of `n` at this unit, unless it is a leading zero.
+fn place<const UNIT: u16>(to: &mut [u8], at: usize, n: u16) -> usize
+    requires { (0 < UNIT) × (at ≤ length to.old) }
+    ensures { (result ≤ length to.new) × (length to.new ≡ length to.old) }
+{
+    if n < UNIT {
+        at
+    } else {
+        byte(to, at, digit(n / UNIT))
+    }
+}
+
+// Adds a number, without leading zeros.
+fn decimal(to: &mut [u8], at: usize, n: u16) -> usize
+    requires { at ≤ length to.old }
+    ensures { (result ≤ length to.new) × (length to.new ≡ length to.old) }
+{
+    let at = place::<10000>(to, at, n);
+    let at = place::<1000>(to, at, n);
+    let at = place::<100>(to, at, n);
+    let at = place::<10>(to, at, n);
+    byte(to, at, digit(n))
+}
+
+// Adds a figure, and the blank after it.
+fn figure(to: &mut [u8], at: usize, n: u16) -> usize
+    requires { at ≤ length to.old }
+    ensures { (result ≤ length to.new) × (length to.new ≡ length to.old) }
+{
+    let at = decimal(to, at, n);
+    byte(to, at, b' ')
+}
+
+// The line of a number, and its length.
+fn text(to: &mut [u8], seq: u16, class: Class, lost: SeqRange) -> usize
+    ensures { (result ≤ length to.new) × (length to.new ≡ length to.old) }
+{
+    let at = figure(to, 0, seq);
+    let at = byte(to, at, letter(class));
+    let at = byte(to, at, b' ');
+    let at = figure(to, at, gap(class));
+    let at = figure(to, at, lost.count);
+    let at = decimal(to, at, lost.first);
+    byte(to, at, b'\n')
+}
+
+// Adds the line of a number. It has at most 26 bytes, and what waits is written where fewer than 64 are free. It goes
+// into the block at once: each of the output's methods would answer whether output failed.
 fn line(
     out: &mut Output<'_, impl Print>,
     seq: u16,
     class: Class,
     lost: SeqRange,
 ) -> io::Result<()> {
-    figure(out, seq)?;
-    out.byte(letter(class))?;
-    out.byte(b' ')?;
-    figure(out, gap(class))?;
-    figure(out, lost.count)?;
-    out.decimal(u64::from(lost.first))?;
-    out.byte(b'\n')?;
+    let used = out.used;
+    let n = text(&mut out.block[used..], seq, class, lost);
+    out.used = used + n;
     out.room(64)
 }
 

@@ -1,4 +1,5 @@
-// Words that a caller lends.
+// Words that a caller lends. They are few, and how many is known where these are called: a loop is laid out there word by
+// word, where a copy or a comparison of the library's would put what is stored into memory first.
 ghost use Rattle.std.specs.Prelude.{◌≡◌, true, ◌+◌, ◌≤◌, length};
 ghost use Rattle.packet.specs.Bytes.{spliced};
 
@@ -7,7 +8,9 @@ pub fn put(from: &[u64], to: &mut [u64], at: usize)
     requires { at + length from.now ≤ length to.old }
     ensures { to.new ≡ spliced to.old at from.now }
 {
-    to[at..at + from.len()].copy_from_slice(from);
+    for k in 0..from.len() {
+        to[at + k] = from[k];
+    }
 }
 
 // Whether the words stand from the place `at` on.
@@ -15,7 +18,12 @@ fn stand(from: &[u64], to: &[u64], at: usize) -> bool
     requires { at + length from.now ≤ length to.now }
     ensures { result ≡ true → to.now ≡ spliced to.now at from.now }
 {
-    &to[at..at + from.len()] == from
+    for k in 0..from.len() {
+        if to[at + k] != from[k] {
+            return false;
+        }
+    }
+    true
 }
 
 // Stores words from the place `at` on, unless they stand there: then nothing is stored.

@@ -1,5 +1,5 @@
 // Places and straight runs of a ring of words in a slice.
-ghost use Rattle.std.specs.Prelude.{◌≡◌, ◌<◌, ◌≤◌, length};
+ghost use Rattle.std.specs.Prelude.{◌≡◌, ◌+◌, ◌<◌, ◌≤◌, length, drop};
 ghost use Rattle.history.specs.Ring.{slot_of, run_of, ring_stored};
 
 use config::range::least;
@@ -22,13 +22,27 @@ pub fn run_end(c: usize, at: usize, n: usize) -> usize
     least(n, c - at)
 }
 
-// Stores the words from place `at` on, round the end: those that lie before the end, and the rest from the
-// start on.
+// Stores `n` words, from the word `from` on, at place `at` and after it, up to the end at most. A loop: a copy of the
+// library's would ask `memmove` of who links the archive for C, and takes longer for a word or two.
+fn put_run(ring: &mut [u32], at: usize, words: &[u32], from: usize, n: usize)
+    requires { (from + n ≤ length words.now) × (at + n ≤ length ring.old) × (at < length ring.old) }
+    ensures { (length ring.new ≡ length ring.old)
+        × (ring_stored ring.new (slot_of (length ring.old) at n) (drop (from + n) words.now) ≡ ring_stored ring.old at (drop from words.now)) }
+{
+    for k in 0..n {
+        ring[at + k] = words[from + k];
+    }
+}
+
+// Stores the words from place `at` on, round the end.
 pub fn put(ring: &mut [u32], at: usize, words: &[u32])
     requires { (at < length ring.old) × (length words.now ≤ length ring.old) }
     ensures { ring.new ≡ ring_stored ring.old at words.now }
 {
-    let (first, rest) = words.split_at(run_end(ring.len(), at, words.len()));
-    ring[at..at + first.len()].copy_from_slice(first);
-    ring[..rest.len()].copy_from_slice(rest);
+    let n = words.len();
+    let room = run_end(ring.len(), at, n);
+    put_run(ring, at, words, 0, room);
+    if room < n {
+        put_run(ring, 0, words, room, n - room);
+    }
 }

@@ -14,7 +14,7 @@ const BUFFER: usize = 2048;
 // The history of a run's start.
 const HISTORY: usize = 256;
 
-#[derive(Drop)]
+#[derive(Clone, Copy)]
 pub struct Caller {
     pub stream: [u64; WORDS],
     pub settings: [u32; 8],

@@ -2,6 +2,7 @@
 use mathlib.Core.Path.{◌≡◌, sym, ap, ◌∙◌}
 use mathlib.Core.List.{List, [], ◌∷◌, ◌++◌, append_assoc}
 use Prim.Native.Nat.{ℕ, suc, ◌+◌, ◌≤◌}
+use native.Mathlib.Numerals.{add-one, add-two, add-three}
 use native.Mathlib.Omega.{arith}
 use lib.ListN.{length, set, take, drop, length-append}
 use lib.Seq.{sets, sets-eq, length-sets, take_at, drop_at, take-append-le, length-take-le, take_all}
@@ -53,6 +54,11 @@ spliced_append b i k xs ys e fits =
 
 pub spliced_nil : (b : List ℕ) (i : ℕ) → i ≤ length b → spliced b i [] ≡ b
 spliced_nil b i h = spliced_sets b i [] (omega arith)
+
+-- four stores, as code makes them
+pub spliced_four : (b : List ℕ) (i w x y z : ℕ) → i + 4 ≤ length b
+    → set (set (set (set b i w) (i + 1) x) (i + 2) y) (i + 3) z ≡ spliced b i (w ∷ x ∷ y ∷ z ∷ [])
+spliced_four b i w x y z h = rw (add-one, add-two, add-three) (sym (spliced_sets b i (w ∷ x ∷ y ∷ z ∷ []) h))
 
 -- a part of the buffer that holds the run now
 pub part_spliced : (b xs ys : List ℕ) (i k : ℕ) → ys ≡ xs → k ≡ length xs → put_mid i k b ys ≡ spliced b i xs

@@ -63,7 +63,11 @@ fn put_header(buf: &mut [u8], at: usize, header: Header)
         csd1,
         csd2,
     } = header;
-    buf[at..at + 4].copy_from_slice(&[code, len, csd1, csd2]);
+    // One by one: an array of them would be put into memory first, and read again as a word.
+    buf[at] = code;
+    buf[at + 1] = len;
+    buf[at + 2] = csd1;
+    buf[at + 3] = csd2;
 }
 
 // The answer to a command that does not fit.

@@ -81,7 +81,11 @@ pub fn show(out: &mut Output<'_, impl Print>, item: Item, words: &[u32]) -> io::
         }
         Item::Raw(c) => {
             let csd = c.csd.to_be_bytes();
-            write!(out, "raw:{:02X}:{:02X}:{:02X}:", c.code, csd[0], csd[1])?;
+            out.text(b"raw:")?;
+            for b in [c.code, csd[0], csd[1]] {
+                out.hex(&[b])?;
+                out.byte(b':')?;
+            }
             out.words(words, 0, usize::from(c.len))
         }
         Item::Data(d) => {

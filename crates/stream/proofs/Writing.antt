@@ -1,5 +1,5 @@
 -- The ways out of a write.
-use mathlib.Core.Path.{◌≡◌, refl, sym, ap}
+use mathlib.Core.Path.{◌≡◌, refl, sym, ap, ◌∙◌}
 use Rattle.std.proofs.Common.{Result, Ok, Err}
 use Rattle.writing.specs.declared.writing.Written.{Written}
 use mathlib.Core.Bool.{true, false}
@@ -13,7 +13,9 @@ use Rattle.packet.specs.Write.{valid_of as payload_valid}
 use Rattle.packet.specs.declared.writer.PayloadWriter.{PayloadWriter}
 use Rattle.receiver.specs.Receiver.{not_due, taken_of}
 use Rattle.receiver.specs.declared.receiver.Request.{Request}
-use Rattle.receiver.specs.declared.receiver.Request.TheVariants.{Nothing as NotDue}
+use Rattle.receiver.specs.declared.receiver.Receiver.{Receiver}
+use Rattle.receiver.specs.declared.receiver.Request.TheVariants.{Nothing as NotDue, Written as Taken}
+use Rattle.sender.specs.declared.sender.Sender.{Sender}
 use Rattle.receiver.proofs.Taken.{taken_not_due}
 use Rattle.receiver.specs.declared.receiver.RequestWritten.{RequestWritten}
 use Rattle.writing.specs.Writing.{written_by}
@@ -25,6 +27,12 @@ use Rattle.config.specs.Settings.{check_of}
 use Rattle.config.specs.declared.refusal.Refusal.{Refusal}
 use Rattle.config.specs.declared.refusal.Refusal.TheVariants.{InvalidState}
 
+-- where the sender writes on, under other names
+pub after_same : (s : Sender) (cfg : StreamConfig) (time : ℕ) (ring : List ℕ)
+    → {b bytes : List ℕ} {r receiver : Receiver} {p payload : PayloadWriter} {m n : ℕ} → b ≡ bytes → r ≡ receiver → p ≡ payload → m ≡ n
+    → sent_after m (record { sender = s; receiver = r }) cfg time p b ring ≡ sent_after n (record { sender = s; receiver = receiver }) cfg time payload bytes ring
+after_same s cfg time ring e f g h = rw (e, f, g, h)
+
 module _ (s : DataStream) (cfg : StreamConfig) (time : ℕ) (p : PayloadWriter) (b ring : List ℕ) where
   -- ---- after the due request
   pub after_taken : (t : RequestWritten) (bytes : List ℕ) → (t, bytes) ≡ taken_of s.receiver cfg p b → (a : Result Request Refusal) → t.answer ≡ a
@@ -34,6 +42,19 @@ module _ (s : DataStream) (cfg : StreamConfig) (time : ℕ) (p : PayloadWriter) 
 
   pub after_not_due : s.receiver.request_due ≡ false → sent_after 0 s cfg time p b ring ≡ data_written s cfg time p b ring
   after_not_due d = after_taken (not_due s.receiver p) b (taken_not_due s.receiver cfg p b _ refl d) (Ok NotDue) refl
+
+  -- the sender writes on
+  module _ {bytes : List ℕ} {receiver : Receiver} {payload : PayloadWriter} {n : ℕ} where
+    module _ (t : RequestWritten) (after : List ℕ) (e : (t, after) ≡ taken_of s.receiver cfg p b) (f : bytes ≡ after) (g : receiver ≡ t.receiver) (h : payload ≡ t.payload) where
+      pub after_none : n ≡ 0 → t.answer ≡ Ok NotDue → sent_after n (with_receiver s receiver) cfg time payload bytes ring ≡ data_written s cfg time p b ring
+      after_none k a = after_same s.sender cfg time ring f g h k ∙ after_taken t after e (Ok NotDue) a
+
+      pub after_one : n ≡ 1 → t.answer ≡ Ok Taken → sent_after n (with_receiver s receiver) cfg time payload bytes ring ≡ data_written s cfg time p b ring
+      after_one k a = after_same s.sender cfg time ring f g h k ∙ after_taken t after e (Ok Taken) a
+
+    pub after_kept : s.receiver.request_due ≡ false → bytes ≡ b → receiver ≡ s.receiver → payload ≡ p → n ≡ 0
+        → sent_after n (with_receiver s receiver) cfg time payload bytes ring ≡ data_written s cfg time p b ring
+    after_kept d f g h k = after_same s.sender cfg time ring f g h k ∙ after_not_due d
 
   -- ---- after n commands
   pub sent_after_lem : (n : ℕ) (w : SenderWrote) (bytes next : List ℕ) → (w, bytes, next) ≡ written_by s.sender cfg time p b ring → (a : Result Written Refusal) → w.answer ≡ a

@@ -96,26 +96,40 @@ pub fn write_data(
     requires { (check_of cfg ≡ Ok tt) × (valid_of s ring.old ≡ true) × (payload_valid p (length buf.old) ≡ true) × Marks s.sender.history ring.old from }
     ensures { (result, buf.new, ring.new) ≡ data_written s cfg time p buf.old ring.old }
 {
-    if !s.receiver.request_due {
-        return write_after(0, s, cfg, time, p, buf, ring, from);
+    let before = s.receiver;
+    let mut receiver = before;
+    let mut payload = p;
+    // The commands written so far.
+    let mut n = 0;
+    if before.request_due {
+        let taken = receiver::tested::write_request(before, cfg, p, buf);
+        receiver = taken.receiver;
+        payload = taken.payload;
+        match taken.answer {
+            Err(why) => return Wrote::refused(DataStream { receiver, ..s }, payload, why),
+            Ok(Request::More) => {
+                return Wrote {
+                    stream: DataStream { receiver, ..s },
+                    payload,
+                    answer: Ok(Written {
+                        commands: 0,
+                        more: true,
+                    }),
+                };
+            }
+            Ok(Request::Nothing) => {}
+            Ok(Request::Written) => n = 1,
+        }
     }
-    let taken = receiver::tested::write_request(s.receiver, cfg, p, buf);
-    let payload = taken.payload;
-    let stream = DataStream {
-        receiver: taken.receiver,
-        ..s
-    };
-    match taken.answer {
-        Err(why) => Wrote::refused(stream, payload, why),
-        Ok(Request::More) => Wrote {
-            stream,
-            payload,
-            answer: Ok(Written {
-                commands: 0,
-                more: true,
-            }),
-        },
-        Ok(Request::Nothing) => write_after(0, stream, cfg, time, payload, buf, ring, from),
-        Ok(Request::Written) => write_after(1, stream, cfg, time, payload, buf, ring, from),
-    }
+    // One call in one place: the compiler lays the write into its caller, and no stream goes through memory.
+    write_after(
+        n,
+        DataStream { receiver, ..s },
+        cfg,
+        time,
+        payload,
+        buf,
+        ring,
+        from,
+    )
 }

@@ -69,11 +69,13 @@ impl<'a, R: io::Input> Lines<'a, R> {
     ) -> io::Result<()>
         requires { F.IsAlwaysCallable answer }
         ensures empties { IfOk result (λ _. out.new.used ≡ 0) }
+        ensures block { length self.new.block.now ≡ length self.old.block.now }
     {
         for _ in 0..u64::MAX {
-            let Some(line) = self.next(out)? else {
+            let Some(n) = self.gathered(out)? else {
                 break;
             };
+            let line = &self.line[..n];
             if !skipped(line) {
                 answer(out, line)?;
             }
@@ -86,6 +88,7 @@ impl<'a, R: io::Input> Lines<'a, R> {
     fn gathered(&mut self, out: &mut Output<'_, impl Print>) -> io::Result<Option<usize>>
         ensures line { IfOk result (λ o. IfSome o (λ n. n ≤ length self.new.line.now)) }
         ensures room { length self.new.line.now ≡ length self.old.line.now }
+        ensures block { length self.new.block.now ≡ length self.old.block.now }
         ensures size { length out.new.block.now ≡ length out.old.block.now }
         ensures waits { IfOk result (λ _. out.new.used ≤ out.old.used) }
     {
@@ -109,7 +112,8 @@ impl<'a, R: io::Input> Lines<'a, R> {
 
     // Reads what input there is, as much as there is room for.
     fn fetch(&mut self) -> io::Result<()>
-        ensures { length self.new.line.now ≡ length self.old.line.now }
+        ensures line { length self.new.line.now ≡ length self.old.line.now }
+        ensures block { length self.new.block.now ≡ length self.old.block.now }
     {
         self.at = 0;
         self.have = 0;

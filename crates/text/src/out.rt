@@ -7,7 +7,14 @@ ghost use Rattle.std.specs.Fmt.{decimal};
 
 use std::io;
 
-// A block that is lent to output. Each method answers why output failed, if it did.
+// The units of the first digit of a byte, of 32 and of 64 bits in hexadecimal.
+pub const BYTE: u64 = 0x10;
+
+pub const WORD: u64 = 0x1000_0000;
+
+pub const LONG: u64 = 0x1000_0000_0000_0000;
+
+// A block that is lent to output. Each method that may write answers why output failed, if it did.
 #[derive(Drop)]
 pub struct Output<'a, R: Print> {
     rt: &'a R,
@@ -33,11 +40,20 @@ impl<'a, R: Print> Output<'a, R> {
         if self.used == self.block.len() {
             self.flush()?;
         }
+        self.put(b);
+        Ok(())
+    }
+
+    // One byte, where there is room: nothing is written, so nothing can fail.
+    pub fn put(&mut self, b: u8)
+        ensures size { length self.new.block.now ≡ length self.old.block.now }
+        ensures adds { self.old.used < length self.old.block.now → self.new.used ≡ self.old.used + 1 }
+        ensures full { self.old.used ≡ length self.old.block.now → self.new.used ≡ self.old.used }
+    {
         if self.used < self.block.len() {
             self.block[self.used] = b;
             self.used += 1;
         }
-        Ok(())
     }
 
     // Bytes as they stand.
@@ -45,6 +61,12 @@ impl<'a, R: Print> Output<'a, R> {
         ensures size { length self.new.block.now ≡ length self.old.block.now }
         ensures adds { IfOk result (λ _. self.old.used + length s.now ≤ length self.old.block.now → self.new.used ≡ self.old.used + length s.now) }
     {
+        let end = self.used.saturating_add(s.len());
+        if end <= self.block.len() {
+            self.block[self.used..end].copy_from_slice(s);
+            self.used = end;
+            return Ok(());
+        }
         for &b in s {
             self.byte(b)?;
         }
@@ -65,6 +87,13 @@ impl<'a, R: Print> Output<'a, R> {
         ensures size { length self.new.block.now ≡ length self.old.block.now }
         ensures adds { IfOk result (λ _. self.old.used + 2 * length s.now ≤ length self.old.block.now → self.new.used ≡ self.old.used + 2 * length s.now) }
     {
+        if s.len() <= (self.block.len() - self.used) / 2 {
+            for &b in s {
+                self.put(digit(b / 16));
+                self.put(digit(b % 16));
+            }
+            return Ok(());
+        }
         for &b in s {
             self.byte(digit(b / 16))?;
             self.byte(digit(b % 16))?;
@@ -125,9 +154,7 @@ impl<'a, R: Print> Output<'a, R> {
 
 impl<'a, R: Print> io::Write for Output<'a, R> {
     fn write(&mut self, bytes: &[u8]) -> io::Result<usize> {
-        for &b in bytes {
-            self.byte(b)?;
-        }
+        self.text(bytes)?;
         Ok(bytes.len())
     }
 

@@ -53,7 +53,10 @@ pub fn in_order(w: ReceiveWindow, seq: SeqNum) -> bool
     requires { Valid w }
     ensures { result ≡ in_order w seq }
 {
-    sequence::distance(w.highest, seq) == 1 && tested::complete(w)
+    if sequence::distance(w.highest, seq) == 1 {
+        return tested::complete(w);
+    }
+    false
 }
 
 // A number in order arrives: the highest alone changes.

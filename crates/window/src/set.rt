@@ -129,7 +129,10 @@ pub fn below(s: Bits, n: u32) -> bool
 {
     let last = u64::MAX >> ((2 * WORD - n) % WORD);
     if n <= WORD {
-        return s.high == 0 && s.low <= last;
+        if s.high != 0 {
+            return false;
+        }
+        return s.low <= last;
     }
     s.high <= last
 }
@@ -143,7 +146,10 @@ pub fn is_lowest(s: Bits, n: u32) -> bool
     if n <= WORD {
         return s.low == last;
     }
-    s.low == u64::MAX && s.high == last
+    if s.low != u64::MAX {
+        return false;
+    }
+    s.high == last
 }
 
 pub fn holds(s: Bits, k: u32) -> bool

@@ -16,7 +16,10 @@ use config::{range, sequence};
 pub fn is_valid(w: ReceiveWindow) -> bool
     ensures { result ≡ valid_of w }
 {
-    !range::outside(1, set::MAX_WINDOW as usize, w.size as usize) && set::below(w.bits, w.size)
+    if range::outside(1, set::MAX_WINDOW as usize, w.size as usize) {
+        return false;
+    }
+    set::below(w.bits, w.size)
 }
 
 // All before the highest processed.
@@ -73,10 +76,14 @@ pub fn processed_at(w: ReceiveWindow, back: u32) -> bool
     requires { Valid w }
     ensures { result ≡ processed w back }
 {
-    if back == 0 || w.size < back {
+    if back == 0 {
         return true;
     }
-    set::holds(w.bits, back - 1)
+    let k = back - 1;
+    if w.size <= k {
+        return true;
+    }
+    set::holds(w.bits, k)
 }
 
 // Whether the number is the highest, or one of the window's numbers that was processed.

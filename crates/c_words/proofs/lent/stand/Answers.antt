@@ -1,19 +1,21 @@
--- Words that stand there are a part of the list.
-use Rattle.std.proofs.Common.{◌≡◌, ℕ, List, Bool, true, ◌+◌, ◌-◌, length, take, drop, sym, take-append-drop, rules, arith}
-use lib.Dec.{eqb}
-use lib.Pointwise.{pointwise}
-use Rattle.std.proofs.Math.Seq.{take-add}
-use Rattle.std.proofs.lemmas.Bool.Decides.{Decides-eqb}
-use Rattle.std.proofs.lemmas.Slice.Eq.{slice_eq-Decides}
+use Rattle.std.proofs.Common.{◌≡◌, ℕ, List, Bool, true, false, ◌+◌, sym, ap, ◌∙◌, get_or, set, arith}
+use Rattle.std.proofs.Math.Seq.{take_all, set-get_or}
+use borrow.Author.Tests.{eqb-true}
 use Rattle.packet.specs.Bytes.{spliced}
+use Rattle.packet.proofs.Splice.{spliced_nil}
+use Rattle.read_command.proofs.Stores.{put_turn}
 use Rattle.c_words.proofs.lent.stand.Goals as goal
 
-part : (b xs : List ℕ) (i k : ℕ) (same : Bool) → same ≡ true → k ≡ length xs → same ≡ pointwise eqb (take k (drop i b)) xs → b ≡ spliced b i xs
-unfolding spliced
-part b xs i k same t n e =
-    let m : i + length xs ≡ i + k = omega arith in
-    let p : take k (drop i b) ≡ xs = (slice_eq-Decides Decides-eqb _ _ _ e).0 t in
-    rw (m, ← p, ← take-add i k b) (sym (take-append-drop (i + k) b))
+pub loop-k-init : goal.loop-k-init
+loop-k-init c = sym (spliced_nil _ _ (omega arith))
+
+pub loop-k-preserved : goal.loop-k-preserved
+loop-k-preserved c =
+    sym (set-get_or c.args.to.now (c.args.at + c.loop-k.k) 0)
+    ∙ ap (set c.args.to.now (c.args.at + c.loop-k.k)) c.if-to-at.false
+    ∙ ap (λ (x : List ℕ). set x (c.args.at + c.loop-k.k) (get_or c.args.from.now c.loop-k.k 0)) c.loop-k.invariant
+    ∙ put_turn c.args.to.now c.args.from.now c.args.at c.loop-k.k c.requires (omega arith)
 
 pub returns : goal.returns
-returns c = λ t. part c.args.to.now c.args.from.now c.args.at (c.args.at + length c.args.from.now - c.args.at) _ t (omega arith) (search rules)
+returns c = λ _.
+    c.loop-k.invariant ∙ ap (spliced c.args.to.now c.args.at) (take_all c.loop-k.k c.args.from.now (omega arith))

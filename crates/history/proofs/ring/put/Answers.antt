@@ -1,12 +1,15 @@
 -- One run up to the end of the ring or of the words, and one from the start of the ring for the rest.
-use Rattle.std.proofs.Common.{arith}
-use Rattle.history.proofs.Runs.{put_runs}
+use Rattle.std.proofs.Common.{◌≡◌, ◌+◌, ◌-◌, length, arith}
+use Rattle.history.proofs.Runs.{run_one, run_two}
 use Rattle.history.proofs.ring.put.Goals as goal
 
-pub returns : goal.returns
-returns c =
-    put_runs c.args.ring.now c.args.words.now _ _ _ _ c.args.at _ (omega arith) (omega arith) (λ m. omega arith) (omega arith)
-    c.split_at.ensures.by_index.0
-    c.copy_from_slice.ensures.after
-    (omega arith)
-    c.copy_from_slice-2.ensures.after
+pub returns-then-room-n : goal.returns-then-room-n
+returns-then-room-n c =
+    let e : length c.args.ring.now ≡ c.args.at + c.run_end-room.result = omega arith in
+    run_two _ _ _ c.args.words.now (length c.args.ring.now) c.args.at c.run_end-room.result (length c.args.words.now - c.run_end-room.result) e (omega arith) _
+    c.put_run.ensures.1
+    c.put_run-then-room-n.ensures.1
+
+pub returns-else-room-n : goal.returns-else-room-n
+returns-else-room-n c =
+    run_one _ _ c.args.words.now _ _ c.run_end-room.result (omega arith) c.put_run.ensures.1

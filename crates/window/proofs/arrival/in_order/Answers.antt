@@ -1,11 +1,10 @@
 -- The distance is tested first, and then what is missing.
-use Rattle.std.proofs.Common.{◌∙◌, ne_eqb}
+use mathlib.Core.Path.{◌∙◌}
 use Rattle.window.proofs.InOrder.{in_order_next, in_order_other}
 use Rattle.window.proofs.arrival.in_order.Goals as goal
 
 pub returns-then-distance-eq1 : goal.returns-then-distance-eq1
 returns-then-distance-eq1 c = c.complete.ensures ∙ in_order_next _ _ c.distance.ensures c.if-distance-eq1.true
 
-pub returns-else-distance-eq1 : goal.returns-else-distance-eq1
-returns-else-distance-eq1 c =
-    ne_eqb _ _ c.if-distance-eq1.false ∙ in_order_other _ _ c.distance.ensures c.if-distance-eq1.false
+pub returns : goal.returns
+returns c = in_order_other _ _ c.distance.ensures c.if-distance-eq1.false

@@ -1,5 +1,4 @@
 -- Up to a word the high word is empty and the low one counts; beyond it the high word alone does.
-use Rattle.std.proofs.Common.{◌∙◌, ne_eqb}
 use Prim.Native.Nat.{◌-◌, ◌%◌, ◌^◌, ◌<◌}
 use native.Mathlib.Omega.{arith}
 use Rattle.window.specs.Set.{val}
@@ -10,16 +9,15 @@ use Rattle.window.proofs.set.below.Goals.{Start}
 bounds : (c : Start) → (c.args.s.high < 2 ^ 64) × (c.args.s.low < 2 ^ 64)
 bounds c = omega arith
 
-pub returns-else-s-eq0 : goal.returns-else-s-eq0
+pub returns-then-s-ne0 : goal.returns-then-s-ne0
 unfolding val
-returns-else-s-eq0 c =
-    ne_eqb _ _ c.if-s-eq0.false
-    ∙ below_not c.args.s.high c.args.s.low (bounds (goal.at.returns-else-s-eq0 c).Start).1 c.args.n (omega arith) c.if-s-eq0.false
+returns-then-s-ne0 c =
+    below_not c.args.s.high c.args.s.low (bounds (goal.at.returns-then-s-ne0 c).Start).1 c.args.n (omega arith) c.if-s-ne0.true
 
-pub returns-then-s-eq0 : goal.returns-then-s-eq0
+pub returns-then-n-le-WORD : goal.returns-then-n-le-WORD
 unfolding val
-returns-then-s-eq0 c =
-    below_low c.args.s.high c.args.s.low (bounds (goal.at.returns-then-s-eq0 c).Start).1 c.args.n ((128 - c.args.n) % 64) (omega arith) c.if-s-eq0.true
+returns-then-n-le-WORD c =
+    below_low c.args.s.high c.args.s.low (bounds (goal.at.returns-then-n-le-WORD c).Start).1 c.args.n ((128 - c.args.n) % 64) (omega arith) c.if-s-ne0.false
 
 pub returns : goal.returns
 unfolding val

@@ -5,14 +5,13 @@ use Rattle.config.specs.inner.Ranges.{outside_not, within_range}
 use Rattle.window.proofs.Validity.{valid_size, valid_bits}
 use Rattle.window.proofs.tested.is_valid.Goals as goal
 
-pub returns-else-not-outside : goal.returns-else-not-outside
-returns-else-not-outside c =
-    rw c.if-not-outside.false (valid_size _ (sym c.outside.ensures ∙ c.if-not-outside.false))
+pub returns-then-outside : goal.returns-then-outside
+returns-then-outside c = valid_size _ (sym c.outside.ensures ∙ c.if-outside.true)
 
 pub below-requires : goal.below-requires
 below-requires c =
-    within_range 1 max_window c.args.w.size (outside_not 1 max_window c.args.w.size (sym c.outside.ensures ∙ c.if-not-outside.true))
+    within_range 1 max_window c.args.w.size (outside_not 1 max_window c.args.w.size (sym c.outside.ensures ∙ c.if-outside.false))
 
-pub returns-then-not-outside : goal.returns-then-not-outside
-returns-then-not-outside c =
-    c.below.ensures ∙ valid_bits _ (sym c.outside.ensures ∙ c.if-not-outside.true)
+pub returns : goal.returns
+returns c =
+    c.below.ensures ∙ valid_bits _ (sym c.outside.ensures ∙ c.if-outside.false)
