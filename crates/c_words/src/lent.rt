@@ -1,5 +1,5 @@
-// Words that a caller lends. They are few, and how many is known where these are called: a loop is laid out there word by
-// word, where a copy or a comparison of the library's would put what is stored into memory first.
+// Words that a caller lends. They are few, and how many is known where these are called: there loops take less time than a
+// copy and a comparison of the library's.
 ghost use Rattle.std.specs.Prelude.{◌≡◌, true, ◌+◌, ◌≤◌, length};
 ghost use Rattle.packet.specs.Bytes.{spliced};
 

@@ -23,7 +23,7 @@ pub fn run_end(c: usize, at: usize, n: usize) -> usize
 }
 
 // Stores `n` words, from the word `from` on, at place `at` and after it, up to the end at most. A loop: a copy of the
-// library's would ask `memmove` of who links the archive for C, and takes longer for a word or two.
+// library's would ask `memmove` of who links the archive for C.
 fn put_run(ring: &mut [u32], at: usize, words: &[u32], from: usize, n: usize)
     requires { (from + n ≤ length words.now) × (at + n ≤ length ring.old) × (at < length ring.old) }
     ensures { (length ring.new ≡ length ring.old)

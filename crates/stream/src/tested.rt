@@ -121,7 +121,7 @@ pub fn write_data(
             Ok(Request::Written) => n = 1,
         }
     }
-    // One call in one place: the compiler lays the write into its caller, and no stream goes through memory.
+    // One call in one place: with more, the compiler copies streams.
     write_after(
         n,
         DataStream { receiver, ..s },

@@ -2,7 +2,7 @@
 //
 //   0            used              block's end
 //   | text ..     |  free           |
-ghost use Rattle.std.specs.Prelude.{◌≡◌, cond, ◌+◌, ◌*◌, ◌<◌, ◌≤◌, length, ltb, IfOk};
+ghost use Rattle.std.specs.Prelude.{◌≡◌, cond, slice_set, ◌+◌, ◌*◌, ◌<◌, ◌≤◌, length, ltb, IfOk};
 ghost use Rattle.std.specs.Fmt.{decimal};
 
 use std::io;
@@ -48,7 +48,8 @@ impl<'a, R: Print> Output<'a, R> {
     pub fn put(&mut self, b: u8)
         ensures size { length self.new.block.now ≡ length self.old.block.now }
         ensures adds { self.old.used < length self.old.block.now → self.new.used ≡ self.old.used + 1 }
-        ensures full { self.old.used ≡ length self.old.block.now → self.new.used ≡ self.old.used }
+        ensures stores { self.old.used < length self.old.block.now → self.new.block.now ≡ slice_set self.old.block.now self.old.used b }
+        ensures full { self.old.used ≡ length self.old.block.now → (self.new.used ≡ self.old.used) × (self.new.block.now ≡ self.old.block.now) }
     {
         if self.used < self.block.len() {
             self.block[self.used] = b;
